@@ -1,0 +1,8 @@
+// The lent tables of a task: counts by value, facts as bytes, costs and shares as words.
+
+// How many variables, operators and maps the task has.
+pub struct Counts {
+    pub vars: usize,
+    pub ops: usize,
+    pub maps: usize,
+}
