@@ -1,0 +1,10 @@
+pub mod Pigeon
+pub mod Costs
+pub mod Steps
+pub mod Leasts
+pub mod Settles
+pub mod Rounded
+pub mod Sizes
+pub mod Certified
+pub mod Scaled
+pub mod Theorems
