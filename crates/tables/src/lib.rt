@@ -2,7 +2,7 @@
 
 // How many variables, operators and maps the task has.
 pub struct Counts {
-    pub vars: usize,
-    pub ops: usize,
-    pub maps: usize,
+    pub vars: u32,
+    pub ops: u32,
+    pub maps: u32,
 }

@@ -1,0 +1,5 @@
+pub mod Sas
+pub mod Numbering
+pub mod Views
+pub mod Split
+pub mod Bound

@@ -1,0 +1,45 @@
+-- A task with its maps and its split of the costs (003), and the rules of document 01 for both.
+use mathlib.Core.Path.{_≡_}
+use Prim.Native.Nat.{ℕ, zero, suc, _+_, _≤_, _<_, max}
+use Rattle.meaning.specs.Sas.{Sas, Proper}
+use Rattle.meaning.specs.Views.{View, abstractStates}
+
+-- the task, its maps (the class of each value of each variable) and its shares (what an operator costs in each map)
+pub record Task : Type 0 where
+  pub sas : Sas
+  pub maps : ℕ
+  pub class : ℕ → ℕ → ℕ → ℕ
+  pub share : ℕ → ℕ → ℕ
+
+-- one more than the largest of the first n classes
+abbrev pub countOf : (ℕ → ℕ) → ℕ → ℕ
+countOf c zero = 0
+countOf c (suc n) = max (countOf c n) (suc (c n))
+
+-- the sum of the first k numbers
+abbrev pub sum : (ℕ → ℕ) → ℕ → ℕ
+sum f zero = 0
+sum f (suc k) = sum f k + f k
+
+-- the view of map m
+abbrev pub view : Task → ℕ → View
+view T m = record { classes = λ v. countOf (T .class m v) (T .sas .dom v); class = T .class m; price = T .share m }
+
+-- a split passes exactly if no operator's shares total more than its cost
+abbrev pub SplitPasses : Task → Type 0
+SplitPasses T = (o : ℕ) → o < T .sas .ops → sum (λ m. T .share m o) (T .maps) ≤ T .sas .cost o
+
+-- the rules and ranges of document 01
+pub record Valid (T : Task) : Type 0 where
+  pub vars : (1 ≤ T .sas .vars) × (T .sas .vars ≤ 8)
+  pub values : (v : ℕ) → v < T .sas .vars → T .sas .dom v ≤ 8
+  pub proper : Proper (T .sas)
+  pub ops : T .sas .ops ≤ 64
+  pub costs : (o : ℕ) → o < T .sas .ops → T .sas .cost o ≤ 1000000
+  pub maps : (1 ≤ T .maps) × (T .maps ≤ 8)
+  pub classes : (m v x : ℕ) → m < T .maps → v < T .sas .vars → x < T .sas .dom v → T .class m v x < T .sas .dom v
+  pub none-missing : (m v c : ℕ) → m < T .maps → v < T .sas .vars → c < view T m .classes v
+      → (x : ℕ) × (x < T .sas .dom v) × (T .class m v x ≡ c)
+  pub few-states : (m : ℕ) → m < T .maps → abstractStates (T .sas) (view T m) ≤ 4096
+  pub shares : (m o : ℕ) → m < T .maps → o < T .sas .ops → T .share m o ≤ 1000000
+  pub split : SplitPasses T
