@@ -9,11 +9,11 @@ use native.Mathlib.Numerals.{add-one}
 use native.Mathlib.Omega.{arith}
 use denote.Enum.Declared.{tagOf}
 use types.Run.{OneOf}
-use lib.Dec.{ltb}
-use lib.ListN.{length, drop, getD}
+use lib.Dec.{leb, ltb}
+use lib.ListN.{length, drop, getD, replicate, length-replicate}
 use lib.Seq.{drop-cons, drop-length}
-use borrow.Author.Tests.{ltb-true, eqb-false}
-use Rattle.refusals.specs.declared.Refusal.the-variants.{NoGoal}
+use borrow.Author.Tests.{ltb-true, eqb-false, le-leb, lt-leb}
+use Rattle.refusals.specs.declared.Refusal.the-variants.{SequenceTooLong, NoGoal}
 use Rattle.meaning.specs.Sas.{State, Sas, MayRun, after}
 use Rattle.meaning.specs.Views.{complies}
 use Rattle.meaning.proofs.Facts.{complies-true, complies-same}
@@ -27,10 +27,11 @@ use Rattle.sequences.specs.declared.choosing.Reached.the-variants.{After
 use Rattle.tables.specs.declared.Counts.{Counts}
 use Rattle.tables.specs.Task.{stateOf, tables}
 use Rattle.tables.specs.Steps.{stepped}
+use Rattle.tables.proofs.Laws.{filled-at}
 use Rattle.tables.proofs.Meant.{stepped-is, stepped-length}
-use Rattle.sequences.specs.Stepping.{Usable, sas, stepOf}
-use Rattle.sequences.specs.Judging.{onto, walked}
-use Rattle.sequences.specs.Choosing.{orOut, reachedFrom}
+use Rattle.sequences.specs.Stepping.{Usable, steps, sas, stepOf, copied}
+use Rattle.sequences.specs.Judging.{onto, walked, limited}
+use Rattle.sequences.specs.Choosing.{orOut, reachedFrom, reachedOf}
 use Rattle.sequences.proofs.stepping.Stepped as T
 
 -- ---- a step
@@ -195,3 +196,31 @@ module _ (S : Sas) where
   pub reached-end : (i p : ℕ) (s : State) (ops : List ℕ) → i ≡ length ops → complies S (S .goal) s ≡ false → reachedFrom S i p s (drop i ops) ≡ Out
   unfolding reachedFrom
   reached-end i p s ops e g = rw (ap (λ (n : ℕ). drop n ops) e ∙ drop-length ops, g)
+
+  -- ---- a list of any length
+
+  pub limited-within : (s t : State) (ops : List ℕ) → Same S t s → length ops ≤ steps → walked S 0 0 t ops ≡ limited S s ops
+  unfolding limited
+  limited-within s t ops h l = walked-same 0 0 t s ops h ∙ sym (rw (le-leb (length ops) steps l))
+
+  pub limited-above : (s : State) (ops : List ℕ) → steps < length ops → Refused SequenceTooLong ≡ limited S s ops
+  unfolding limited
+  limited-above s ops l = sym (rw (lt-leb (length ops) steps l))
+
+  pub reached-within : (s : State) (ops : List ℕ) → length ops ≤ steps → reachedFrom S 0 0 s ops ≡ reachedOf S s ops
+  unfolding reachedOf
+  reached-within s ops l = sym (rw (le-leb (length ops) steps l))
+
+  pub reached-above : (s : State) (ops : List ℕ) → steps < length ops → Out ≡ reachedOf S s ops
+  unfolding reachedOf
+  reached-above s ops l = sym (rw (lt-leb (length ops) steps l))
+
+  pub reachedOf-same : (s t : State) (ops : List ℕ) → Same S s t → reachedOf S s ops ≡ reachedOf S t ops
+  unfolding reachedOf
+  reachedOf-same s t ops h = ap (λ (r : Reached). cond (leb (length ops) steps) r Out) (reached-same 0 0 s t ops h)
+
+  -- the copy of a lent state agrees with it
+  pub same-copied : (s t : List ℕ) → Usable S → t ≡ copied s (S .vars) → Same S (stateOf t) (stateOf s)
+  unfolding copied
+  same-copied s t U e v l =
+      ap (λ (u : List ℕ). getD u v 0) e ∙ filled-at (stateOf s) (replicate 8 0) (S .vars) v l (omega (arith, U .vars, length-replicate {A = ℕ} 8 0))

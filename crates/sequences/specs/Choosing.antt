@@ -2,13 +2,21 @@
 use mathlib.Core.Bool.{cond}
 use mathlib.Core.List.{List, [], _∷_}
 use Prim.Native.Nat.{ℕ, suc, _+_}
+use lib.Dec.{leb}
+use lib.ListN.{length}
 use Rattle.meaning.specs.Sas.{State, Sas, after}
 use Rattle.meaning.specs.Views.{complies}
+use Rattle.tables.specs.declared.scan.Found.{Found}
+use Rattle.tables.specs.declared.scan.Found.the-variants.{Clean, Fault}
+use Rattle.tables.specs.Layout.{Tables}
+use Rattle.tables.specs.Task.{sasOf, stateOf}
 use Rattle.sequences.specs.declared.stepping.Stepped.{Stepped}
 use Rattle.sequences.specs.declared.stepping.Stepped.the-variants.{Ran, NoSuch, MayNot}
 use Rattle.sequences.specs.declared.choosing.Reached.{Reached}
 use Rattle.sequences.specs.declared.choosing.Reached.the-variants.{After, Out}
-use Rattle.sequences.specs.Stepping.{stepOf}
+use Rattle.sequences.specs.declared.choosing.Choice.{Choice}
+use Rattle.sequences.specs.declared.choosing.Choice.the-variants.{FirstPart, SecondPart, NoPart, Unread}
+use Rattle.sequences.specs.Stepping.{steps, stepOf, inputFault}
 
 -- a step that is refused puts the list out; one that was taken goes on with its cost
 abbrev pub orOut : Stepped → (ℕ → Reached) → Reached
@@ -22,3 +30,23 @@ reachedFrom S k p s [] = cond (complies S (S .goal) s) (After k p) Out
 reachedFrom S k p s (o ∷ os) =
     cond (complies S (S .goal) s) (After k p)
     (orOut (stepOf S s o) (λ cost. reachedFrom S (suc k) (p + cost) (after S o s) os))
+
+-- a list above the step limit is out
+unfoldable pub reachedOf : Sas → State → List ℕ → Reached
+reachedOf S s ops = cond (leb (length ops) steps) (reachedFrom S 0 0 s ops) Out
+
+-- the cheaper one; equal costs name the first
+abbrev pub choiceOf : Reached → Reached → Choice
+choiceOf (After n p) (After m q) = cond (leb p q) (FirstPart n p) (SecondPart m q)
+choiceOf (After n p) Out = FirstPart n p
+choiceOf Out (After m q) = SecondPart m q
+choiceOf Out Out = NoPart
+
+-- a fault of what was handed in decides before all
+abbrev pub unlessUnread : Found → Choice → Choice
+unlessUnread Clean d = d
+unlessUnread (Fault r) d = Unread r
+
+-- THE CHEAPER OF TWO: which opening part, of how many steps, at what cost
+unfoldable pub chosenOf : Tables → List ℕ → List ℕ → List ℕ → Choice
+chosenOf t s a b = unlessUnread (inputFault t s) (choiceOf (reachedOf (sasOf t) (stateOf s) a) (reachedOf (sasOf t) (stateOf s) b))

@@ -1,3 +1,4 @@
 pub mod Stepping
 pub mod Judging
 pub mod Choosing
+pub mod Opening

@@ -4,10 +4,14 @@ ghost use Prim.Native.Nat.{_≤_};
 ghost use lib.ListN.{length};
 ghost use Rattle.tables.specs.Task.{stateOf};
 ghost use Rattle.sequences.specs.Stepping.{Usable, sas, steps};
-ghost use Rattle.sequences.specs.Choosing.{reachedFrom};
+ghost use Rattle.sequences.specs.Choosing.{reachedFrom, reachedOf, choiceOf};
+ghost use Rattle.sequences.specs.Opening.{Opening};
+use crate::STEPS;
 use crate::stepping::Stepped;
+use crate::stepping::copy;
 use crate::stepping::step;
 use meaning::OpNo;
+use refusals::Refusal;
 use tables::Counts;
 use tables::steps::meets_goal;
 use tables::steps::state_after;
@@ -16,6 +20,14 @@ use tables::steps::state_after;
 pub enum Reached {
     After(usize, u32),
     Out,
+}
+
+// The opening part that is chosen of two lists: of which list, of how many steps, at what cost; no part; or why the input was refused.
+pub enum Choice {
+    FirstPart(usize, u32),
+    SecondPart(usize, u32),
+    NoPart,
+    Unread(Refusal),
 }
 
 // The steps in order from a state, up to the first moment a goal holds.
@@ -43,4 +55,65 @@ pub fn reach(c: Counts, facts: &[u8], costs: &[u32], start: [u8; 8], ops: &[u32]
         return Reached::After(i, paid);
     }
     Reached::Out
+}
+
+// The same for a list of any length: one above the step limit is out.
+pub fn reach_within(c: Counts, facts: &[u8], costs: &[u32], start: [u8; 8], ops: &[u32]) -> Reached
+    requires { ⌜ Usable (sas c (now facts) (now costs)) ⌝ }
+    ensures { λ r. ⌜ r ≡ reachedOf (sas c (now (facts .entry)) (now (costs .entry))) (stateOf start) (now (ops .entry)) ⌝ }
+{
+    if ops.len() > STEPS {
+        return Reached::Out;
+    }
+    reach(c, facts, costs, start, ops)
+}
+
+// The cheaper of two lists that were judged so; equal costs name the first.
+pub fn choose(a: Reached, b: Reached) -> Choice
+    ensures { λ r. ⌜ r ≡ choiceOf a b ⌝ }
+{
+    match a {
+        Reached::After(n, p) => match b {
+            Reached::After(m, q) => {
+                if p <= q {
+                    Choice::FirstPart(n, p)
+                } else {
+                    Choice::SecondPart(m, q)
+                }
+            }
+            Reached::Out => Choice::FirstPart(n, p),
+        },
+        Reached::Out => match b {
+            Reached::After(m, q) => Choice::SecondPart(m, q),
+            Reached::Out => Choice::NoPart,
+        },
+    }
+}
+
+// The two lists from the lent state, once tables and state are accepted.
+pub fn choose_lists(
+    c: Counts,
+    facts: &[u8],
+    costs: &[u32],
+    s: &[u8],
+    a: &[u32],
+    b: &[u32],
+) -> Choice
+    requires { ⌜ Usable (sas c (now facts) (now costs)) ⌝ }
+    ensures { λ r. ⌜ r ≡ choiceOf (reachedOf (sas c (now (facts .entry)) (now (costs .entry))) (stateOf (now (s .entry))) (now (a .entry))) (reachedOf (sas c (now (facts .entry)) (now (costs .entry))) (stateOf (now (s .entry))) (now (b .entry))) ⌝ }
+{
+    let start = copy(c.vars, s);
+    let first = reach_within(c, facts, costs, start, a);
+    let second = reach_within(c, facts, costs, start, b);
+    choose(first, second)
+}
+
+// The opening part of a list: the caller's own list, its first n places, or all of it where it is shorter.
+pub fn front<'a>(a: &'a [u32], n: usize) -> &'a [u32]
+    ensures { λ r. ⌜ Opening r (a .entry) n ⌝ }
+{
+    if n <= a.len() {
+        return &a[..n];
+    }
+    a
 }

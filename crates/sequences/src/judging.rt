@@ -4,8 +4,10 @@ ghost use Prim.Native.Nat.{_≤_};
 ghost use lib.ListN.{length};
 ghost use Rattle.tables.specs.Task.{stateOf};
 ghost use Rattle.sequences.specs.Stepping.{Usable, sas, steps};
-ghost use Rattle.sequences.specs.Judging.{onto, walked};
+ghost use Rattle.sequences.specs.Judging.{onto, walked, limited};
+use crate::STEPS;
 use crate::stepping::Stepped;
+use crate::stepping::copy;
 use crate::stepping::step;
 use meaning::OpNo;
 use refusals::Refusal;
@@ -52,4 +54,15 @@ pub fn walk(c: Counts, facts: &[u8], costs: &[u32], start: [u8; 8], ops: &[u32])
         return Judged::Passed(paid);
     }
     Judged::Refused(Refusal::NoGoal(i as u32))
+}
+
+// The list from the lent state, once tables and state are accepted: its length first, then its steps.
+pub fn judge_list(c: Counts, facts: &[u8], costs: &[u32], s: &[u8], ops: &[u32]) -> Judged
+    requires { ⌜ Usable (sas c (now facts) (now costs)) ⌝ }
+    ensures { λ r. ⌜ r ≡ limited (sas c (now (facts .entry)) (now (costs .entry))) (stateOf (now (s .entry))) (now (ops .entry)) ⌝ }
+{
+    if ops.len() > STEPS {
+        return Judged::Refused(Refusal::SequenceTooLong);
+    }
+    walk(c, facts, costs, copy(c.vars, s), ops)
 }

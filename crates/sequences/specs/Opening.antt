@@ -1,0 +1,11 @@
+-- The opening part of a lent list, handed back as a part of the caller's own list.
+use mathlib.Core.Path.{_≡_}
+use mathlib.Core.List.{List}
+use Prim.Native.Nat.{ℕ}
+use lib.ListN.{take}
+use denote.Ref.{RefT, now}
+
+-- r starts where the lent list a starts, so it is a part of the caller's own list, and it is that list's first n places
+pub record Opening (r a : RefT (List ℕ)) (n : ℕ) : Type 0 where
+  pub place : r .ptr ≡ a .ptr
+  pub items : now r ≡ take n (now a)
