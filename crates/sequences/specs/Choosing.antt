@@ -16,6 +16,8 @@ use Rattle.sequences.specs.declared.choosing.Reached.{Reached}
 use Rattle.sequences.specs.declared.choosing.Reached.the-variants.{After, Out}
 use Rattle.sequences.specs.declared.choosing.Choice.{Choice}
 use Rattle.sequences.specs.declared.choosing.Choice.the-variants.{FirstPart, SecondPart, NoPart, Unread}
+use Rattle.sequences.specs.declared.choosing.Cheaper.{Cheaper}
+use Rattle.sequences.specs.declared.choosing.Cheaper.the-variants.{First, Second, Neither, Refused}
 use Rattle.sequences.specs.Stepping.{steps, stepOf, inputFault}
 
 -- a step that is refused puts the list out; one that was taken goes on with its cost
@@ -50,3 +52,26 @@ unlessUnread (Fault r) d = Unread r
 -- THE CHEAPER OF TWO: which opening part, of how many steps, at what cost
 unfoldable pub chosenOf : Tables → List ℕ → List ℕ → List ℕ → Choice
 chosenOf t s a b = unlessUnread (inputFault t s) (choiceOf (reachedOf (sasOf t) (stateOf s) a) (reachedOf (sasOf t) (stateOf s) b))
+
+-- the answer: the first, the second or neither, with the cost
+abbrev pub namedOf : Choice → Cheaper
+namedOf (FirstPart n p) = First p
+namedOf (SecondPart n p) = Second p
+namedOf NoPart = Neither
+namedOf (Unread r) = Refused r
+
+abbrev pub cheaperOf : Tables → List ℕ → List ℕ → List ℕ → Cheaper
+cheaperOf t s a b = namedOf (chosenOf t s a b)
+
+-- the list whose opening part is handed back, and of how many steps; for neither, or refused input, the empty part of the first list
+abbrev pub listOf : {A : Type 0} → Choice → A → A → A
+listOf (FirstPart n p) a b = a
+listOf (SecondPart n p) a b = b
+listOf NoPart a b = a
+listOf (Unread r) a b = a
+
+abbrev pub stepsOf : Choice → ℕ
+stepsOf (FirstPart n p) = n
+stepsOf (SecondPart n p) = n
+stepsOf NoPart = 0
+stepsOf (Unread r) = 0

@@ -30,6 +30,14 @@ pub enum Choice {
     Unread(Refusal),
 }
 
+// The cheaper list, with the cost up to its first goal moment; neither; or why the input was refused.
+pub enum Cheaper {
+    First(u32),
+    Second(u32),
+    Neither,
+    Refused(Refusal),
+}
+
 // The steps in order from a state, up to the first moment a goal holds.
 pub fn reach(c: Counts, facts: &[u8], costs: &[u32], start: [u8; 8], ops: &[u32]) -> Reached
     requires { ⌜ Usable (sas c (now facts) (now costs)) × (length (now ops) ≤ steps) ⌝ }
