@@ -13,7 +13,7 @@ use lib.Dec.{leb, ltb}
 use lib.ListN.{length, drop, getD, replicate, length-replicate}
 use lib.Seq.{drop-cons, drop-length}
 use borrow.Author.Tests.{ltb-true, eqb-false, le-leb, lt-leb}
-use Rattle.refusals.specs.declared.Refusal.the-variants.{SequenceTooLong, NoGoal}
+use Rattle.refusals.specs.declared.Refusal.the-variants.{NoSuchOperator, SequenceTooLong, MayNotRun, NoGoal}
 use Rattle.meaning.specs.Sas.{State, Sas, MayRun, after}
 use Rattle.meaning.specs.Views.{complies}
 use Rattle.meaning.proofs.Facts.{complies-true, complies-same}
@@ -29,7 +29,7 @@ use Rattle.tables.specs.Task.{stateOf, tables}
 use Rattle.tables.specs.Steps.{stepped}
 use Rattle.tables.proofs.Laws.{filled-at}
 use Rattle.tables.proofs.Meant.{stepped-is, stepped-length}
-use Rattle.sequences.specs.Stepping.{Usable, steps, sas, stepOf, copied}
+use Rattle.sequences.specs.Stepping.{Usable, steps, sas, stepOf, takenApart, copied}
 use Rattle.sequences.specs.Judging.{onto, walked, limited}
 use Rattle.sequences.specs.Choosing.{orOut, reachedFrom, reachedOf}
 use Rattle.sequences.proofs.stepping.Stepped as T
@@ -41,26 +41,22 @@ abbrev pub NotRan : Stepped → Type 0
 NotRan m = OneOf (1 ∷ 2 ∷ []) (tagOf T.the-type m)
 
 -- a refusal is the same whatever would come after it
-pub onto-refused : (m : Stepped) (k : ℕ) (f g : ℕ → Judged) → NotRan m → onto m k f ≡ onto m k g
-onto-refused (Ran x) k f g o = absurd (⊎-elim (λ e. eqb-false 0 1 refl e) (λ e. eqb-false 0 2 refl e) o)
-onto-refused NoSuch k f g o = refl
-onto-refused MayNot k f g o = refl
+refused-same : {A : Type 0} (m : Stepped) (x y : A) (f g : ℕ → A) → NotRan m → takenApart m x y f ≡ takenApart m x y g
+refused-same (Ran c) x y f g o = absurd (⊎-elim (λ e. eqb-false 0 1 refl e) (λ e. eqb-false 0 2 refl e) o)
+refused-same NoSuch x y f g o = refl
+refused-same MayNot x y f g o = refl
 
-pub out-refused : (m : Stepped) (f : ℕ → Reached) → NotRan m → orOut m f ≡ Out
-out-refused (Ran x) f o = absurd (⊎-elim (λ e. eqb-false 0 1 refl e) (λ e. eqb-false 0 2 refl e) o)
-out-refused NoSuch f o = refl
-out-refused MayNot f o = refl
+-- one answer for every case
+all-one : {A : Type 0} (m : Stepped) (x : A) → takenApart m x x (λ c. x) ≡ x
+all-one (Ran c) x = refl
+all-one NoSuch x = refl
+all-one MayNot x = refl
 
 -- what comes after may be put otherwise
-onto-same : (m : Stepped) (k : ℕ) (f g : ℕ → Judged) → ((x : ℕ) → f x ≡ g x) → onto m k f ≡ onto m k g
-onto-same (Ran x) k f g h = h x
-onto-same NoSuch k f g h = refl
-onto-same MayNot k f g h = refl
-
-out-same : (m : Stepped) (f g : ℕ → Reached) → ((x : ℕ) → f x ≡ g x) → orOut m f ≡ orOut m g
-out-same (Ran x) f g h = h x
-out-same NoSuch f g h = refl
-out-same MayNot f g h = refl
+apart-same : {A : Type 0} (m : Stepped) (x y : A) (f g : ℕ → A) → ((c : ℕ) → f c ≡ g c) → takenApart m x y f ≡ takenApart m x y g
+apart-same (Ran c) x y f g h = h c
+apart-same NoSuch x y f g h = refl
+apart-same MayNot x y f g h = refl
 
 -- a step that was taken
 pub record Taken (S : Sas) (s : State) (o x : ℕ) : Type 0 where
@@ -85,7 +81,6 @@ Same S s t = (v : ℕ) → v < S .vars → s v ≡ t v
 -- a turn of a walk: the step o from the list s to the list t was taken, at the cost x
 pub record Turn (S : Sas) (s t : List ℕ) (o x : ℕ) : Type 0 where
   pub answer : stepOf S (stateOf s) o ≡ Ran x
-  pub exists : o < S .ops
   pub cost : x ≤ 1000000
   pub same : Same S (after S o (stateOf s)) (stateOf t)
   pub size : length t ≡ 8
@@ -108,20 +103,22 @@ module _ (c : Counts) (facts costs : List ℕ) (U : Usable (sas c facts costs)) 
       let b : c .vars ≤ length s = omega (arith, U .vars) in
       record {
         answer = sym e ∙ r;
-        exists = k .exists;
         cost = omega (arith, k .cost, U .costs o (k .exists));
         same = λ v l. sym (ap (λ (u : List ℕ). getD u v 0) n ∙ stepped-is (tables c facts costs []) s o v b l);
         size = ap length n ∙ stepped-length (tables c facts costs []) s o ∙ h;
       }
 
--- what is paid fits, and one turn on
-pub paid-fits : (ops : List ℕ) (i p x : ℕ) (s t : List ℕ) (S : Sas) (o : ℕ) → Along ops i p s → Turn S s t o x → i < length ops → p + x ≤ length ops * 1000000
-paid-fits ops i p x s t S o a k h = omega arith
-
+-- where the walk stands one turn on
 pub along-on : (ops : List ℕ) (i p x : ℕ) (s t : List ℕ) (S : Sas) (o : ℕ) → Along ops i p s → Turn S s t o x → i < length ops → Along ops (i + 1) (p + x) t
 along-on ops i p x s t S o a k h = record { inside = omega arith; size = k .size; paid = omega arith }
 
 module _ (S : Sas) where
+  -- a goal ends the walk up to the first goal moment, before the next step is looked at
+  pub reached-goal : (i p : ℕ) (s : State) (os : List ℕ) → complies S (S .goal) s ≡ true → reachedFrom S i p s os ≡ After i p
+  unfolding reachedFrom
+  reached-goal i p s [] g = rw g
+  reached-goal i p s (o ∷ os) g = rw g
+
   step-same : (s t : State) (o : ℕ) → Same S s t → stepOf S s o ≡ stepOf S t o
   unfolding stepOf
   step-same s t o h = rw (complies-same S (S .pre o) s t h)
@@ -131,7 +128,7 @@ module _ (S : Sas) where
   walked-same k p s t [] h = rw (complies-same S (S .goal) s t h)
   walked-same k p s t (o ∷ os) h =
       ap (λ (m : Stepped). onto m (suc k) (λ x. walked S (suc k) (p + x) (after S o s) os)) (step-same s t o h)
-      ∙ onto-same (stepOf S t o) (suc k) (λ x. walked S (suc k) (p + x) (after S o s) os)
+      ∙ apart-same (stepOf S t o) (Refused (NoSuchOperator (suc k))) (Refused (MayNotRun (suc k))) (λ x. walked S (suc k) (p + x) (after S o s) os)
       (λ x. walked S (suc k) (p + x) (after S o t) os)
       (λ x. walked-same (suc k) (p + x) (after S o s) (after S o t) os (after-same S o s t h))
 
@@ -141,7 +138,7 @@ module _ (S : Sas) where
   reached-same k p s t (o ∷ os) h =
       ap₂ (λ (b : Bool) (r : Reached). cond b (After k p) r) (complies-same S (S .goal) s t h)
       (ap (λ (m : Stepped). orOut m (λ x. reachedFrom S (suc k) (p + x) (after S o s) os)) (step-same s t o h)
-      ∙ out-same (stepOf S t o) (λ x. reachedFrom S (suc k) (p + x) (after S o s) os)
+      ∙ apart-same (stepOf S t o) Out Out (λ x. reachedFrom S (suc k) (p + x) (after S o s) os)
       (λ x. reachedFrom S (suc k) (p + x) (after S o t) os)
       (λ x. reached-same (suc k) (p + x) (after S o s) (after S o t) os (after-same S o s t h)))
 
@@ -161,7 +158,7 @@ module _ (S : Sas) where
 
     pub walked-refused : (m : Stepped) → m ≡ stepOf S (stateOf s) (getD ops i 0) → NotRan m → onto m (i + 1) Passed ≡ walked S i p (stateOf s) (drop i ops)
     walked-refused m e n =
-        onto-refused m (i + 1) Passed (λ x. walked S (i + 1) (p + x) (after S (getD ops i 0) (stateOf s)) (drop (i + 1) ops)) n
+        refused-same m (Refused (NoSuchOperator (i + 1))) (Refused (MayNotRun (i + 1))) Passed (λ x. walked S (i + 1) (p + x) (after S (getD ops i 0) (stateOf s)) (drop (i + 1) ops)) n
         ∙ ap (λ (m : Stepped). onto m (i + 1) (λ x. walked S (i + 1) (p + x) (after S (getD ops i 0) (stateOf s)) (drop (i + 1) ops))) e
         ∙ sym walked-turn
 
@@ -179,7 +176,8 @@ module _ (S : Sas) where
     pub reached-refused : (m : Stepped) → complies S (S .goal) (stateOf s) ≡ false → m ≡ stepOf S (stateOf s) (getD ops i 0) → NotRan m
         → Out ≡ reachedFrom S i p (stateOf s) (drop i ops)
     reached-refused m g e n =
-        sym (out-refused m (λ x. reachedFrom S (i + 1) (p + x) (after S (getD ops i 0) (stateOf s)) (drop (i + 1) ops)) n)
+        sym (all-one m Out)
+        ∙ refused-same m Out Out (λ x. Out) (λ x. reachedFrom S (i + 1) (p + x) (after S (getD ops i 0) (stateOf s)) (drop (i + 1) ops)) n
         ∙ ap (λ (m : Stepped). orOut m (λ x. reachedFrom S (i + 1) (p + x) (after S (getD ops i 0) (stateOf s)) (drop (i + 1) ops))) e
         ∙ sym (reached-turn g)
 
@@ -187,11 +185,6 @@ module _ (S : Sas) where
       → walked S i p s (drop i ops) ≡ cond (complies S (S .goal) s) (Passed p) (Refused (NoGoal i))
   unfolding walked
   walked-end i p s ops e = rw (ap (λ (n : ℕ). drop n ops) e ∙ drop-length ops)
-
-  pub reached-goal : (i p : ℕ) (s : State) (os : List ℕ) → complies S (S .goal) s ≡ true → reachedFrom S i p s os ≡ After i p
-  unfolding reachedFrom
-  reached-goal i p s [] g = rw g
-  reached-goal i p s (o ∷ os) g = rw g
 
   pub reached-end : (i p : ℕ) (s : State) (ops : List ℕ) → i ≡ length ops → complies S (S .goal) s ≡ false → reachedFrom S i p s (drop i ops) ≡ Out
   unfolding reachedFrom

@@ -11,20 +11,17 @@ use Rattle.tables.specs.declared.scan.Found.the-variants.{Clean, Fault}
 use Rattle.tables.specs.Layout.{Tables}
 use Rattle.tables.specs.Task.{sasOf, stateOf}
 use Rattle.sequences.specs.declared.stepping.Stepped.{Stepped}
-use Rattle.sequences.specs.declared.stepping.Stepped.the-variants.{Ran, NoSuch, MayNot}
 use Rattle.sequences.specs.declared.choosing.Reached.{Reached}
 use Rattle.sequences.specs.declared.choosing.Reached.the-variants.{After, Out}
 use Rattle.sequences.specs.declared.choosing.Choice.{Choice}
 use Rattle.sequences.specs.declared.choosing.Choice.the-variants.{FirstPart, SecondPart, NoPart, Unread}
 use Rattle.sequences.specs.declared.choosing.Cheaper.{Cheaper}
 use Rattle.sequences.specs.declared.choosing.Cheaper.the-variants.{First, Second, Neither, Refused}
-use Rattle.sequences.specs.Stepping.{steps, stepOf, inputFault}
+use Rattle.sequences.specs.Stepping.{steps, stepOf, takenApart, inputFault}
 
 -- a step that is refused puts the list out; one that was taken goes on with its cost
 abbrev pub orOut : Stepped → (ℕ → Reached) → Reached
-orOut (Ran cost) on = on cost
-orOut NoSuch on = Out
-orOut MayNot on = Out
+orOut m on = takenApart m Out Out on
 
 -- after k steps that cost p together: a goal ends the judging, before the next step is looked at; a list that ends before is out
 unfoldable pub reachedFrom : Sas → ℕ → ℕ → State → List ℕ → Reached

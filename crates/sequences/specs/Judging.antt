@@ -12,16 +12,13 @@ use Rattle.tables.specs.declared.scan.Found.the-variants.{Clean, Fault}
 use Rattle.tables.specs.Layout.{Tables}
 use Rattle.tables.specs.Task.{sasOf, stateOf}
 use Rattle.sequences.specs.declared.stepping.Stepped.{Stepped}
-use Rattle.sequences.specs.declared.stepping.Stepped.the-variants.{Ran, NoSuch, MayNot}
 use Rattle.sequences.specs.declared.judging.Judged.{Judged}
 use Rattle.sequences.specs.declared.judging.Judged.the-variants.{Passed, Refused}
-use Rattle.sequences.specs.Stepping.{steps, stepOf, inputFault}
+use Rattle.sequences.specs.Stepping.{steps, stepOf, takenApart, inputFault}
 
 -- a step that is refused ends the judging with its number k; one that was taken goes on with its cost
 abbrev pub onto : Stepped → ℕ → (ℕ → Judged) → Judged
-onto (Ran cost) k on = on cost
-onto NoSuch k on = Refused (NoSuchOperator k)
-onto MayNot k on = Refused (MayNotRun k)
+onto m k on = takenApart m (Refused (NoSuchOperator k)) (Refused (MayNotRun k)) on
 
 -- the steps in order, after k steps that cost p together; 16 last, at the length
 unfoldable pub walked : Sas → ℕ → ℕ → State → List ℕ → Judged

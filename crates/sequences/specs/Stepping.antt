@@ -31,6 +31,12 @@ inputFault t s = tablesFault t then stateFault (t .counts) (t .facts) s
 unfoldable pub stepOf : Sas → State → ℕ → Stepped
 stepOf S s o = cond (ltb o (S .ops)) (cond (complies S (S .pre o) s) (Ran (S .cost o)) MayNot) NoSuch
 
+-- a step's answer taken apart: x where there is no such operator, y where it may not run, else on with its cost
+abbrev pub takenApart : {A : Type 0} → Stepped → A → A → (ℕ → A) → A
+takenApart (Ran cost) x y on = on cost
+takenApart NoSuch x y on = x
+takenApart MayNot x y on = y
+
 -- the lent state by value: 8 places, those beyond the task's variables 0
 unfoldable pub copied : List ℕ → ℕ → List ℕ
 copied s vars = filled (stateOf s) (replicate 8 0) vars
