@@ -1,3 +1,5 @@
 pub mod Laws
 pub mod Meant
 pub mod Walks
+pub mod Rules
+pub mod Validity

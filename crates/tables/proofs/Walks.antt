@@ -3,6 +3,7 @@
 use Prim.Native.Nat.{ℕ, zero, suc, _+_, _≤_, _<_}
 use mathlib.Core.Path.{_≡_, refl, ap, sym, _∙_}
 use mathlib.Core.Bool.{Bool, true, false}
+use mathlib.Core.List.{List, [], _∷_}
 use native.Mathlib.Nat.{add-zero}
 use native.Mathlib.Numerals.{add-one}
 use native.Mathlib.Omega.{arith}
@@ -32,8 +33,22 @@ pub clean-next : (a b : Found) → a then b ≡ Clean → b ≡ Clean
 clean-next Clean b p = p
 clean-next (Fault r) b p = let z : _≡_ {A = ℕ} 0 1 = cc in absurd (let n : ⊥ = omega arith in n)
 
-pub clean-both : {a b : Found} → a ≡ Clean → b ≡ Clean → a then b ≡ Clean
-clean-both p q = rw (p, q)
+-- several, and that each is clean
+abbrev pub inOrder : Found → List Found → Found
+inOrder a [] = a
+inOrder a (b ∷ l) = a then inOrder b l
+
+abbrev pub AllClean : Found → List Found → Type 0
+AllClean a [] = a ≡ Clean
+AllClean a (b ∷ l) = (a ≡ Clean) × AllClean b l
+
+pub all-clean : (a : Found) (l : List Found) → inOrder a l ≡ Clean → AllClean a l
+all-clean a [] p = p
+all-clean a (b ∷ l) p = (clean-first a (inOrder b l) p, all-clean b l (clean-next a (inOrder b l) p))
+
+pub clean-all : (a : Found) (l : List Found) → AllClean a l → inOrder a l ≡ Clean
+clean-all a [] p = p
+clean-all a (b ∷ l) p = rw (p .0) (clean-all b l (p .1))
 
 -- ---- a rule
 
@@ -105,3 +120,10 @@ module _ (test : ℕ → Bool) (r : ℕ → Refusal) where
 
   pub tests-here : (n i : ℕ) → each (tests test r) i 0 ≡ Clean → i < n → test i ≡ false → each (tests test r) n 0 ≡ Fault (r i)
   tests-here n i p h q = walk-here (tests test r) n i (r i) p h (broken (r i) q)
+
+  -- such a walk is clean exactly if each of its tests holds
+  pub tests-held : (n i : ℕ) → each (tests test r) n 0 ≡ Clean → i < n → test i ≡ true
+  tests-held n i p h = rule-held (test i) (r i) (walk-clean (tests test r) n i p h)
+
+  pub held-tests : (n : ℕ) → ((i : ℕ) → i < n → test i ≡ true) → each (tests test r) n 0 ≡ Clean
+  held-tests n h = clean-walk (tests test r) n (λ i l. kept (r i) (h i l))
