@@ -1,5 +1,7 @@
 pub mod Laws
 pub mod Meant
 pub mod Walks
+pub mod Masks
+pub mod ClassRows
 pub mod Rules
 pub mod Validity

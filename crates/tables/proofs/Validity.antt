@@ -4,6 +4,7 @@ use Prim.Native.Nat.{ℕ, _≤_, _<_}
 use mathlib.Core.Path.{_≡_, sym, _∙_}
 use mathlib.Core.Bool.{true}
 use mathlib.Core.List.{List, [], _∷_}
+use mathlib.Core.Logic.{_↔_}
 use lib.Dec.{leb, ltb}
 use lib.ListN.{length}
 use borrow.Author.Tests.{leb-true, le-leb, ltb-true, lt-ltb}
@@ -104,6 +105,9 @@ module _ (t : Tables) where
   unfolding tablesFault
   valid-clean r h = rw (r, valid-task (taskOf t) h)
 
+  pub accepted : (tablesFault t ≡ Clean) ↔ ((roomy t ≡ true) × Valid (taskOf t))
+  accepted = (λ p. (clean-roomy p, clean-valid p), λ h. valid-clean (h .0) (h .1))
+
   -- a state is accepted exactly if it has a place a variable and is one of the task's
   module _ (s : List ℕ) where
     abbrev long : Found
@@ -112,18 +116,21 @@ module _ (t : Tables) where
     abbrev insides : Found
     insides = each (λ v. unless (ltb (stateOf s v) (domAt (t .facts) v)) (ValueOutside v)) (t .counts .vars) 0
 
-    pub clean-state : stateFault (t .counts) (t .facts) s ≡ Clean → (t .counts .vars ≤ length s) × IsState (sasOf t) (stateOf s)
+    clean-state : stateFault (t .counts) (t .facts) s ≡ Clean → (t .counts .vars ≤ length s) × IsState (sasOf t) (stateOf s)
     unfolding stateFault
     clean-state p = (
       leb-true (t .counts .vars) (length s) (rule-held (leb (t .counts .vars) (length s)) TableTooShort (clean-first long insides p)),
       λ v l. ltb-true (stateOf s v) (domAt (t .facts) v) (tests-held (λ v. ltb (stateOf s v) (domAt (t .facts) v)) ValueOutside (t .counts .vars) v (clean-next long insides p) l),
     )
 
-    pub state-clean : t .counts .vars ≤ length s → IsState (sasOf t) (stateOf s) → stateFault (t .counts) (t .facts) s ≡ Clean
+    state-is-clean : t .counts .vars ≤ length s → IsState (sasOf t) (stateOf s) → stateFault (t .counts) (t .facts) s ≡ Clean
     unfolding stateFault
-    state-clean l h =
+    state-is-clean l h =
         rw (le-leb (t .counts .vars) (length s) l)
         (held-tests (λ v. ltb (stateOf s v) (domAt (t .facts) v)) ValueOutside (t .counts .vars) (λ v i. lt-ltb (stateOf s v) (domAt (t .facts) v) (h v i)))
+
+    pub state-clean : (stateFault (t .counts) (t .facts) s ≡ Clean) ↔ ((t .counts .vars ≤ length s) × IsState (sasOf t) (stateOf s))
+    state-clean = (clean-state, λ h. state-is-clean (h .0) (h .1))
 
 -- what is found is settled by the contract
 pub tables-fault-unique : (t : Tables) (r r′ : Found) → r ≡ tablesFault t → r′ ≡ tablesFault t → r ≡ r′

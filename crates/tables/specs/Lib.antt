@@ -3,3 +3,4 @@ pub mod Task
 pub mod Steps
 pub mod Scan
 pub mod Parts
+pub mod Classes
