@@ -1,10 +1,18 @@
 // The scan for the first fault of handed-in tables, and of a handed-in state.
 ghost use mathlib.Core.Path.{_≡_};
+ghost use mathlib.Core.List.{[]};
+ghost use Prim.Native.Nat.{_≤_, _<_};
 ghost use lib.Dec.{leb, ltb};
-ghost use Rattle.tables.specs.Layout.{rowAt, domAt};
-ghost use Rattle.tables.specs.Scan.{stateFault};
+ghost use Rattle.refusals.specs.declared.Refusal.the-variants.{OutOfRange};
+ghost use Rattle.tables.specs.Layout.{rowAt, domAt, initAt, goalAt};
+ghost use Rattle.tables.specs.Task.{tables, taskOf};
+ghost use Rattle.tables.specs.Scan.{unless, each, within, factsFault, mapFault, sharesFault, splitFault, tablesFault, stateFault};
+ghost use Rattle.tables.specs.Parts.{headFault, linesFault};
 use crate::Counts;
+use crate::classes::word_of;
 use crate::readers::DOM_ROW;
+use crate::readers::GOAL_ROW;
+use crate::readers::INIT_ROW;
 use crate::readers::byte_at;
 use crate::readers::row_at;
 use refusals::Refusal;
@@ -27,6 +35,80 @@ pub fn value_fits(facts: &[u8], v: u32, x: u8) -> bool
     ensures { λ r. ⌜ r ≡ ltb x (domAt (now (facts .entry)) v) ⌝ }
 {
     x < row_at(facts, DOM_ROW, v)
+}
+
+// The number lies from lo to hi.
+pub fn lies_within(lo: u32, hi: u32, x: u32) -> bool
+    ensures { λ r. ⌜ r ≡ within lo hi x ⌝ }
+{
+    if lo <= x { x <= hi } else { false }
+}
+
+// Line 3: each variable has 1 to 8 values.
+pub fn doms_fault(vars: u32, facts: &[u8]) -> Found
+    ensures { λ r. ⌜ r ≡ each (λ v. unless (within 1 8 (domAt (now (facts .entry)) v)) (OutOfRange 3)) vars 0 ⌝ }
+{
+    let mut v = 0;
+    while v < vars {
+        if !lies_within(1, 8, word_of(facts, DOM_ROW, v)) {
+            return Found::Fault(Refusal::OutOfRange(3));
+        }
+        v += 1;
+    }
+    Found::Clean
+}
+
+// Line 4: each variable has its initial value.
+pub fn init_fault(vars: u32, facts: &[u8]) -> Found
+    ensures { λ r. ⌜ r ≡ each (λ v. unless (ltb (initAt (now (facts .entry)) v) (domAt (now (facts .entry)) v)) (OutOfRange 4)) vars 0 ⌝ }
+{
+    let mut v = 0;
+    while v < vars {
+        if !value_fits(facts, v, row_at(facts, INIT_ROW, v)) {
+            return Found::Fault(Refusal::OutOfRange(4));
+        }
+        v += 1;
+    }
+    Found::Clean
+}
+
+// Line 5: each variable has the value that the goal names.
+pub fn goal_fault(vars: u32, facts: &[u8]) -> Found
+    ensures { λ r. ⌜ r ≡ each (λ v. unless (leb (goalAt (now (facts .entry)) v) (domAt (now (facts .entry)) v)) (OutOfRange 5)) vars 0 ⌝ }
+{
+    let mut v = 0;
+    while v < vars {
+        if !fact_fits(facts, GOAL_ROW, v) {
+            return Found::Fault(Refusal::OutOfRange(5));
+        }
+        v += 1;
+    }
+    Found::Clean
+}
+
+// Lines 2 to 6: the counts of variables and operators, and what is said of the variables.
+pub fn head_fault(c: Counts, facts: &[u8]) -> Found
+    ensures { λ r. ⌜ r ≡ headFault (taskOf (tables c (now (facts .entry)) [] [])) ⌝ }
+{
+    if !lies_within(1, 8, c.vars) {
+        return Found::Fault(Refusal::OutOfRange(2));
+    }
+    let doms = doms_fault(c.vars, facts);
+    let Found::Clean = doms else {
+        return doms;
+    };
+    let init = init_fault(c.vars, facts);
+    let Found::Clean = init else {
+        return init;
+    };
+    let goal = goal_fault(c.vars, facts);
+    let Found::Clean = goal else {
+        return goal;
+    };
+    if 64 < c.ops {
+        return Found::Fault(Refusal::OutOfRange(6));
+    }
+    Found::Clean
 }
 
 // The first fault of a handed-in state: too short (8), or the lowest variable whose value is outside (9).
