@@ -2,7 +2,7 @@
 -- Assumes nothing.
 use Prim.Native.Nat.{ℕ, zero, suc, _+_, _≤_, _<_}
 use mathlib.Core.Path.{_≡_, refl, ap, sym, _∙_}
-use mathlib.Core.Bool.{Bool, true, false}
+use mathlib.Core.Bool.{Bool, true, false, _&&_}
 use mathlib.Core.List.{List, [], _∷_}
 use native.Mathlib.Nat.{add-zero}
 use native.Mathlib.Numerals.{add-one}
@@ -10,6 +10,7 @@ use native.Mathlib.Omega.{arith}
 use lib.Dec.{ltb}
 use borrow.Author.Tests.{ltb-true, ltb-false}
 use Rattle.refusals.specs.declared.Refusal.{Refusal}
+use Rattle.meaning.specs.Views.{every}
 use Rattle.tables.specs.declared.scan.Found.{Found}
 use Rattle.tables.specs.declared.scan.Found.the-variants.{Clean, Fault}
 use Rattle.tables.specs.Scan.{unless, _then_, each}
@@ -127,3 +128,12 @@ module _ (test : ℕ → Bool) (r : ℕ → Refusal) where
 
   pub held-tests : (n : ℕ) → ((i : ℕ) → i < n → test i ≡ true) → each (tests test r) n 0 ≡ Clean
   held-tests n h = clean-walk (tests test r) n (λ i l. kept (r i) (h i l))
+
+-- where every test has the same refusal, the walk is one rule
+both-tests : (a b : Bool) (r : Refusal) → unless a r then unless b r ≡ unless (a && b) r
+both-tests true b r = refl
+both-tests false b r = refl
+
+pub one-rule : (test : ℕ → Bool) (r : Refusal) (n : ℕ) → each (tests test (λ x. r)) n 0 ≡ unless (every test n) r
+one-rule test r zero = walk-none (tests test (λ x. r))
+one-rule test r (suc n) = each-last (tests test (λ x. r)) n ∙ rw (one-rule test r n) (both-tests (every test n) (test n) r)

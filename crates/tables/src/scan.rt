@@ -4,16 +4,20 @@ ghost use mathlib.Core.List.{[]};
 ghost use Prim.Native.Nat.{_≤_, _<_};
 ghost use lib.Dec.{leb, ltb};
 ghost use Rattle.refusals.specs.declared.Refusal.the-variants.{OutOfRange};
+ghost use Rattle.tables.specs.declared.scan.Found.the-variants.{Clean};
 ghost use Rattle.tables.specs.Layout.{rowAt, domAt, initAt, goalAt};
 ghost use Rattle.tables.specs.Task.{tables, taskOf};
 ghost use Rattle.tables.specs.Scan.{unless, each, within, factsFault, mapFault, sharesFault, splitFault, tablesFault, stateFault};
 ghost use Rattle.tables.specs.Parts.{headFault, linesFault};
 use crate::Counts;
+use crate::classes::Classes;
+use crate::classes::classes_of;
 use crate::classes::word_of;
 use crate::readers::DOM_ROW;
 use crate::readers::GOAL_ROW;
 use crate::readers::INIT_ROW;
 use crate::readers::byte_at;
+use crate::readers::class_row;
 use crate::readers::row_at;
 use refusals::Refusal;
 
@@ -107,6 +111,30 @@ pub fn head_fault(c: Counts, facts: &[u8]) -> Found
     };
     if 64 < c.ops {
         return Found::Fault(Refusal::OutOfRange(6));
+    }
+    Found::Clean
+}
+
+// The line of a map: its variables' classes, and at its end not too many abstract states.
+pub fn map_fault(c: Counts, facts: &[u8], m: u32) -> Found
+    requires { ⌜ (headFault (taskOf (tables c (now facts) [] [])) ≡ Clean) × (m < 8) ⌝ }
+    ensures { λ r. ⌜ r ≡ mapFault (taskOf (tables c (now (facts .entry)) [] [])) m ⌝ }
+{
+    let line = 8 + c.ops + m;
+    let vars = c.vars;
+    let mut states = 1u32;
+    let mut v = 0;
+    while v < vars {
+        let found = classes_of(facts, word_of(facts, DOM_ROW, v), class_row(m, v));
+        match found {
+            Classes::Count(k) => states = states * k,
+            Classes::Missing => return Found::Fault(Refusal::ClassMissing(line)),
+            Classes::Outside => return Found::Fault(Refusal::OutOfRange(line)),
+        }
+        v += 1;
+    }
+    if 4096 < states {
+        return Found::Fault(Refusal::TooManyStates(line));
     }
     Found::Clean
 }
