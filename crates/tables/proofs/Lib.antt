@@ -4,4 +4,5 @@ pub mod Walks
 pub mod Masks
 pub mod ClassRows
 pub mod Rules
+pub mod Lines
 pub mod Validity

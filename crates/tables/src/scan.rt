@@ -18,8 +18,15 @@ use crate::readers::GOAL_ROW;
 use crate::readers::INIT_ROW;
 use crate::readers::byte_at;
 use crate::readers::class_row;
+use crate::readers::cost_at;
+use crate::readers::eff_row;
+use crate::readers::pre_row;
 use crate::readers::row_at;
+use meaning::OpNo;
 use refusals::Refusal;
+
+// The most that an operator costs, and that it costs in a map, in seconds.
+pub const COST_MOST: u32 = 1000000;
 
 // What a scan finds: nothing, or the first fault.
 pub enum Found {
@@ -137,6 +144,52 @@ pub fn map_fault(c: Counts, facts: &[u8], m: u32) -> Found
         return Found::Fault(Refusal::TooManyStates(line));
     }
     Found::Clean
+}
+
+// Line 7 to the line of the last map: the walks over operators, facts and maps are left at once with the first fault.
+pub fn lines_fault(c: Counts, facts: &[u8], costs: &[u32]) -> Found
+    requires { ⌜ headFault (taskOf (tables c (now facts) [] [])) ≡ Clean ⌝ }
+    ensures { λ r. ⌜ r ≡ linesFault (taskOf (tables c (now (facts .entry)) (now (costs .entry)) [])) ⌝ }
+{
+    let vars = c.vars;
+    let ops = c.ops;
+    let maps = c.maps;
+    let found = 'scan: loop {
+        let mut o = 0;
+        while o < ops {
+            if COST_MOST < cost_at(costs, OpNo(o)) {
+                break 'scan Found::Fault(Refusal::OutOfRange(7 + o));
+            }
+            let mut v = 0;
+            while v < vars {
+                if !fact_fits(facts, pre_row(OpNo(o)), v) {
+                    break 'scan Found::Fault(Refusal::OutOfRange(7 + o));
+                }
+                v += 1;
+            }
+            let mut v = 0;
+            while v < vars {
+                if !fact_fits(facts, eff_row(OpNo(o)), v) {
+                    break 'scan Found::Fault(Refusal::OutOfRange(7 + o));
+                }
+                v += 1;
+            }
+            o += 1;
+        }
+        if !lies_within(1, 8, maps) {
+            break Found::Fault(Refusal::OutOfRange(7 + ops));
+        }
+        let mut m = 0;
+        while m < maps {
+            let line = map_fault(c, facts, m);
+            let Found::Clean = line else {
+                break 'scan line;
+            };
+            m += 1;
+        }
+        break Found::Clean;
+    };
+    found
 }
 
 // The first fault of a handed-in state: too short (8), or the lowest variable whose value is outside (9).
