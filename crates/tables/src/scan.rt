@@ -1,11 +1,14 @@
 // The scan for the first fault of handed-in tables, and of a handed-in state.
 ghost use mathlib.Core.Path.{_≡_};
+ghost use mathlib.Core.Bool.{_&&_};
 ghost use mathlib.Core.List.{[]};
 ghost use Prim.Native.Nat.{_≤_, _<_};
 ghost use lib.Dec.{leb, ltb};
+ghost use lib.ListN.{length};
+ghost use Rattle.meaning.specs.Split.{sum};
 ghost use Rattle.refusals.specs.declared.Refusal.the-variants.{OutOfRange};
 ghost use Rattle.tables.specs.declared.scan.Found.the-variants.{Clean};
-ghost use Rattle.tables.specs.Layout.{rowAt, domAt, initAt, goalAt};
+ghost use Rattle.tables.specs.Layout.{rowAt, domAt, initAt, goalAt, shareAt, factsRoom, costsRoom, sharesRoom};
 ghost use Rattle.tables.specs.Task.{tables, taskOf};
 ghost use Rattle.tables.specs.Scan.{unless, each, within, factsFault, mapFault, sharesFault, splitFault, tablesFault, stateFault};
 ghost use Rattle.tables.specs.Parts.{headFault, linesFault};
@@ -22,11 +25,19 @@ use crate::readers::cost_at;
 use crate::readers::eff_row;
 use crate::readers::pre_row;
 use crate::readers::row_at;
+use crate::readers::share_at;
 use meaning::OpNo;
 use refusals::Refusal;
 
 // The most that an operator costs, and that it costs in a map, in seconds.
 pub const COST_MOST: u32 = 1000000;
+
+// The room for the largest task, in places.
+pub const FACTS_ROOM: usize = 1624;
+
+pub const COSTS_ROOM: usize = 64;
+
+pub const SHARES_ROOM: usize = 512;
 
 // What a scan finds: nothing, or the first fault.
 pub enum Found {
@@ -190,6 +201,93 @@ pub fn lines_fault(c: Counts, facts: &[u8], costs: &[u32]) -> Found
         break Found::Clean;
     };
     found
+}
+
+// The lines of the shares: the walk over maps and operators is left at once with the first fault.
+pub fn shares_fault(c: Counts, shares: &[u32]) -> Found
+    requires { ⌜ (c .ops ≤ 64) × (c .maps ≤ 8) ⌝ }
+    ensures { λ r. ⌜ r ≡ each (sharesFault (taskOf (tables c [] [] (now (shares .entry))))) (c .maps) 0 ⌝ }
+{
+    let ops = c.ops;
+    let maps = c.maps;
+    let mut m = 0;
+    while m < maps {
+        let mut o = 0;
+        while o < ops {
+            if COST_MOST < share_at(shares, m, OpNo(o)) {
+                return Found::Fault(Refusal::OutOfRange(8 + ops + maps + m));
+            }
+            o += 1;
+        }
+        m += 1;
+    }
+    Found::Clean
+}
+
+// What the maps charge for an operator in all.
+pub fn share_total(maps: u32, shares: &[u32], o: OpNo) -> u64
+    ensures { λ r. ⌜ r ≡ sum (λ m. shareAt (now (shares .entry)) m (o .0)) maps ⌝ }
+{
+    let mut total = 0u64;
+    let mut m = 0;
+    while m < maps {
+        total = total + share_at(shares, m, o) as u64;
+        m += 1;
+    }
+    total
+}
+
+// The split, after all else: an operator's shares total at most its cost.
+pub fn split_fault(c: Counts, costs: &[u32], shares: &[u32]) -> Found
+    requires { ⌜ c .ops ≤ 64 ⌝ }
+    ensures { λ r. ⌜ r ≡ each (splitFault (taskOf (tables c [] (now (costs .entry)) (now (shares .entry))))) (c .ops) 0 ⌝ }
+{
+    let ops = c.ops;
+    let maps = c.maps;
+    let mut o = 0;
+    while o < ops {
+        let cost = cost_at(costs, OpNo(o)) as u64;
+        if cost < share_total(maps, shares, OpNo(o)) {
+            return Found::Fault(Refusal::SharesAboveCost(7 + o));
+        }
+        o += 1;
+    }
+    Found::Clean
+}
+
+// The lent tables have room for the largest task.
+pub fn has_room(facts: &[u8], costs: &[u32], shares: &[u32]) -> bool
+    ensures { λ r. ⌜ r ≡ (leb factsRoom (length (now (facts .entry))) && leb costsRoom (length (now (costs .entry))) && leb sharesRoom (length (now (shares .entry)))) ⌝ }
+{
+    if facts.len() < FACTS_ROOM {
+        return false;
+    }
+    if costs.len() < COSTS_ROOM {
+        return false;
+    }
+    SHARES_ROOM <= shares.len()
+}
+
+// The first fault of handed-in tables, with the line that the same task's text would have.
+pub fn tables_fault(c: Counts, facts: &[u8], costs: &[u32], shares: &[u32]) -> Found
+    ensures { λ r. ⌜ r ≡ tablesFault (tables c (now (facts .entry)) (now (costs .entry)) (now (shares .entry))) ⌝ }
+{
+    if !has_room(facts, costs, shares) {
+        return Found::Fault(Refusal::TableTooShort);
+    }
+    let head = head_fault(c, facts);
+    let Found::Clean = head else {
+        return head;
+    };
+    let lines = lines_fault(c, facts, costs);
+    let Found::Clean = lines else {
+        return lines;
+    };
+    let charged = shares_fault(c, shares);
+    let Found::Clean = charged else {
+        return charged;
+    };
+    split_fault(c, costs, shares)
 }
 
 // The first fault of a handed-in state: too short (8), or the lowest variable whose value is outside (9).
