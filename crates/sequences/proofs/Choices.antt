@@ -7,9 +7,7 @@ use mathlib.Core.List.{List}
 use native.Mathlib.Omega.{arith}
 use lib.Dec.{leb}
 use lib.ListN.{length, take}
-use denote.Ref.{RefT, now}
 use borrow.Author.Tests.{leb-true, leb-false}
-use Rattle.refusals.specs.declared.Refusal.{Refusal}
 use Rattle.meaning.specs.Sas.{State, Sas, Passes, paid}
 use Rattle.tables.specs.declared.scan.Found.{Found}
 use Rattle.tables.specs.declared.scan.Found.the-variants.{Clean, Fault}
@@ -19,11 +17,8 @@ use Rattle.sequences.specs.declared.choosing.Reached.{Reached}
 use Rattle.sequences.specs.declared.choosing.Reached.the-variants.{After, Out}
 use Rattle.sequences.specs.declared.choosing.Choice.{Choice}
 use Rattle.sequences.specs.declared.choosing.Choice.the-variants.{FirstPart, SecondPart, NoPart, Unread}
-use Rattle.sequences.specs.declared.choosing.Cheaper.{Cheaper}
-use Rattle.sequences.specs.declared.choosing.Cheaper.the-variants.{First, Second, Neither, Refused}
 use Rattle.sequences.specs.Stepping.{steps, inputFault}
-use Rattle.sequences.specs.Choosing.{reachedOf, choiceOf, unlessUnread, chosenOf, namedOf, cheaperOf, listOf, stepsOf}
-use Rattle.sequences.specs.Opening.{Opening}
+use Rattle.sequences.specs.Choosing.{reachedOf, choiceOf, unlessUnread, chosenOf}
 use Rattle.sequences.proofs.Moments.{Moment, moment-of, moment-least, out-none}
 
 -- every opening part of a list within the limit that passes costs at least p
@@ -40,11 +35,11 @@ pub record Named (S : Sas) (s : State) (os : List ℕ) (n p : ℕ) : Type 0 wher
   pub moment : Moment S s os n p
   pub least : AtLeast S s os p
 
--- what each answer promises; a tie names the first, so where the second is named the first costs more
+-- what each choice promises; a tie names the first, so where the second is named the first costs more
 abbrev pub Promised : Tables → List ℕ → List ℕ → List ℕ → Choice → Type 0
-Promised t s a b (FirstPart n p) = Named (sasOf t) (stateOf s) a n p × AtLeast (sasOf t) (stateOf s) b p
-Promised t s a b (SecondPart n p) = Named (sasOf t) (stateOf s) b n p × AtLeast (sasOf t) (stateOf s) a (suc p)
-Promised t s a b NoPart = NonePasses (sasOf t) (stateOf s) a × NonePasses (sasOf t) (stateOf s) b
+Promised t s a b (FirstPart n p) = (inputFault t s ≡ Clean) × Named (sasOf t) (stateOf s) a n p × AtLeast (sasOf t) (stateOf s) b p
+Promised t s a b (SecondPart n p) = (inputFault t s ≡ Clean) × Named (sasOf t) (stateOf s) b n p × AtLeast (sasOf t) (stateOf s) a (suc p)
+Promised t s a b NoPart = (inputFault t s ≡ Clean) × NonePasses (sasOf t) (stateOf s) a × NonePasses (sasOf t) (stateOf s) b
 Promised t s a b (Unread r) = inputFault t s ≡ Fault r
 
 -- ---- which of two
@@ -99,13 +94,14 @@ chosen-promised t s a b = at (inputFault t s) refl
     S : Sas
     S = sasOf t
 
-    keeps : (d : Choice) → Says (reachedOf S (stateOf s) a) (reachedOf S (stateOf s) b) d → Promised t s a b d
-    keeps (FirstPart n p) h = (named S (stateOf s) a n p (h .0), at-least S (stateOf s) b p (h .1))
-    keeps (SecondPart n p) h = (named S (stateOf s) b n p (h .0), at-least S (stateOf s) a (suc p) (h .1))
-    keeps NoPart h = (none-passes S (stateOf s) a (h .0), none-passes S (stateOf s) b (h .1))
-    keeps (Unread r) h = absurd h
+    keeps : (d : Choice) → inputFault t s ≡ Clean → Says (reachedOf S (stateOf s) a) (reachedOf S (stateOf s) b) d → Promised t s a b d
+    keeps (FirstPart n p) e h = (e, named S (stateOf s) a n p (h .0), at-least S (stateOf s) b p (h .1))
+    keeps (SecondPart n p) e h = (e, named S (stateOf s) b n p (h .0), at-least S (stateOf s) a (suc p) (h .1))
+    keeps NoPart e h = (e, none-passes S (stateOf s) a (h .0), none-passes S (stateOf s) b (h .1))
+    keeps (Unread r) e h = absurd h
 
     at : (f : Found) → inputFault t s ≡ f
         → Promised t s a b (unlessUnread f (choiceOf (reachedOf S (stateOf s) a) (reachedOf S (stateOf s) b)))
-    at Clean e = keeps (choiceOf (reachedOf S (stateOf s) a) (reachedOf S (stateOf s) b)) (choice-says (reachedOf S (stateOf s) a) (reachedOf S (stateOf s) b))
+    at Clean e =
+        keeps (choiceOf (reachedOf S (stateOf s) a) (reachedOf S (stateOf s) b)) e (choice-says (reachedOf S (stateOf s) a) (reachedOf S (stateOf s) b))
     at (Fault r) e = e

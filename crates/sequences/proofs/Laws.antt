@@ -7,28 +7,27 @@ use mathlib.Core.Bool.{Bool, true, false, cond}
 use mathlib.Core.Logic.{⊎-elim}
 use native.Mathlib.Numerals.{add-one}
 use native.Mathlib.Omega.{arith}
-use denote.Enum.Declared.{tagOf}
-use types.Run.{OneOf}
 use lib.Dec.{leb, ltb}
 use lib.ListN.{length, drop, getD, replicate, length-replicate}
 use lib.Seq.{drop-cons, drop-length}
+use denote.Enum.Declared.{tagOf}
+use types.Run.{OneOf}
 use borrow.Author.Tests.{ltb-true, eqb-false, le-leb, lt-leb}
 use Rattle.refusals.specs.declared.Refusal.the-variants.{NoSuchOperator, SequenceTooLong, MayNotRun, NoGoal}
 use Rattle.meaning.specs.Sas.{State, Sas, MayRun, after}
 use Rattle.meaning.specs.Views.{complies}
 use Rattle.meaning.proofs.Facts.{complies-true, complies-same}
 use Rattle.meaning.proofs.Space.{after-same}
+use Rattle.tables.specs.declared.Counts.{Counts}
+use Rattle.tables.specs.Task.{stateOf, tables}
+use Rattle.tables.specs.Steps.{meetsGoal, stepped}
+use Rattle.tables.proofs.Laws.{filled-at}
+use Rattle.tables.proofs.Meant.{meets-goal-is, stepped-is, stepped-length}
 use Rattle.sequences.specs.declared.stepping.Stepped.{Stepped}
 use Rattle.sequences.specs.declared.stepping.Stepped.the-variants.{Ran, NoSuch, MayNot}
-use Rattle.sequences.specs.declared.judging.Judged.{Judged}
 use Rattle.sequences.specs.declared.judging.Judged.the-variants.{Passed, Refused}
 use Rattle.sequences.specs.declared.choosing.Reached.{Reached}
 use Rattle.sequences.specs.declared.choosing.Reached.the-variants.{After, Out}
-use Rattle.tables.specs.declared.Counts.{Counts}
-use Rattle.tables.specs.Task.{stateOf, tables}
-use Rattle.tables.specs.Steps.{stepped}
-use Rattle.tables.proofs.Laws.{filled-at}
-use Rattle.tables.proofs.Meant.{stepped-is, stepped-length}
 use Rattle.sequences.specs.Stepping.{Usable, steps, sas, stepOf, takenApart, copied}
 use Rattle.sequences.specs.Judging.{onto, walked, limited}
 use Rattle.sequences.specs.Choosing.{orOut, reachedFrom, reachedOf}
@@ -107,6 +106,11 @@ module _ (c : Counts) (facts costs : List ℕ) (U : Usable (sas c facts costs)) 
         same = λ v l. sym (ap (λ (u : List ℕ). getD u v 0) n ∙ stepped-is (tables c facts costs []) s o v b l);
         size = ap length n ∙ stepped-length (tables c facts costs []) s o ∙ h;
       }
+
+-- what the test of the goal said
+pub goal-said : (c : Counts) (facts costs s : List ℕ) (b x : Bool) → b ≡ meetsGoal c facts s → b ≡ x
+    → complies (sas c facts costs) (sas c facts costs .goal) (stateOf s) ≡ x
+goal-said c facts costs s b x e f = sym (e ∙ meets-goal-is (tables c facts costs []) s) ∙ f
 
 -- where the walk stands one turn on
 pub along-on : (ops : List ℕ) (i p x : ℕ) (s t : List ℕ) (S : Sas) (o : ℕ) → Along ops i p s → Turn S s t o x → i < length ops → Along ops (i + 1) (p + x) t

@@ -1,7 +1,7 @@
 -- The cheaper of two sequences: each judged up to the first moment a goal holds.
+use Prim.Native.Nat.{ℕ, suc, _+_}
 use mathlib.Core.Bool.{cond}
 use mathlib.Core.List.{List, [], _∷_}
-use Prim.Native.Nat.{ℕ, suc, _+_}
 use lib.Dec.{leb}
 use lib.ListN.{length}
 use Rattle.meaning.specs.Sas.{State, Sas, after}

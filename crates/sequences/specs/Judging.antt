@@ -1,7 +1,7 @@
 -- Judging a sequence: the refusals in document 01's order, or passed with its cost.
+use Prim.Native.Nat.{ℕ, suc, _+_}
 use mathlib.Core.Bool.{cond}
 use mathlib.Core.List.{List, [], _∷_}
-use Prim.Native.Nat.{ℕ, suc, _+_}
 use lib.Dec.{leb}
 use lib.ListN.{length}
 use Rattle.refusals.specs.declared.Refusal.the-variants.{NoSuchOperator, SequenceTooLong, MayNotRun, NoGoal}

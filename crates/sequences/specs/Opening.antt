@@ -1,7 +1,7 @@
 -- The opening part of a lent list, handed back as a part of the caller's own list.
+use Prim.Native.Nat.{ℕ}
 use mathlib.Core.Path.{_≡_}
 use mathlib.Core.List.{List}
-use Prim.Native.Nat.{ℕ}
 use lib.ListN.{take}
 use denote.Ref.{RefT, now}
 use Rattle.tables.specs.Layout.{Tables}

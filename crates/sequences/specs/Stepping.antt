@@ -1,7 +1,7 @@
 -- A step of a sequence, over the task that the lent tables spell.
+use Prim.Native.Nat.{ℕ, _≤_, _<_}
 use mathlib.Core.Bool.{cond}
 use mathlib.Core.List.{List, []}
-use Prim.Native.Nat.{ℕ, _≤_, _<_}
 use lib.Dec.{ltb}
 use lib.ListN.{replicate}
 use Rattle.meaning.specs.Sas.{State, Sas}

@@ -2,17 +2,19 @@
 ghost use mathlib.Core.Path.{_≡_};
 ghost use Prim.Native.Nat.{_≤_};
 ghost use lib.ListN.{length};
-ghost use Rattle.tables.specs.Task.{stateOf};
+ghost use Rattle.tables.specs.Task.{stateOf, tables};
 ghost use Rattle.sequences.specs.Stepping.{Usable, sas, steps};
-ghost use Rattle.sequences.specs.Choosing.{reachedFrom, reachedOf, choiceOf};
+ghost use Rattle.sequences.specs.Choosing.{reachedFrom, reachedOf, choiceOf, chosenOf, namedOf};
 ghost use Rattle.sequences.specs.Opening.{Opening};
 use crate::STEPS;
+use crate::input::input_fault;
 use crate::stepping::Stepped;
 use crate::stepping::copy;
 use crate::stepping::step;
 use meaning::OpNo;
 use refusals::Refusal;
 use tables::Counts;
+use tables::scan::Found;
 use tables::steps::meets_goal;
 use tables::steps::state_after;
 
@@ -124,4 +126,35 @@ pub fn front<'a>(a: &'a [u32], n: usize) -> &'a [u32]
         return &a[..n];
     }
     a
+}
+
+// The choice between two lent lists, from a lent state.
+pub fn choice_of(
+    c: Counts,
+    facts: &[u8],
+    costs: &[u32],
+    shares: &[u32],
+    s: &[u8],
+    a: &[u32],
+    b: &[u32],
+) -> Choice
+    ensures { λ r. ⌜ r ≡ chosenOf (tables c (now (facts .entry)) (now (costs .entry)) (now (shares .entry))) (now (s .entry)) (now (a .entry)) (now (b .entry)) ⌝ }
+{
+    let f = input_fault(c, facts, costs, shares, s);
+    match f {
+        Found::Clean => choose_lists(c, facts, costs, s, a, b),
+        Found::Fault(r) => Choice::Unread(r),
+    }
+}
+
+// What a choice names, with its cost.
+pub fn named(d: Choice) -> Cheaper
+    ensures { λ r. ⌜ r ≡ namedOf d ⌝ }
+{
+    match d {
+        Choice::FirstPart(_, p) => Cheaper::First(p),
+        Choice::SecondPart(_, p) => Cheaper::Second(p),
+        Choice::NoPart => Cheaper::Neither,
+        Choice::Unread(r) => Cheaper::Refused(r),
+    }
 }

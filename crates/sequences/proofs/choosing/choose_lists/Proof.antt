@@ -1,11 +1,11 @@
 -- `choosing::choose_lists` meets its contract: the copy of the state agrees with the lent one. Assumes nothing.
-use Rattle.sequences.proofs.Laws.{reachedOf-same, same-copied}
-use Rattle.sequences.specs.Choosing.{choiceOf}
-use Rattle.sequences.specs.Stepping.{sas}
-use Rattle.tables.specs.Task.{stateOf}
-use Rattle.meaning.specs.Sas.{Sas}
 use mathlib.Core.Path.{_∙_, ap₂}
 use borrow.Author.Needs.{needs}
+use Rattle.meaning.specs.Sas.{Sas}
+use Rattle.tables.specs.Task.{stateOf}
+use Rattle.sequences.specs.Choosing.{choiceOf}
+use Rattle.sequences.specs.Stepping.{sas}
+use Rattle.sequences.proofs.Laws.{reachedOf-same, same-copied}
 use Rattle.sequences.proofs.choosing.choose_lists.Statement.{statement}
 use Rattle.sequences.proofs.choosing.choose_lists.Tie as tie
 

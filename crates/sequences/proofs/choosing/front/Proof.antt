@@ -1,10 +1,9 @@
 -- `choosing::front` meets its contract. Assumes nothing.
-use denote.Ref.{now}
+use Prim.Native.Nat.{_≤_}
+use mathlib.Core.Path.{refl, sym}
+use native.Mathlib.Omega.{arith}
 use lib.Seq.{length-take-le, take-all}
 use lib.ListN.{length}
-use native.Mathlib.Omega.{arith}
-use mathlib.Core.Path.{refl, sym}
-use Prim.Native.Nat.{_≤_}
 use borrow.Author.Needs.{needs}
 use Rattle.sequences.proofs.choosing.front.Statement.{statement}
 use Rattle.sequences.proofs.choosing.front.Tie as tie

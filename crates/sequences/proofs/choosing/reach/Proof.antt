@@ -1,15 +1,14 @@
 -- `choosing::reach` meets its contract: what is left of the list gives the rest of the answer. Assumes nothing.
-use Rattle.sequences.proofs.Laws.{Along, taken-exists, turn, along-on, reached-on, reached-refused, reached-goal, reached-end}
+use Prim.Native.Nat.{ℕ, _-_}
+use mathlib.Core.Bool.{true, false}
+use mathlib.Core.Path.{_≡_, refl, sym, _∙_}
+use native.Mathlib.Omega.{arith}
+use lib.ListN.{length, drop, getD}
+use borrow.Author.Needs.{needs}
+use Rattle.tables.specs.Task.{stateOf}
 use Rattle.sequences.specs.Choosing.{reachedFrom}
 use Rattle.sequences.specs.Stepping.{sas, steps}
-use Rattle.tables.proofs.Meant.{meets-goal-is}
-use Rattle.tables.specs.Task.{stateOf, tables}
-use borrow.Author.Needs.{needs}
-use lib.ListN.{length, drop, getD}
-use mathlib.Core.List.{[]}
-use native.Mathlib.Omega.{arith}
-use mathlib.Core.Path.{_≡_, refl, sym, _∙_}
-use Prim.Native.Nat.{ℕ, _-_}
+use Rattle.sequences.proofs.Laws.{Along, goal-said, taken-exists, turn, along-on, reached-on, reached-refused, reached-goal, reached-end}
 use Rattle.sequences.proofs.choosing.reach.Statement.{statement}
 use Rattle.sequences.proofs.choosing.reach.Tie as tie
 
@@ -32,7 +31,7 @@ returns : tie.Need-returns Inv-loop μ-loop
 returns c =
     let a = c .before .before .before .before .before .before .before .before .args in
     let l = c .before .before .before .before .loop in
-    sym (l .inv .1 ∙ reached-goal (sas (a .c) (a .facts .now) (a .costs .now)) (l .i) (l .paid) (stateOf (l .s)) (drop (l .i) (a .ops .now)) (sym (c .before .meets-goal .ensures ∙ meets-goal-is (tables (a .c) (a .facts .now) (a .costs .now) []) (l .s)) ∙ c .if1 .taken))
+    sym (l .inv .1 ∙ reached-goal (sas (a .c) (a .facts .now) (a .costs .now)) (l .i) (l .paid) (stateOf (l .s)) (drop (l .i) (a .ops .now)) (goal-said (a .c) (a .facts .now) (a .costs .now) (l .s) (c .before .meets-goal .result) true (c .before .meets-goal .ensures) (c .if1 .taken)))
 
 mul-o : tie.Need-mul-o Inv-loop μ-loop
 mul-o c = search needs
@@ -53,7 +52,7 @@ returns-2 : tie.Need-returns-2 Inv-loop μ-loop
 returns-2 c =
     let a = c .before .before .before .before .before .before .before .before .before .before .before .before .args in
     let l = c .before .before .before .before .before .before .before .before .loop in
-    reached-refused (sas (a .c) (a .facts .now) (a .costs .now)) (l .i) (l .paid) (l .s) (a .ops .now) (c .before .before .before .before .before .before .before .loop-test .taken) (c .before .step .result) (sym (c .before .before .before .before .before .meets-goal .ensures ∙ meets-goal-is (tables (a .c) (a .facts .now) (a .costs .now) []) (l .s)) ∙ c .before .before .before .before .if1 .left) (c .before .step .ensures) (c .match .keys2)
+    reached-refused (sas (a .c) (a .facts .now) (a .costs .now)) (l .i) (l .paid) (l .s) (a .ops .now) (c .before .before .before .before .before .before .before .loop-test .taken) (c .before .step .result) (goal-said (a .c) (a .facts .now) (a .costs .now) (l .s) (c .before .before .before .before .before .meets-goal .result) false (c .before .before .before .before .before .meets-goal .ensures) (c .before .before .before .before .if1 .left)) (c .before .step .ensures) (c .match .keys2)
     ∙ sym (l .inv .1)
 
 state-after-requires : tie.Need-state-after-requires Inv-loop μ-loop
@@ -84,7 +83,7 @@ loop-again c =
     let o : ℕ = getD (a .ops .now) (l .i) 0 in
     let k = turn (a .c) (a .facts .now) (a .costs .now) (c .before .before .before .before .before .before .before .before .before .before .before .before .before .before .before .pre .0) (c .before .before .before .before .step .result) (l .s) (c .state-after .result) o (c .before .before .m .given .0 .0) (l .inv .0 .size) (c .before .before .before .before .step .ensures) (c .before .before .m .given .1) (c .state-after .ensures) in (
       along-on (a .ops .now) (l .i) (l .paid) (c .before .before .m .given .0 .0) (l .s) (c .state-after .result) (sas (a .c) (a .facts .now) (a .costs .now)) o (l .inv .0) k (c .before .before .before .before .before .before .before .before .before .before .loop-test .taken),
-      l .inv .1 ∙ reached-on (sas (a .c) (a .facts .now) (a .costs .now)) (l .i) (l .paid) (l .s) (a .ops .now) (c .before .before .before .before .before .before .before .before .before .before .loop-test .taken) (c .before .before .m .given .0 .0) (c .state-after .result) (sym (c .before .before .before .before .before .before .before .before .meets-goal .ensures ∙ meets-goal-is (tables (a .c) (a .facts .now) (a .costs .now) []) (l .s)) ∙ c .before .before .before .before .before .before .before .if1 .left) k,
+      l .inv .1 ∙ reached-on (sas (a .c) (a .facts .now) (a .costs .now)) (l .i) (l .paid) (l .s) (a .ops .now) (c .before .before .before .before .before .before .before .before .before .before .loop-test .taken) (c .before .before .m .given .0 .0) (c .state-after .result) (goal-said (a .c) (a .facts .now) (a .costs .now) (l .s) (c .before .before .before .before .before .before .before .before .meets-goal .result) false (c .before .before .before .before .before .before .before .before .meets-goal .ensures) (c .before .before .before .before .before .before .before .if1 .left)) k,
     )
 
 slice-aggregate-meets-goal-2 : tie.Need-slice-aggregate-meets-goal-2 Inv-loop μ-loop
@@ -97,13 +96,13 @@ returns-3 : tie.Need-returns-3 Inv-loop μ-loop
 returns-3 c =
     let a = c .before .before .before .before .before .before .before .before .args in
     let l = c .before .before .before .before .loop in
-    sym (l .inv .1 ∙ reached-goal (sas (a .c) (a .facts .now) (a .costs .now)) (l .i) (l .paid) (stateOf (l .s)) (drop (l .i) (a .ops .now)) (sym (c .before .meets-goal2 .ensures ∙ meets-goal-is (tables (a .c) (a .facts .now) (a .costs .now) []) (l .s)) ∙ c .if2 .taken))
+    sym (l .inv .1 ∙ reached-goal (sas (a .c) (a .facts .now) (a .costs .now)) (l .i) (l .paid) (stateOf (l .s)) (drop (l .i) (a .ops .now)) (goal-said (a .c) (a .facts .now) (a .costs .now) (l .s) (c .before .meets-goal2 .result) true (c .before .meets-goal2 .ensures) (c .if2 .taken)))
 
 returns-4 : tie.Need-returns-4 Inv-loop μ-loop
 returns-4 c =
     let a = c .before .before .before .before .before .before .before .before .args in
     let l = c .before .before .before .before .loop in
-    sym (l .inv .1 ∙ reached-end (sas (a .c) (a .facts .now) (a .costs .now)) (l .i) (l .paid) (stateOf (l .s)) (a .ops .now) (omega arith) (sym (c .before .meets-goal2 .ensures ∙ meets-goal-is (tables (a .c) (a .facts .now) (a .costs .now) []) (l .s)) ∙ c .if2 .left))
+    sym (l .inv .1 ∙ reached-end (sas (a .c) (a .facts .now) (a .costs .now)) (l .i) (l .paid) (stateOf (l .s)) (a .ops .now) (omega arith) (goal-said (a .c) (a .facts .now) (a .costs .now) (l .s) (c .before .meets-goal2 .result) false (c .before .meets-goal2 .ensures) (c .if2 .left)))
 
 pub reach-spec : {M : Type 1} → statement M
 reach-spec =

@@ -1,9 +1,8 @@
 -- `choosing::reach_within` meets its contract. Assumes nothing.
-use Rattle.sequences.proofs.Laws.{reached-within, reached-above}
-use Rattle.sequences.specs.Stepping.{sas, steps}
-use Rattle.tables.specs.Task.{stateOf}
-use native.Mathlib.Omega.{arith}
 use mathlib.Core.Path.{_∙_}
+use Rattle.tables.specs.Task.{stateOf}
+use Rattle.sequences.specs.Stepping.{sas, steps}
+use Rattle.sequences.proofs.Laws.{reached-within, reached-above}
 use Rattle.sequences.proofs.choosing.reach_within.Statement.{statement}
 use Rattle.sequences.proofs.choosing.reach_within.Tie as tie
 

@@ -1,10 +1,10 @@
 -- `judging::judge_list` meets its contract: the copy of the state agrees with the lent one. Assumes nothing.
-use Rattle.sequences.proofs.Laws.{limited-within, limited-above, same-copied}
-use Rattle.sequences.specs.Stepping.{sas, steps}
-use Rattle.tables.specs.Task.{stateOf}
-use Rattle.meaning.specs.Sas.{Sas}
 use mathlib.Core.Path.{_∙_}
 use borrow.Author.Needs.{needs}
+use Rattle.meaning.specs.Sas.{Sas}
+use Rattle.tables.specs.Task.{stateOf}
+use Rattle.sequences.specs.Stepping.{sas, steps}
+use Rattle.sequences.proofs.Laws.{limited-within, limited-above, same-copied}
 use Rattle.sequences.proofs.judging.judge_list.Statement.{statement}
 use Rattle.sequences.proofs.judging.judge_list.Tie as tie
 

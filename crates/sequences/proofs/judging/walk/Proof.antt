@@ -1,22 +1,16 @@
 -- `judging::walk` meets its contract: what is left of the list gives the rest of the answer. Assumes nothing.
-
-use Rattle.sequences.proofs.Laws.{Along, taken-exists, turn, along-on, walked-on, walked-refused, walked-end}
-use Rattle.sequences.specs.declared.judging.Judged.the-variants.{Passed, Refused}
-use Rattle.sequences.specs.declared.judging.Judged.{Judged}
-use Rattle.refusals.specs.declared.Refusal.the-variants.{NoGoal}
+use Prim.Native.Nat.{ℕ, _-_}
 use mathlib.Core.Bool.{true, false, Bool, cond}
-use mathlib.Core.Path.{ap}
+use mathlib.Core.Path.{ap, _≡_, refl, sym, _∙_}
+use native.Mathlib.Omega.{arith}
+use lib.ListN.{length, drop, getD}
+use borrow.Author.Needs.{needs}
+use Rattle.refusals.specs.declared.Refusal.the-variants.{NoGoal}
+use Rattle.tables.specs.Task.{stateOf}
+use Rattle.sequences.specs.declared.judging.Judged.the-variants.{Passed, Refused}
 use Rattle.sequences.specs.Judging.{walked}
 use Rattle.sequences.specs.Stepping.{sas, steps}
-use Rattle.tables.proofs.Meant.{meets-goal-is, stepped-is, stepped-length}
-use Rattle.tables.specs.Task.{stateOf, tables}
-use Rattle.meaning.specs.Sas.{Sas}
-use borrow.Author.Needs.{needs}
-use lib.ListN.{length, drop, getD}
-use mathlib.Core.List.{[]}
-use native.Mathlib.Omega.{arith}
-use mathlib.Core.Path.{_≡_, refl, sym, _∙_}
-use Prim.Native.Nat.{ℕ, _+_, _*_, _≤_, _-_, _<_}
+use Rattle.sequences.proofs.Laws.{Along, goal-said, taken-exists, turn, along-on, walked-on, walked-refused, walked-end}
 use Rattle.sequences.proofs.judging.walk.Statement.{statement}
 use Rattle.sequences.proofs.judging.walk.Tie as tie
 
@@ -104,7 +98,7 @@ returns-2 c =
     let a = c .before .before .before .before .before .before .before .before .args in
     let l = c .before .before .before .before .loop in
     sym (l .inv .1 ∙ walked-end (sas (a .c) (a .facts .now) (a .costs .now)) (l .i) (l .paid) (stateOf (l .s)) (a .ops .now) (omega arith)
-    ∙ ap (λ (b : Bool). cond b (Passed (l .paid)) (Refused (NoGoal (l .i)))) (sym (c .before .meets-goal .ensures ∙ meets-goal-is (tables (a .c) (a .facts .now) (a .costs .now) []) (l .s)) ∙ c .if1 .taken))
+    ∙ ap (λ (b : Bool). cond b (Passed (l .paid)) (Refused (NoGoal (l .i)))) (goal-said (a .c) (a .facts .now) (a .costs .now) (l .s) (c .before .meets-goal .result) true (c .before .meets-goal .ensures) (c .if1 .taken)))
 
 cast-t26 : tie.Need-cast-t26 Inv-loop μ-loop
 unfolding steps
@@ -115,7 +109,7 @@ returns-3 c =
     let a = c .before .before .before .before .before .before .before .before .args in
     let l = c .before .before .before .before .loop in
     sym (l .inv .1 ∙ walked-end (sas (a .c) (a .facts .now) (a .costs .now)) (l .i) (l .paid) (stateOf (l .s)) (a .ops .now) (omega arith)
-    ∙ ap (λ (b : Bool). cond b (Passed (l .paid)) (Refused (NoGoal (l .i)))) (sym (c .before .meets-goal .ensures ∙ meets-goal-is (tables (a .c) (a .facts .now) (a .costs .now) []) (l .s)) ∙ c .if1 .left))
+    ∙ ap (λ (b : Bool). cond b (Passed (l .paid)) (Refused (NoGoal (l .i)))) (goal-said (a .c) (a .facts .now) (a .costs .now) (l .s) (c .before .meets-goal .result) false (c .before .meets-goal .ensures) (c .if1 .left)))
 
 pub walk-spec : {M : Type 1} → statement M
 walk-spec =

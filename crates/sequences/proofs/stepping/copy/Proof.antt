@@ -1,13 +1,13 @@
 -- `stepping::copy` meets its contract: the places passed so far are filled. Assumes nothing.
-use Rattle.sequences.specs.Stepping.{copied}
+use Prim.Native.Nat.{_≤_, _-_}
+use mathlib.Core.Path.{_≡_, refl}
+use native.Mathlib.Omega.{arith}
+use lib.ListN.{replicate}
+use borrow.Author.Needs.{needs}
 use Rattle.tables.proofs.Laws.{filled-next, filled-end}
 use Rattle.tables.specs.Steps.{filled}
 use Rattle.tables.specs.Task.{stateOf}
-use borrow.Author.Needs.{needs}
-use lib.ListN.{replicate}
-use native.Mathlib.Omega.{arith}
-use mathlib.Core.Path.{_≡_, refl}
-use Prim.Native.Nat.{ℕ, _≤_, _-_}
+use Rattle.sequences.specs.Stepping.{copied}
 use Rattle.sequences.proofs.stepping.copy.Statement.{statement}
 use Rattle.sequences.proofs.stepping.copy.Tie as tie
 

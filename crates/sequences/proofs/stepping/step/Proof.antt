@@ -1,11 +1,11 @@
 -- `stepping::step` meets its contract. Assumes nothing.
-use Rattle.sequences.specs.Stepping.{stepOf}
-use Rattle.tables.proofs.Meant.{may-run-is}
 use mathlib.Core.List.{[]}
-use Rattle.tables.specs.Task.{tables}
-use borrow.Author.Tests.{lt-ltb, le-ltb}
 use mathlib.Core.Path.{sym, _∙_}
+use borrow.Author.Tests.{lt-ltb, le-ltb}
 use borrow.Author.Needs.{needs}
+use Rattle.tables.proofs.Meant.{may-run-is}
+use Rattle.tables.specs.Task.{tables}
+use Rattle.sequences.specs.Stepping.{stepOf}
 use Rattle.sequences.proofs.stepping.step.Statement.{statement}
 use Rattle.sequences.proofs.stepping.step.Tie as tie
 
