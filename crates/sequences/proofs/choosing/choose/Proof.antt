@@ -1,4 +1,5 @@
 -- `choosing::choose` meets its contract. Assumes nothing.
+use native.Mathlib.Omega.{arith}
 use borrow.Author.Tests.{le-leb, lt-leb}
 use borrow.Author.Needs.{needs}
 use Rattle.sequences.proofs.choosing.choose.Statement.{statement}
@@ -23,10 +24,10 @@ enum-told-3 : tie.Need-enum-told-3
 enum-told-3 c = search needs
 
 returns : tie.Need-returns
-returns c = rw (c .before .before .before .before .before .a .given .1, c .before .before .b .given .1, le-leb _ _ (c .if1 .taken))
+returns c = rw (c .before .before .before .before .before .a .given .1, c .before .before .b .given .1, le-leb (c .before .before .before .before .before .a .given .0 .1 .0) (c .before .before .b .given .0 .1 .0) (omega (arith, c .if1 .taken)))
 
 returns-2 : tie.Need-returns-2
-returns-2 c = rw (c .before .before .before .before .before .a .given .1, c .before .before .b .given .1, lt-leb _ _ (c .if1 .left))
+returns-2 c = rw (c .before .before .before .before .before .a .given .1, c .before .before .b .given .1, lt-leb (c .before .before .before .before .before .a .given .0 .1 .0) (c .before .before .b .given .0 .1 .0) (omega (arith, c .if1 .left)))
 
 returns-3 : tie.Need-returns-3
 returns-3 c = rw (c .before .before .before .a .given .1, c .enum-told .given .1)

@@ -1,5 +1,6 @@
 -- `choosing::reach_within` meets its contract. Assumes nothing.
 use mathlib.Core.Path.{_∙_}
+use native.Mathlib.Omega.{arith}
 use Rattle.tables.specs.Task.{stateOf}
 use Rattle.sequences.specs.Stepping.{sas, steps}
 use Rattle.sequences.proofs.Laws.{reached-within, reached-above}
@@ -8,7 +9,7 @@ use Rattle.sequences.proofs.choosing.reach_within.Tie as tie
 
 returns : tie.Need-returns
 unfolding steps
-returns c = let a = c .before .before .before .before .args in reached-above (sas (a .c) (a .facts .now) (a .costs .now)) (stateOf (a .start)) (a .ops .now) (c .if1 .taken)
+returns c = let a = c .before .before .before .before .args in reached-above (sas (a .c) (a .facts .now) (a .costs .now)) (stateOf (a .start)) (a .ops .now) (omega (arith, c .if1 .taken))
 
 reach-requires : tie.Need-reach-requires
 unfolding steps

@@ -1,5 +1,6 @@
 -- `judging::judge_list` meets its contract: the copy of the state agrees with the lent one. Assumes nothing.
 use mathlib.Core.Path.{_∙_}
+use native.Mathlib.Omega.{arith}
 use borrow.Author.Needs.{needs}
 use Rattle.meaning.specs.Sas.{Sas}
 use Rattle.tables.specs.Task.{stateOf}
@@ -10,7 +11,7 @@ use Rattle.sequences.proofs.judging.judge_list.Tie as tie
 
 returns : tie.Need-returns
 unfolding steps
-returns c = let a = c .before .before .before .before .before .args in limited-above (sas (a .c) (a .facts .now) (a .costs .now)) (stateOf (a .s .now)) (a .ops .now) (c .if1 .taken)
+returns c = let a = c .before .before .before .before .before .args in limited-above (sas (a .c) (a .facts .now) (a .costs .now)) (stateOf (a .s .now)) (a .ops .now) (omega (arith, c .if1 .taken))
 
 copy-requires : tie.Need-copy-requires
 copy-requires c κs = search needs
