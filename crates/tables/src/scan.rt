@@ -171,19 +171,19 @@ pub fn lines_fault(c: Counts, facts: &[u8], costs: &[u32]) -> Found
             if COST_MOST < cost_at(costs, OpNo(o)) {
                 break 'scan Found::Fault(Refusal::OutOfRange(7 + o));
             }
-            let mut v = 0;
-            while v < vars {
-                if !fact_fits(facts, pre_row(OpNo(o)), v) {
+            let mut p = 0;
+            while p < vars {
+                if !fact_fits(facts, pre_row(OpNo(o)), p) {
                     break 'scan Found::Fault(Refusal::OutOfRange(7 + o));
                 }
-                v += 1;
+                p += 1;
             }
-            let mut v = 0;
-            while v < vars {
-                if !fact_fits(facts, eff_row(OpNo(o)), v) {
+            let mut e = 0;
+            while e < vars {
+                if !fact_fits(facts, eff_row(OpNo(o)), e) {
                     break 'scan Found::Fault(Refusal::OutOfRange(7 + o));
                 }
-                v += 1;
+                e += 1;
             }
             o += 1;
         }
