@@ -8,10 +8,10 @@ ghost use lib.ListN.{length};
 ghost use Rattle.meaning.specs.Split.{sum};
 ghost use Rattle.refusals.specs.declared.Refusal.the-variants.{OutOfRange};
 ghost use Rattle.tables.specs.declared.scan.Found.the-variants.{Clean};
-ghost use Rattle.tables.specs.Layout.{rowAt, domAt, initAt, goalAt, shareAt, factsRoom, costsRoom, sharesRoom};
+ghost use Rattle.tables.specs.Layout.{rowAt, domAt, shareAt, factsRoom, costsRoom, sharesRoom};
 ghost use Rattle.tables.specs.Task.{tables, taskOf};
 ghost use Rattle.tables.specs.Scan.{unless, each, within, factsFault, mapFault, sharesFault, splitFault, tablesFault, stateFault};
-ghost use Rattle.tables.specs.Parts.{headFault, linesFault};
+ghost use Rattle.tables.specs.Parts.{lineHolds, headFault, linesFault};
 use crate::Counts;
 use crate::classes::Classes;
 use crate::classes::classes_of;
@@ -66,42 +66,27 @@ pub fn lies_within(lo: u32, hi: u32, x: u32) -> bool
     if lo <= x { x <= hi } else { false }
 }
 
-// Line 3: each variable has 1 to 8 values.
-pub fn doms_fault(vars: u32, facts: &[u8]) -> Found
-    ensures { λ r. ⌜ r ≡ each (λ v. unless (within 1 8 (domAt (now (facts .entry)) v)) (OutOfRange 3)) vars 0 ⌝ }
+// What line 3, 4 or 5 asks of a variable: 1 to 8 values; an initial value, and a value in the goal, that are among them.
+pub fn line_holds(facts: &[u8], line: u32, v: u32) -> bool
+    ensures { λ r. ⌜ r ≡ lineHolds (now (facts .entry)) line v ⌝ }
 {
-    let mut v = 0;
-    while v < vars {
-        if !lies_within(1, 8, word_of(facts, DOM_ROW, v)) {
-            return Found::Fault(Refusal::OutOfRange(3));
-        }
-        v += 1;
+    if line == 3 {
+        return lies_within(1, 8, word_of(facts, DOM_ROW, v));
     }
-    Found::Clean
+    if line == 4 {
+        return value_fits(facts, v, row_at(facts, INIT_ROW, v));
+    }
+    fact_fits(facts, GOAL_ROW, v)
 }
 
-// Line 4: each variable has its initial value.
-pub fn init_fault(vars: u32, facts: &[u8]) -> Found
-    ensures { λ r. ⌜ r ≡ each (λ v. unless (ltb (initAt (now (facts .entry)) v) (domAt (now (facts .entry)) v)) (OutOfRange 4)) vars 0 ⌝ }
+// Line 3, 4 or 5, from variable to variable.
+pub fn line_fault(vars: u32, facts: &[u8], line: u32) -> Found
+    ensures { λ r. ⌜ r ≡ each (λ v. unless (lineHolds (now (facts .entry)) line v) (OutOfRange line)) vars 0 ⌝ }
 {
     let mut v = 0;
     while v < vars {
-        if !value_fits(facts, v, row_at(facts, INIT_ROW, v)) {
-            return Found::Fault(Refusal::OutOfRange(4));
-        }
-        v += 1;
-    }
-    Found::Clean
-}
-
-// Line 5: each variable has the value that the goal names.
-pub fn goal_fault(vars: u32, facts: &[u8]) -> Found
-    ensures { λ r. ⌜ r ≡ each (λ v. unless (leb (goalAt (now (facts .entry)) v) (domAt (now (facts .entry)) v)) (OutOfRange 5)) vars 0 ⌝ }
-{
-    let mut v = 0;
-    while v < vars {
-        if !fact_fits(facts, GOAL_ROW, v) {
-            return Found::Fault(Refusal::OutOfRange(5));
+        if !line_holds(facts, line, v) {
+            return Found::Fault(Refusal::OutOfRange(line));
         }
         v += 1;
     }
@@ -115,15 +100,15 @@ pub fn head_fault(c: Counts, facts: &[u8]) -> Found
     if !lies_within(1, 8, c.vars) {
         return Found::Fault(Refusal::OutOfRange(2));
     }
-    let doms = doms_fault(c.vars, facts);
+    let doms = line_fault(c.vars, facts, 3);
     let Found::Clean = doms else {
         return doms;
     };
-    let init = init_fault(c.vars, facts);
+    let init = line_fault(c.vars, facts, 4);
     let Found::Clean = init else {
         return init;
     };
-    let goal = goal_fault(c.vars, facts);
+    let goal = line_fault(c.vars, facts, 5);
     let Found::Clean = goal else {
         return goal;
     };
