@@ -11,10 +11,8 @@ use lib.Count.{ones, leadingZeros}
 use lib.Dec.{ltb, lit<}
 use borrow.Author.Tests.{ltb-true, lt-ltb, eq-eqb, ne-eqb}
 use Rattle.refusals.specs.declared.Refusal.the-variants.{OutOfRange, ClassMissing}
-use Rattle.meaning.specs.Views.{every}
 use Rattle.meaning.specs.Split.{countOf}
 use Rattle.meaning.proofs.Facts.{every-true, true-every}
-use Rattle.tables.specs.declared.classes.Mask.{Mask}
 use Rattle.tables.specs.declared.classes.Mask.the-variants.{Bits, Beyond}
 use Rattle.tables.specs.declared.classes.Classes.{Classes}
 use Rattle.tables.specs.declared.classes.Classes.the-variants.{Count, Missing, Outside}
@@ -99,22 +97,28 @@ count-le class n zero h = zero-le
 count-le class n (suc d) h = omega (arith, count-le class n d (λ x l. h x (omega arith)), h d (omega arith))
 
 module _ (class : ℕ → ℕ) (n : ℕ) where
-  pub row-fault : (line : ℕ) → rowFault class n line ≡ faultIn (classesOf class n) line
+  row-fault : (line : ℕ) → rowFault class n line ≡ faultIn (classesOf class n) line
   unfolding classesOf
   row-fault line =
       rw (one-rule (λ x. ltb (class x) n) (OutOfRange line) n)
       (judged-fault (allBelow class n) (noneMissing class n) (countOf class n) line)
 
-  pub row-count : (k : ℕ) → classesOf class n ≡ Count k → (k ≡ countOf class n) × (k ≤ n)
+  row-count : (k : ℕ) → classesOf class n ≡ Count k → (k ≡ countOf class n) × (k ≤ n)
   unfolding classesOf
   row-count k p =
       let q = judged-count (allBelow class n) (noneMissing class n) (countOf class n) k p in
       (q .1, omega (arith, count-le class n n (all-below class n (q .0))))
 
--- a row of the tables and a number of values, by other names
-pub row-of : (facts : List ℕ) {row row′ n n′ : ℕ} {r : Classes} → r ≡ classesOf (rowAt facts row) n → row ≡ row′ → n ≡ n′
-    → r ≡ classesOf (rowAt facts row′) n′
-row-of facts p e d = p ∙ ap₂ (λ (row n : ℕ). classesOf (rowAt facts row) n) e d
+-- what is found in the row of variable v, whose number of values and row were read
+module _ (facts : List ℕ) {row row′ n n′ : ℕ} {r : Classes} (found : r ≡ classesOf (rowAt facts row) n) (at : row ≡ row′) (values : n ≡ n′) where
+  row-of : r ≡ classesOf (rowAt facts row′) n′
+  row-of = found ∙ ap₂ (λ (row n : ℕ). classesOf (rowAt facts row) n) at values
+
+  pub found-fault : (line : ℕ) {k : Classes} → r ≡ k → rowFault (rowAt facts row′) n′ line ≡ faultIn k line
+  found-fault line p = row-fault (rowAt facts row′) n′ line ∙ ap (λ (k : Classes). faultIn k line) (sym row-of ∙ p)
+
+  pub found-count : (k : ℕ) → r ≡ Count k → (k ≡ countOf (rowAt facts row′) n′) × (k ≤ n′)
+  found-count k p = row-count (rowAt facts row′) n′ k (sym row-of ∙ p)
 
 -- the product of up to 8 counts of at most 8 fits a word
 pub product-more : (p k v : ℕ) → p ≤ 8 ^ v → k ≤ 8 → p * k ≤ 8 ^ (v + 1)

@@ -1,6 +1,6 @@
 -- The scan accepts tables exactly if there is room and the task that they spell is valid, and a state exactly if it is long enough and one of the task's; any two results that meet a contract of the scan are equal.
 -- Assumes nothing.
-use Prim.Native.Nat.{ℕ, _≤_, _<_}
+use Prim.Native.Nat.{ℕ, _≤_}
 use mathlib.Core.Path.{_≡_, sym, _∙_}
 use mathlib.Core.Bool.{true}
 use mathlib.Core.List.{List, [], _∷_}
@@ -15,20 +15,9 @@ use Rattle.tables.specs.declared.scan.Found.{Found}
 use Rattle.tables.specs.declared.scan.Found.the-variants.{Clean}
 use Rattle.tables.specs.Layout.{Tables, domAt}
 use Rattle.tables.specs.Task.{taskOf, sasOf, stateOf}
-use Rattle.tables.specs.Scan.{unless, _then_, each, sharesFault, splitFault, taskFault, roomy, tablesFault, stateFault}
+use Rattle.tables.specs.Scan.{unless, each, sharesFault, splitFault, taskFault, roomy, tablesFault, stateFault}
 use Rattle.tables.specs.Parts.{headFault, linesFault}
-use Rattle.tables.proofs.Walks.{
-  clean-first,
-  clean-next,
-  all-clean,
-  clean-all,
-  kept,
-  rule-held,
-  walk-clean,
-  clean-walk,
-  tests-held,
-  held-tests,
-}
+use Rattle.tables.proofs.Walks.{clean-first, clean-next, all-clean, clean-all, rule-held, walk-clean, clean-walk, tests-held, held-tests}
 use Rattle.tables.proofs.Rules.{head-clean, clean-head, lines-clean, clean-lines, shares-clean, clean-shares, split-clean, clean-split, in-parts}
 
 module _ (T : Task) where

@@ -10,7 +10,7 @@ ghost use Rattle.refusals.specs.declared.Refusal.the-variants.{OutOfRange};
 ghost use Rattle.tables.specs.declared.scan.Found.the-variants.{Clean};
 ghost use Rattle.tables.specs.Layout.{rowAt, domAt, shareAt, factsRoom, costsRoom, sharesRoom};
 ghost use Rattle.tables.specs.Task.{tables, taskOf};
-ghost use Rattle.tables.specs.Scan.{unless, each, within, factsFault, mapFault, sharesFault, splitFault, tablesFault, stateFault};
+ghost use Rattle.tables.specs.Scan.{unless, each, within, mapFault, sharesFault, splitFault, tablesFault, stateFault};
 ghost use Rattle.tables.specs.Parts.{lineHolds, headFault, linesFault};
 use crate::Counts;
 use crate::classes::Classes;

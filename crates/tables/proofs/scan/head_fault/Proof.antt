@@ -1,9 +1,8 @@
 -- `scan::head_fault` meets its contract: it hands on the first part that isn't clean. Assumes nothing.
-use mathlib.Core.Path.{_≡_, sym, _∙_}
-use mathlib.Core.Bool.{true}
+use mathlib.Core.Path.{sym, _∙_}
 use borrow.Author.Needs.{needs}
 use borrow.Author.Tests.{not-true, not-false, lt-leb, le-leb}
-use Rattle.tables.specs.Scan.{within, factsFault}
+use Rattle.tables.specs.Scan.{factsFault}
 use Rattle.tables.specs.Parts.{headFault}
 use Rattle.tables.proofs.scan.head_fault.Statement.{statement}
 use Rattle.tables.proofs.scan.head_fault.Tie as tie

@@ -1,12 +1,12 @@
 -- `scan::lines_fault` meets its contract: each walk's rules passed so far are clean, and a break hands on the first fault of them all. Assumes nothing.
-use Prim.Native.Nat.{ℕ, _+_, _≤_, _<_, _-_}
+use Prim.Native.Nat.{ℕ, _+_, _≤_, _-_}
 use mathlib.Core.Path.{_≡_, sym, _∙_}
 use mathlib.Core.Bool.{Bool, true, false}
 use mathlib.Core.List.{List, []}
 use native.Mathlib.Omega.{arith}
 use lib.Dec.{leb}
 use borrow.Author.Needs.{needs}
-use borrow.Author.Tests.{lt-leb, le-leb, not-true, not-false}
+use borrow.Author.Tests.{not-true, not-false}
 use Rattle.refusals.specs.declared.Refusal.{Refusal}
 use Rattle.refusals.specs.declared.Refusal.the-variants.{OutOfRange}
 use Rattle.meaning.specs.Split.{Task}
@@ -15,7 +15,6 @@ use Rattle.tables.specs.declared.scan.Found.the-variants.{Clean, Fault}
 use Rattle.tables.specs.Layout.{rowAt, domAt, preRow, effRow, costAt}
 use Rattle.tables.specs.Task.{tables, taskOf}
 use Rattle.tables.specs.Scan.{each, within, factsFault, operatorFault, classesFault, mapFault}
-use Rattle.tables.specs.Parts.{headFault, linesFault}
 use Rattle.tables.proofs.Walks.{tests, tests-more, tests-here, walk-none, walk-more, walk-here, walk-end}
 use Rattle.tables.proofs.Rules.{head-clean, within-says}
 use Rattle.tables.proofs.Lines.{cost-decides, pre-decides, eff-decides, operators-decide, count-decides, maps-decide}
