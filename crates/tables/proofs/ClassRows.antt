@@ -22,15 +22,15 @@ use Rattle.tables.specs.Layout.{rowAt}
 use Rattle.tables.specs.Scan.{unless, _then_, each, noneMissing}
 use Rattle.tables.specs.Classes.{maskOf, allBelow, masked, maskFound, judged, classesOf}
 use Rattle.tables.proofs.Masks.{mask-width, mask-whole}
-use Rattle.tables.proofs.Walks.{one-rule}
+use Rattle.tables.proofs.Walks.{never, one-rule}
 
 masked-beyond : (b : Bool) (m : ℕ) → masked b m ≡ Beyond → b ≡ false
-masked-beyond true m p = let z : _≡_ {A = ℕ} 0 1 = cc in absurd (let n : ⊥ = omega arith in n)
+masked-beyond true m p = never (cc)
 masked-beyond false m p = refl
 
 masked-bits : (b : Bool) (m k : ℕ) → masked b m ≡ Bits k → (b ≡ true) × (k ≡ m)
 masked-bits true m k p = (refl, cc)
-masked-bits false m k p = let z : _≡_ {A = ℕ} 0 1 = cc in absurd (let n : ⊥ = omega arith in n)
+masked-bits false m k p = never (cc)
 
 module _ (class : ℕ → ℕ) (n : ℕ) where
   pub beyond-outside : maskFound class n ≡ Beyond → Outside ≡ classesOf class n
@@ -46,8 +46,7 @@ module _ (class : ℕ → ℕ) (n : ℕ) where
   not-beyond h p =
       let q : allBelow class n ≡ true = true-every (λ x. ltb (class x) n) n (λ x l. lt-ltb (class x) n (h x l)) in
       let r : allBelow class n ≡ false = masked-beyond (allBelow class n) (maskOf class n) p in
-      let z : _≡_ {A = ℕ} 0 1 = cc in
-      omega arith
+      never (cc)
 
   module _ (w m : ℕ) (fits : n ≤ w) (found : maskFound class n ≡ Bits m) where
     found-bits : (allBelow class n ≡ true) × (m ≡ maskOf class n)
@@ -89,8 +88,8 @@ judged-fault false b k line = refl
 
 judged-count : (a b : Bool) (j k : ℕ) → judged a b j ≡ Count k → (a ≡ true) × (k ≡ j)
 judged-count true true j k p = (refl, cc)
-judged-count true false j k p = let z : _≡_ {A = ℕ} 0 1 = cc in absurd (let n : ⊥ = omega arith in n)
-judged-count false b j k p = let z : _≡_ {A = ℕ} 0 1 = cc in absurd (let n : ⊥ = omega arith in n)
+judged-count true false j k p = never (cc)
+judged-count false b j k p = never (cc)
 
 count-le : (class : ℕ → ℕ) (n d : ℕ) → ((x : ℕ) → x < d → class x < n) → countOf class d ≤ n
 count-le class n zero h = zero-le

@@ -11,6 +11,7 @@ use borrow.Author.Tests.{leb-true, le-leb, ltb-true, lt-ltb}
 use Rattle.refusals.specs.declared.Refusal.the-variants.{TableTooShort, ValueOutside}
 use Rattle.meaning.specs.Sas.{IsState}
 use Rattle.meaning.specs.Split.{Task, Valid}
+use Rattle.tables.specs.declared.Counts.{Counts}
 use Rattle.tables.specs.declared.scan.Found.{Found}
 use Rattle.tables.specs.declared.scan.Found.the-variants.{Clean}
 use Rattle.tables.specs.Layout.{Tables, domAt}
@@ -124,3 +125,6 @@ module _ (t : Tables) where
 -- what is found is settled by the contract
 pub tables-fault-unique : (t : Tables) (r r′ : Found) → r ≡ tablesFault t → r′ ≡ tablesFault t → r ≡ r′
 tables-fault-unique t r r′ p q = p ∙ sym q
+
+pub state-fault-unique : (c : Counts) (facts s : List ℕ) (r r′ : Found) → r ≡ stateFault c facts s → r′ ≡ stateFault c facts s → r ≡ r′
+state-fault-unique c facts s r r′ p q = p ∙ sym q

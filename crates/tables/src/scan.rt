@@ -11,7 +11,7 @@ ghost use Rattle.tables.specs.declared.scan.Found.the-variants.{Clean};
 ghost use Rattle.tables.specs.Layout.{rowAt, domAt, shareAt, factsRoom, costsRoom, sharesRoom};
 ghost use Rattle.tables.specs.Task.{tables, taskOf};
 ghost use Rattle.tables.specs.Scan.{unless, each, within, mapFault, sharesFault, splitFault, tablesFault, stateFault};
-ghost use Rattle.tables.specs.Parts.{lineHolds, headFault, linesFault};
+ghost use Rattle.tables.specs.Parts.{variableHolds, headFault, linesFault};
 use crate::Counts;
 use crate::classes::Classes;
 use crate::classes::classes_of;
@@ -29,15 +29,26 @@ use crate::readers::share_at;
 use meaning::OpNo;
 use refusals::Refusal;
 
-// The most that an operator costs, and that it costs in a map, in seconds.
-pub const COST_MOST: u32 = 1000000;
+// The most variables, values of a variable, operators, maps, and abstract states of a map.
+const VARS_MOST: u32 = 8;
+
+const VALUES_MOST: u32 = 8;
+
+const OPS_MOST: u32 = 64;
+
+const MAPS_MOST: u32 = 8;
+
+const STATES_MOST: u32 = 4096;
+
+// The most that an operator costs, or costs in a map, in seconds.
+const COST_MOST: u32 = 1000000;
 
 // The room for the largest task, in places.
-pub const FACTS_ROOM: usize = 1624;
+const FACTS_ROOM: usize = 1624;
 
-pub const COSTS_ROOM: usize = 64;
+const COSTS_ROOM: usize = 64;
 
-pub const SHARES_ROOM: usize = 512;
+const SHARES_ROOM: usize = 512;
 
 // What a scan finds: nothing, or the first fault.
 pub enum Found {
@@ -46,32 +57,32 @@ pub enum Found {
 }
 
 // A row of facts names a value of the variable, or nothing.
-pub fn fact_fits(facts: &[u8], row: u32, v: u32) -> bool
+fn fact_fits(facts: &[u8], row: u32, v: u32) -> bool
     ensures { λ r. ⌜ r ≡ leb (rowAt (now (facts .entry)) row v) (domAt (now (facts .entry)) v) ⌝ }
 {
     row_at(facts, row, v) <= row_at(facts, DOM_ROW, v)
 }
 
 // The variable has the value x.
-pub fn value_fits(facts: &[u8], v: u32, x: u8) -> bool
+fn value_fits(facts: &[u8], v: u32, x: u8) -> bool
     ensures { λ r. ⌜ r ≡ ltb x (domAt (now (facts .entry)) v) ⌝ }
 {
     x < row_at(facts, DOM_ROW, v)
 }
 
 // The number lies from lo to hi.
-pub fn lies_within(lo: u32, hi: u32, x: u32) -> bool
+fn lies_within(lo: u32, hi: u32, x: u32) -> bool
     ensures { λ r. ⌜ r ≡ within lo hi x ⌝ }
 {
     if lo <= x { x <= hi } else { false }
 }
 
 // What line 3, 4 or 5 asks of a variable: 1 to 8 values; an initial value, and a value in the goal, that are among them.
-pub fn line_holds(facts: &[u8], line: u32, v: u32) -> bool
-    ensures { λ r. ⌜ r ≡ lineHolds (now (facts .entry)) line v ⌝ }
+fn variable_holds(facts: &[u8], line: u32, v: u32) -> bool
+    ensures { λ r. ⌜ r ≡ variableHolds (now (facts .entry)) line v ⌝ }
 {
     if line == 3 {
-        return lies_within(1, 8, word_of(facts, DOM_ROW, v));
+        return lies_within(1, VALUES_MOST, word_of(facts, DOM_ROW, v));
     }
     if line == 4 {
         return value_fits(facts, v, row_at(facts, INIT_ROW, v));
@@ -80,12 +91,12 @@ pub fn line_holds(facts: &[u8], line: u32, v: u32) -> bool
 }
 
 // Line 3, 4 or 5, from variable to variable.
-pub fn line_fault(vars: u32, facts: &[u8], line: u32) -> Found
-    ensures { λ r. ⌜ r ≡ each (λ v. unless (lineHolds (now (facts .entry)) line v) (OutOfRange line)) vars 0 ⌝ }
+fn variables_fault(vars: u32, facts: &[u8], line: u32) -> Found
+    ensures { λ r. ⌜ r ≡ each (λ v. unless (variableHolds (now (facts .entry)) line v) (OutOfRange line)) vars 0 ⌝ }
 {
     let mut v = 0;
     while v < vars {
-        if !line_holds(facts, line, v) {
+        if !variable_holds(facts, line, v) {
             return Found::Fault(Refusal::OutOfRange(line));
         }
         v += 1;
@@ -94,32 +105,32 @@ pub fn line_fault(vars: u32, facts: &[u8], line: u32) -> Found
 }
 
 // Lines 2 to 6: the counts of variables and operators, and what is said of the variables.
-pub fn head_fault(c: Counts, facts: &[u8]) -> Found
+fn head_fault(c: Counts, facts: &[u8]) -> Found
     ensures { λ r. ⌜ r ≡ headFault (taskOf (tables c (now (facts .entry)) [] [])) ⌝ }
 {
-    if !lies_within(1, 8, c.vars) {
+    if !lies_within(1, VARS_MOST, c.vars) {
         return Found::Fault(Refusal::OutOfRange(2));
     }
-    let doms = line_fault(c.vars, facts, 3);
+    let doms = variables_fault(c.vars, facts, 3);
     let Found::Clean = doms else {
         return doms;
     };
-    let init = line_fault(c.vars, facts, 4);
+    let init = variables_fault(c.vars, facts, 4);
     let Found::Clean = init else {
         return init;
     };
-    let goal = line_fault(c.vars, facts, 5);
+    let goal = variables_fault(c.vars, facts, 5);
     let Found::Clean = goal else {
         return goal;
     };
-    if 64 < c.ops {
+    if OPS_MOST < c.ops {
         return Found::Fault(Refusal::OutOfRange(6));
     }
     Found::Clean
 }
 
 // The line of a map: its variables' classes, and at its end not too many abstract states.
-pub fn map_fault(c: Counts, facts: &[u8], m: u32) -> Found
+fn map_fault(c: Counts, facts: &[u8], m: u32) -> Found
     requires { ⌜ (headFault (taskOf (tables c (now facts) [] [])) ≡ Clean) × (m < 8) ⌝ }
     ensures { λ r. ⌜ r ≡ mapFault (taskOf (tables c (now (facts .entry)) [] [])) m ⌝ }
 {
@@ -136,14 +147,14 @@ pub fn map_fault(c: Counts, facts: &[u8], m: u32) -> Found
         }
         v += 1;
     }
-    if 4096 < states {
+    if STATES_MOST < states {
         return Found::Fault(Refusal::TooManyStates(line));
     }
     Found::Clean
 }
 
 // Line 7 to the line of the last map: the walks over operators, facts and maps are left at once with the first fault.
-pub fn lines_fault(c: Counts, facts: &[u8], costs: &[u32]) -> Found
+fn lines_fault(c: Counts, facts: &[u8], costs: &[u32]) -> Found
     requires { ⌜ headFault (taskOf (tables c (now facts) [] [])) ≡ Clean ⌝ }
     ensures { λ r. ⌜ r ≡ linesFault (taskOf (tables c (now (facts .entry)) (now (costs .entry)) [])) ⌝ }
 {
@@ -172,7 +183,7 @@ pub fn lines_fault(c: Counts, facts: &[u8], costs: &[u32]) -> Found
             }
             o += 1;
         }
-        if !lies_within(1, 8, maps) {
+        if !lies_within(1, MAPS_MOST, maps) {
             break Found::Fault(Refusal::OutOfRange(7 + ops));
         }
         let mut m = 0;
@@ -189,7 +200,7 @@ pub fn lines_fault(c: Counts, facts: &[u8], costs: &[u32]) -> Found
 }
 
 // The lines of the shares: the walk over maps and operators is left at once with the first fault.
-pub fn shares_fault(c: Counts, shares: &[u32]) -> Found
+fn shares_fault(c: Counts, shares: &[u32]) -> Found
     requires { ⌜ (c .ops ≤ 64) × (c .maps ≤ 8) ⌝ }
     ensures { λ r. ⌜ r ≡ each (sharesFault (taskOf (tables c [] [] (now (shares .entry))))) (c .maps) 0 ⌝ }
 {
@@ -210,7 +221,7 @@ pub fn shares_fault(c: Counts, shares: &[u32]) -> Found
 }
 
 // What the maps charge for an operator in all.
-pub fn share_total(maps: u32, shares: &[u32], o: OpNo) -> u64
+fn share_total(maps: u32, shares: &[u32], o: OpNo) -> u64
     ensures { λ r. ⌜ r ≡ sum (λ m. shareAt (now (shares .entry)) m (o .0)) maps ⌝ }
 {
     let mut total = 0u64;
@@ -223,7 +234,7 @@ pub fn share_total(maps: u32, shares: &[u32], o: OpNo) -> u64
 }
 
 // The split, after all else: an operator's shares total at most its cost.
-pub fn split_fault(c: Counts, costs: &[u32], shares: &[u32]) -> Found
+fn split_fault(c: Counts, costs: &[u32], shares: &[u32]) -> Found
     requires { ⌜ c .ops ≤ 64 ⌝ }
     ensures { λ r. ⌜ r ≡ each (splitFault (taskOf (tables c [] (now (costs .entry)) (now (shares .entry))))) (c .ops) 0 ⌝ }
 {
@@ -241,7 +252,7 @@ pub fn split_fault(c: Counts, costs: &[u32], shares: &[u32]) -> Found
 }
 
 // The lent tables have room for the largest task.
-pub fn has_room(facts: &[u8], costs: &[u32], shares: &[u32]) -> bool
+fn has_room(facts: &[u8], costs: &[u32], shares: &[u32]) -> bool
     ensures { λ r. ⌜ r ≡ (leb factsRoom (length (now (facts .entry))) && leb costsRoom (length (now (costs .entry))) && leb sharesRoom (length (now (shares .entry)))) ⌝ }
 {
     if facts.len() < FACTS_ROOM {

@@ -17,8 +17,8 @@ returns c =
     let if1 = c .if1 in
     sym (rw (sym (lies-within .ensures) ∙ not-true (lies-within .result) (if1 .taken)))
 
-line-fault-requires : tie.Need-line-fault-requires
-line-fault-requires c κs = search needs
+variables-fault-requires : tie.Need-variables-fault-requires
+variables-fault-requires c κs = search needs
 
 enum-told : tie.Need-enum-told
 enum-told c = search needs
@@ -31,13 +31,13 @@ unfolding headFault factsFault
 returns-2 c =
     let lies-within = c .before .before .before .before .lies-within in
     let if1 = c .before .before .before .if1 in
-    let line-fault = c .before .before .line-fault in
+    let variables-fault = c .before .before .variables-fault in
     let enum-told2 = c .enum-told2 in
     let few = sym (lies-within .ensures) ∙ not-false (lies-within .result) (if1 .left) in
-    sym (rw (few, sym (line-fault .ensures) ∙ enum-told2 .given .1) (sym (enum-told2 .given .1)))
+    sym (rw (few, sym (variables-fault .ensures) ∙ enum-told2 .given .1) (sym (enum-told2 .given .1)))
 
-line-fault-requires-2 : tie.Need-line-fault-requires-2
-line-fault-requires-2 c κs = search needs
+variables-fault-requires-2 : tie.Need-variables-fault-requires-2
+variables-fault-requires-2 c κs = search needs
 
 enum-told-3 : tie.Need-enum-told-3
 enum-told-3 c = search needs
@@ -50,16 +50,16 @@ unfolding headFault factsFault
 returns-3 c =
     let lies-within = c .before .before .before .before .before .before .before .lies-within in
     let if1 = c .before .before .before .before .before .before .if1 in
-    let line-fault = c .before .before .before .before .before .line-fault in
+    let variables-fault = c .before .before .before .before .before .variables-fault in
     let enum-told = c .before .before .before .enum-told in
-    let line-fault2 = c .before .before .line-fault2 in
+    let variables-fault2 = c .before .before .variables-fault2 in
     let enum-told4 = c .enum-told4 in
     let few = sym (lies-within .ensures) ∙ not-false (lies-within .result) (if1 .left) in
-    let doms = sym (line-fault .ensures) ∙ enum-told .given .1 in
-    sym (rw (few, doms, sym (line-fault2 .ensures) ∙ enum-told4 .given .1) (sym (enum-told4 .given .1)))
+    let doms = sym (variables-fault .ensures) ∙ enum-told .given .1 in
+    sym (rw (few, doms, sym (variables-fault2 .ensures) ∙ enum-told4 .given .1) (sym (enum-told4 .given .1)))
 
-line-fault-requires-3 : tie.Need-line-fault-requires-3
-line-fault-requires-3 c κs = search needs
+variables-fault-requires-3 : tie.Need-variables-fault-requires-3
+variables-fault-requires-3 c κs = search needs
 
 enum-told-5 : tie.Need-enum-told-5
 enum-told-5 c = search needs
@@ -72,34 +72,34 @@ unfolding headFault factsFault
 returns-4 c =
     let lies-within = c .before .before .before .before .before .before .before .before .before .before .lies-within in
     let if1 = c .before .before .before .before .before .before .before .before .before .if1 in
-    let line-fault = c .before .before .before .before .before .before .before .before .line-fault in
+    let variables-fault = c .before .before .before .before .before .before .before .before .variables-fault in
     let enum-told = c .before .before .before .before .before .before .enum-told in
-    let line-fault2 = c .before .before .before .before .before .line-fault2 in
+    let variables-fault2 = c .before .before .before .before .before .variables-fault2 in
     let enum-told3 = c .before .before .before .enum-told3 in
-    let line-fault3 = c .before .before .line-fault3 in
+    let variables-fault3 = c .before .before .variables-fault3 in
     let enum-told6 = c .enum-told6 in
     let few = sym (lies-within .ensures) ∙ not-false (lies-within .result) (if1 .left) in
-    let doms = sym (line-fault .ensures) ∙ enum-told .given .1 in
-    let inits = sym (line-fault2 .ensures) ∙ enum-told3 .given .1 in
-    sym (rw (few, doms, inits, sym (line-fault3 .ensures) ∙ enum-told6 .given .1) (sym (enum-told6 .given .1)))
+    let doms = sym (variables-fault .ensures) ∙ enum-told .given .1 in
+    let inits = sym (variables-fault2 .ensures) ∙ enum-told3 .given .1 in
+    sym (rw (few, doms, inits, sym (variables-fault3 .ensures) ∙ enum-told6 .given .1) (sym (enum-told6 .given .1)))
 
 returns-5 : tie.Need-returns-5
 unfolding headFault factsFault
 returns-5 c =
     let lies-within = c .before .before .before .before .before .before .before .before .before .before .before .before .lies-within in
     let if1 = c .before .before .before .before .before .before .before .before .before .before .before .if1 in
-    let line-fault = c .before .before .before .before .before .before .before .before .before .before .line-fault in
+    let variables-fault = c .before .before .before .before .before .before .before .before .before .before .variables-fault in
     let enum-told = c .before .before .before .before .before .before .before .before .enum-told in
-    let line-fault2 = c .before .before .before .before .before .before .before .line-fault2 in
+    let variables-fault2 = c .before .before .before .before .before .before .before .variables-fault2 in
     let enum-told3 = c .before .before .before .before .before .enum-told3 in
-    let line-fault3 = c .before .before .before .before .line-fault3 in
+    let variables-fault3 = c .before .before .before .before .variables-fault3 in
     let enum-told5 = c .before .before .enum-told5 in
     let args = c .before .before .before .before .before .before .before .before .before .before .before .before .before .before .args in
     let if2 = c .if2 in
     let few = sym (lies-within .ensures) ∙ not-false (lies-within .result) (if1 .left) in
-    let doms = sym (line-fault .ensures) ∙ enum-told .given .1 in
-    let inits = sym (line-fault2 .ensures) ∙ enum-told3 .given .1 in
-    let goals = sym (line-fault3 .ensures) ∙ enum-told5 .given .1 in
+    let doms = sym (variables-fault .ensures) ∙ enum-told .given .1 in
+    let inits = sym (variables-fault2 .ensures) ∙ enum-told3 .given .1 in
+    let goals = sym (variables-fault3 .ensures) ∙ enum-told5 .given .1 in
     sym (rw (few, doms, inits, goals, lt-leb (args .c .ops) 64 (if2 .taken)))
 
 returns-6 : tie.Need-returns-6
@@ -107,18 +107,18 @@ unfolding headFault factsFault
 returns-6 c =
     let lies-within = c .before .before .before .before .before .before .before .before .before .before .before .before .lies-within in
     let if1 = c .before .before .before .before .before .before .before .before .before .before .before .if1 in
-    let line-fault = c .before .before .before .before .before .before .before .before .before .before .line-fault in
+    let variables-fault = c .before .before .before .before .before .before .before .before .before .before .variables-fault in
     let enum-told = c .before .before .before .before .before .before .before .before .enum-told in
-    let line-fault2 = c .before .before .before .before .before .before .before .line-fault2 in
+    let variables-fault2 = c .before .before .before .before .before .before .before .variables-fault2 in
     let enum-told3 = c .before .before .before .before .before .enum-told3 in
-    let line-fault3 = c .before .before .before .before .line-fault3 in
+    let variables-fault3 = c .before .before .before .before .variables-fault3 in
     let enum-told5 = c .before .before .enum-told5 in
     let args = c .before .before .before .before .before .before .before .before .before .before .before .before .before .before .args in
     let if2 = c .if2 in
     let few = sym (lies-within .ensures) ∙ not-false (lies-within .result) (if1 .left) in
-    let doms = sym (line-fault .ensures) ∙ enum-told .given .1 in
-    let inits = sym (line-fault2 .ensures) ∙ enum-told3 .given .1 in
-    let goals = sym (line-fault3 .ensures) ∙ enum-told5 .given .1 in
+    let doms = sym (variables-fault .ensures) ∙ enum-told .given .1 in
+    let inits = sym (variables-fault2 .ensures) ∙ enum-told3 .given .1 in
+    let goals = sym (variables-fault3 .ensures) ∙ enum-told5 .given .1 in
     sym (rw (few, doms, inits, goals, le-leb (args .c .ops) 64 (if2 .left)))
 
 pub head-fault-spec : {M : Type 1} → statement M
@@ -127,15 +127,15 @@ head-fault-spec =
     (tie.spec
     lies-within-requires
     returns
-    line-fault-requires
+    variables-fault-requires
     enum-told
     enum-told-2
     returns-2
-    line-fault-requires-2
+    variables-fault-requires-2
     enum-told-3
     enum-told-4
     returns-3
-    line-fault-requires-3
+    variables-fault-requires-3
     enum-told-5
     enum-told-6
     returns-4

@@ -1,4 +1,4 @@
--- `scan::line_holds` meets its contract. Assumes nothing.
+-- `scan::variable_holds` meets its contract. Assumes nothing.
 use mathlib.Core.Path.{ap, _∙_}
 use Prim.Native.Nat.{ℕ}
 use lib.Dec.{ltb}
@@ -6,8 +6,8 @@ use borrow.Author.Needs.{needs}
 use borrow.Author.Tests.{eq-eqb, ne-eqb}
 use Rattle.tables.specs.Layout.{domAt}
 use Rattle.tables.specs.Scan.{within}
-use Rattle.tables.proofs.scan.line_holds.Statement.{statement}
-use Rattle.tables.proofs.scan.line_holds.Tie as tie
+use Rattle.tables.proofs.scan.variable_holds.Statement.{statement}
+use Rattle.tables.proofs.scan.variable_holds.Tie as tie
 
 word-of-requires : tie.Need-word-of-requires
 word-of-requires c κs = search needs
@@ -49,8 +49,8 @@ returns-3 c =
     let fact-fits = c .fact-fits in
     rw (ne-eqb (args .line) 3 (if1 .left), ne-eqb (args .line) 4 (if2 .left)) (fact-fits .ensures)
 
-pub line-holds-spec : {M : Type 1} → statement M
-line-holds-spec =
+pub variable-holds-spec : {M : Type 1} → statement M
+variable-holds-spec =
     tie.close
     (tie.spec
     word-of-requires
