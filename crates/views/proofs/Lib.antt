@@ -1,0 +1,5 @@
+pub mod Saids
+pub mod Makes
+pub mod Walking
+pub mod Sweeping
+pub mod Rounding

@@ -1,0 +1,3 @@
+// Goal distances in simplified views, and the summed bound of a state.
+pub mod sweep;
+pub mod walk;
