@@ -2,13 +2,15 @@
 -- Assumes nothing.
 use mathlib.Core.Path.{_≡_, refl, sym, ap, ap₂, _∙_, subst}
 use mathlib.Core.Logic.{⊎-elim}
+use mathlib.Core.Bool.{Bool, true, false}
 use mathlib.Core.List.{List, []}
 use Prim.Native.Nat.{ℕ, zero, suc, _+_, _*_, _/_, _%_, _≤_, _<_}
 use native.Mathlib.Nat.{le-refl, le-of-suc-le-suc, eq-or-lt-of-le, mul-le-mul-right, div-one, div-div-eq-div-mul}
 use native.Mathlib.Numerals.{add-one}
 use native.Mathlib.Omega.{arith}
 use lib.ListN.{getD}
-use Rattle.graph.specs.Graph.{to, Closed}
+use Rattle.graph.specs.Graph.{Next, stop, to, Closed}
+use Rattle.graph.specs.Least.{afterStep}
 use Rattle.meaning.specs.Numbering.{size, number, digit, Positive, Digits}
 use Rattle.meaning.specs.Sas.{put, after}
 use Rattle.meaning.specs.Views.{complies, toIf}
@@ -20,7 +22,10 @@ use Rattle.tables.specs.Layout.{domAt, effAt, effRow}
 use Rattle.tables.specs.Task.{sasOf, tables, stateOf}
 use Rattle.tables.specs.Steps.{mayRun, meetsGoal, valueAfter}
 use Rattle.tables.proofs.Meant.{may-run-is, meets-goal-is}
-use Rattle.views.specs.Walks.{spaceOf, Walkable, Spells, stepOf}
+use Rattle.views.specs.Said.{NONE, said, read}
+use Rattle.views.specs.Walks.{spaceOf, Walkable, Spells, numberAfter, stepOf}
+use Rattle.views.specs.Sweeps.{Priced, Within}
+use Rattle.views.proofs.Saids.{beyond-within}
 
 -- a stride is at most a later one
 pub size-le : (K : ℕ → ℕ) (v n : ℕ) → v ≤ n → Positive K n → size K v ≤ size K n
@@ -79,6 +84,16 @@ module _ (K D : ℕ → ℕ) (n : ℕ) where
 
 -- ---- the step
 
+module _ (c : Counts) (facts s : List ℕ) (o : ℕ) (may : Bool) (is : may ≡ mayRun c facts s o) where
+  -- it leads on where the operator may run, and only there
+  pub step-runs : (row b : ℕ) → may ≡ true → row ≡ effRow o → b ≡ numberAfter (c .vars) facts row s → to b ≡ stepOf c facts s o
+  unfolding stepOf
+  step-runs row b e r n = rw (sym is ∙ e, n, r) refl
+
+  pub step-stops : may ≡ false → stop ≡ stepOf c facts s o
+  unfolding stepOf
+  step-stops e = rw (sym is ∙ e) refl
+
 module _ (c : Counts) (facts prices : List ℕ) where
   -- from the digits of a state, the computed step is the state space's; and so is the goal
   pub step-is : (a o : ℕ) (s : List ℕ) → Spells (c .vars) facts a s → stepOf c facts s o ≡ spaceOf c facts prices .succ o a
@@ -114,3 +129,12 @@ module _ (c : Counts) (facts prices : List ℕ) where
 
     pub walkable-some : 1 ≤ spaceOf c facts prices .states
     walkable-some = size-pos (domAt facts) (c .vars) (W .values)
+
+    -- a price more than what a table says of where the step leads still fits
+    pub relax-fits : (old s : List ℕ) (a o k v : ℕ) (next : Next) → Priced c prices → a < size (domAt facts) (c .vars) → o < c .ops
+        → Within (size (domAt facts) (c .vars)) old → Spells (c .vars) facts a s → next ≡ stepOf c facts s o → k ≡ getD prices o 0
+        → said v ≡ afterStep (read old) next → v < NONE → k + v < NONE
+    relax-fits old s a o k v next P la lo h sp n e d l =
+        let q : next ≡ spaceOf c facts prices .succ o a = n ∙ step-is a o s sp in
+        omega
+        (arith, P o lo, beyond-within (size (domAt facts) (c .vars)) old next v h (λ b g. walkable-closed o a b lo la (sym q ∙ g)) d l)
