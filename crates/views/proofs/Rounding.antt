@@ -14,9 +14,12 @@ use Rattle.graph.proofs.Leasts.{least-zero, least-suc}
 use Rattle.graph.proofs.Settles.{best-same}
 use Rattle.graph.proofs.Rounded.{settled-at}
 use Rattle.graph.proofs.Sizes.{least-most}
+use Rattle.tables.specs.declared.Counts.{Counts}
 use Rattle.views.specs.Said.{said, read}
-use Rattle.views.specs.Sweeps.{Within, Filled, Copied, Swept, Held, Counted}
+use Rattle.views.specs.Walks.{spaceOf, Walkable}
+use Rattle.views.specs.Sweeps.{Priced, Within, Filled, Copied, Swept, Held, Counted}
 use Rattle.views.proofs.Saids.{said-lt, said-inj}
+use Rattle.views.proofs.Walking.{walkable-closed, walkable-some}
 
 -- a graph with few states and small costs whose steps stay inside
 pub record Good (G : Graph) : Type 0 where
@@ -24,6 +27,10 @@ pub record Good (G : Graph) : Type 0 where
   pub few : G .states ≤ 4096
   pub closed : Closed G
   pub small : (o : ℕ) → o < G .ops → G .cost o ≤ 1000000
+
+pub walkable-good : (c : Counts) (facts prices : List ℕ) → Walkable c facts → Priced c prices → Good (spaceOf c facts prices)
+walkable-good c facts prices W P =
+    record { some = walkable-some c facts prices W; few = W .few; closed = walkable-closed c facts prices W; small = P }
 
 -- what the tables hold after r rounds, all of which changed something; t₀ and w₀ are the tables where the rounds begin
 pub record Turn (G : Graph) (t₀ w₀ t w : List ℕ) (r : ℕ) : Type 0 where
@@ -38,8 +45,14 @@ module _ (G : Graph) (good : Good G) where
       omega
       (arith, good .few, least-most G 1000000 (good .small) r a (getD t a 0) (sym (h .made a k) ∙ said-lt (getD t a 0) s))
 
-  pub turn-none : (t₀ t w : List ℕ) → Filled (G .states) G t₀ t → Turn G t w t w 0
-  turn-none t₀ t w f =
+-- n is the number of states
+module _ (G : Graph) (good : Good G) (n : ℕ) (is : n ≡ G .states) where
+  pub turn-within : (t₀ w₀ t w : List ℕ) (r : ℕ) → Turn G t₀ w₀ t w r → Within n t
+  turn-within t₀ w₀ t w r turn = rw is (held-within G good t₀ t r (turn .less) (turn .table))
+
+  pub turn-none : (t₀ t w : List ℕ) → Filled n G t₀ t → Turn G t w t w 0
+  turn-none t₀ t w filled =
+      let f : Filled (G .states) G t₀ t = subst (λ (k : ℕ). Filled k G t₀ t) is filled in
       record {
         less = good .some;
         table = record { size = refl; made = λ a l. f .made a l ∙ sym (least-zero G a); kept = λ a l. refl };
@@ -47,7 +60,10 @@ module _ (G : Graph) (good : Good G) where
         first = λ i p l. absurd (not-suc-le-zero (let z : 1 ≤ 0 = omega arith in z));
       }
 
-  module _ (t₀ w₀ t w w′ : List ℕ) (r : ℕ) (changed : Bool) (turn : Turn G t₀ w₀ t w r) (sw : Swept (G .states) G t w w′ changed) where
+  module _ (t₀ w₀ t w w′ : List ℕ) (r : ℕ) (changed : Bool) (turn : Turn G t₀ w₀ t w r) (swept : Swept n G t w w′ changed) where
+    sw : Swept (G .states) G t w w′ changed
+    sw = subst (λ (k : ℕ). Swept k G t w w′ changed) is swept
+
     next-made : (a : ℕ) → a < G .states → read w′ a ≡ least G (r + 1) a
     next-made a l =
         rw add-one
@@ -66,8 +82,9 @@ module _ (G : Graph) (good : Good G) where
         (λ a l. said-inj (getD w′ a 0) (getD t a 0) (next-made a l ∙ (rw back at (s a l)) ∙ sym (turn .table .made a l)))
 
     -- the last round
-    pub ends : (u₀ : List ℕ) → Filled (G .states) G u₀ t₀ → changed ≡ false → Counted G u₀ t (r + 1)
-    ends u₀ f e =
+    pub ends : (u₀ : List ℕ) → Filled n G u₀ t₀ → changed ≡ false → Counted G u₀ t (r + 1)
+    ends u₀ filled e =
+        let f : Filled (G .states) G u₀ t₀ = subst (λ (k : ℕ). Filled k G u₀ t₀) is filled in
         record {
           rounds = record { positive = omega arith; unchanged = so-unchanged e; smallest = λ i p l. turn .first i p (omega arith) };
           table =
@@ -96,8 +113,9 @@ module _ (G : Graph) (good : Good G) where
             (settled-at G (good .closed) (G .states) (good .some) (le-refl (G .states))))
 
     -- any other round
-    pub goes-on : (t′ : List ℕ) → Copied (G .states) w′ t t′ → changed ≡ true → Turn G t₀ w₀ t′ w′ (r + 1)
-    goes-on t′ cp e =
+    pub goes-on : (t′ : List ℕ) → Copied n w′ t t′ → changed ≡ true → Turn G t₀ w₀ t′ w′ (r + 1)
+    goes-on t′ copied e =
+        let cp : Copied (G .states) w′ t t′ = subst (λ (k : ℕ). Copied k w′ t t′) is copied in
         record {
           less = less-more e;
           table =

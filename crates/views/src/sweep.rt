@@ -63,7 +63,11 @@ fn cell(c: Counts, facts: &[u8], prices: &[u32], old: &[u32], a: StateNo) -> u32
     let mut least = start(meets_goal(c, facts, &s));
     let mut o = 0u32;
     while o < ops {
-        least = relax(least, cost_at(prices, OpNo(o)), beyond(old, step_from(c, facts, &s, OpNo(o))));
+        least = relax(
+            least,
+            cost_at(prices, OpNo(o)),
+            beyond(old, step_from(c, facts, &s, OpNo(o))),
+        );
         o += 1;
     }
     least
@@ -114,7 +118,14 @@ fn copy(n: u32, from: &[u32], to: &mut [u32])
 }
 
 // The count of rounds: the first that changes nothing; `t` holds the distances then. `w` is a table to work in.
-pub fn count_rounds(c: Counts, facts: &[u8], prices: &[u32], n: u32, t: &mut [u32], w: &mut [u32]) -> u32
+pub fn count_rounds(
+    c: Counts,
+    facts: &[u8],
+    prices: &[u32],
+    n: u32,
+    t: &mut [u32],
+    w: &mut [u32],
+) -> u32
     requires { ⌜ Walkable c (now facts) × Priced c (now prices) × (n ≡ size (domAt (now facts)) (c .vars)) ⌝ }
     requires { ⌜ (n ≤ length (now t)) × (n ≤ length (now w)) ⌝ }
     ensures { λ r. ⌜ Counted (spaceOf c (now (facts .entry)) (now (prices .entry))) (now (t .entry)) (now (t .exit)) r ⌝ }

@@ -12,7 +12,7 @@ use Rattle.views.proofs.sweep.cell.Statement.{statement}
 use Rattle.views.proofs.sweep.cell.Tie as tie
 
 abbrev Inv-loop : tie.InvT-loop
-Inv-loop c facts prices old s ops least₀ o₀ least o = 
+Inv-loop c facts prices old s ops least₀ o₀ least o =
     (o ≤ ops) × ((a : ℕ) → Spells (c .vars) facts a s → said least ≡ best (spaceOf c facts prices) (read old) a o)
 
 abbrev μ-loop : tie.MeasureT-loop
@@ -65,8 +65,7 @@ loop-again : tie.Need-loop-again Inv-loop μ-loop
 loop-again c =
     let x = c .before .before .before .before .before .before .before .before .before .before .before .before .before .before .args in
     let l = c .before .before .before .before .before .before .loop in
-    let s = c .before .before .before .before .before .before .before .before .before .before .digits .result in
-    (
+    let s = c .before .before .before .before .before .before .before .before .before .before .digits .result in (
       omega (arith, c .before .before .before .before .before .loop-test .taken),
       λ a h.
           cell-more (spaceOf (x .c) (x .facts .now) (x .prices .now)) (x .old .now) a (l .o) (l .least) (c .before .before .before .before .cost-at .result) (c .before .beyond .result) (c .relax .result)

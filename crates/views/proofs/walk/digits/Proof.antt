@@ -14,7 +14,7 @@ use Rattle.views.proofs.walk.digits.Statement.{statement}
 use Rattle.views.proofs.walk.digits.Tie as tie
 
 abbrev Inv-loop : tie.InvT-loop
-Inv-loop vars facts s₀ rest₀ v₀ s rest v = 
+Inv-loop vars facts s₀ rest₀ v₀ s rest v =
     (v ≤ vars) × (length s ≡ 8) × (rest ≡ rest₀ / size (domAt facts) v) × Made (λ u x. x ≡ digit (domAt facts) rest₀ u) v s₀ s
 
 abbrev μ-loop : tie.MeasureT-loop
@@ -56,9 +56,12 @@ loop-again : tie.Need-loop-again Inv-loop μ-loop
 loop-again c =
     let l = c .before .before .before .loop in
     let K = domAt (c .before .before .before .before .before .args .facts .now) in
-    let k = c .wide .ensures .0 ∙ c .before .row-at .ensures in
-    (search needs, search needs, rest-more K (c .before .before .before .before .before .args .a .0) (l .v) (l .rest) (c .wide .result) (l .inv .2) k,
-    made-more _ _ (l .v) _ (l .s) (omega (arith, l .inv .1, c .before .before .before .before .before .pre .0)) (l .inv .3) (rest-digit K (c .before .before .before .before .before .args .a .0) (l .v) (l .rest) (c .wide .result) (l .inv .2) k))
+    let k = c .wide .ensures .0 ∙ c .before .row-at .ensures in (
+      search needs,
+      search needs,
+      rest-more K (c .before .before .before .before .before .args .a .0) (l .v) (l .rest) (c .wide .result) (l .inv .2) k,
+      made-more _ _ (l .v) _ (l .s) (omega (arith, l .inv .1, c .before .before .before .before .before .pre .0)) (l .inv .3) (rest-digit K (c .before .before .before .before .before .args .a .0) (l .v) (l .rest) (c .wide .result) (l .inv .2) k),
+    )
 
 returns : tie.Need-returns Inv-loop μ-loop
 returns c =

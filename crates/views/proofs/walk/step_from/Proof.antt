@@ -21,8 +21,7 @@ eff-row-requires c κs = omega (arith, c .before .before .before .before .pre .1
 number-after-requires : tie.Need-number-after-requires
 number-after-requires c κs =
     let a = c .before .before .before .before .before .args in
-    let p = c .before .before .before .before .before .pre in
-    (
+    let p = c .before .before .before .before .before .pre in (
       (p .0 .values, p .0 .few),
       subst (λ (r : ℕ). Digits (domAt (a .facts .now)) (valueAfter (a .facts .now) r (a .s .now)) (a .c .vars)) (sym (c .eff-row .ensures))
           (after-digits (a .c) (a .facts .now) [] (p .0) (a .o .0) (stateOf (a .s .now)) (p .1) (p .2)),
