@@ -3,3 +3,4 @@ pub mod Makes
 pub mod Walking
 pub mod Sweeping
 pub mod Rounding
+pub mod Classing

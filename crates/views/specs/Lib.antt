@@ -1,3 +1,4 @@
 pub mod Said
 pub mod Walks
 pub mod Sweeps
+pub mod Classes

@@ -1,3 +1,4 @@
 // Goal distances in simplified views, and the summed bound of a state.
+pub mod classes;
 pub mod sweep;
 pub mod walk;
