@@ -4,3 +4,5 @@ pub mod Walking
 pub mod Sweeping
 pub mod Rounding
 pub mod Classing
+pub mod Alike
+pub mod Viewing

@@ -8,7 +8,7 @@ use Rattle.meaning.specs.Sas.{State}
 use Rattle.meaning.specs.Views.{View, α, seen, viewGraph}
 use Rattle.meaning.specs.Split.{Task, countOf}
 use Rattle.tables.specs.declared.Counts.{Counts}
-use Rattle.tables.specs.Layout.{rowAt, domAt, classAt, costAt}
+use Rattle.tables.specs.Layout.{rowAt, domAt, classAt, costAt, shareAt}
 use Rattle.tables.specs.Task.{sasOf, taskOf, tables}
 
 -- the task of the tables, whatever it costs
@@ -22,6 +22,10 @@ viewOf facts m prices =
 
 abbrev pub viewGraphOf : Counts → List ℕ → ℕ → List ℕ → Graph
 viewGraphOf c facts m prices = viewGraph (sasOf (tables c facts [] [])) (viewOf facts m prices)
+
+-- map m's shares are at most 1,000,000
+abbrev pub SharesSmall : Counts → List ℕ → ℕ → Type 0
+SharesSmall c shares m = (o : ℕ) → o < c .ops → shareAt shares m o ≤ 1000000
 
 -- the number of a state's image in map m
 abbrev pub imageOf : Counts → List ℕ → ℕ → State → ℕ

@@ -1,4 +1,5 @@
 // Goal distances in simplified views, and the summed bound of a state.
 pub mod classes;
+pub mod maps;
 pub mod sweep;
 pub mod walk;
