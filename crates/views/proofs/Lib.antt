@@ -6,3 +6,4 @@ pub mod Rounding
 pub mod Classing
 pub mod Alike
 pub mod Viewing
+pub mod Summing

@@ -2,3 +2,4 @@ pub mod Said
 pub mod Walks
 pub mod Sweeps
 pub mod Classes
+pub mod Sums
