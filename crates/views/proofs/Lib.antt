@@ -7,3 +7,4 @@ pub mod Classing
 pub mod Alike
 pub mod Viewing
 pub mod Summing
+pub mod Answers

@@ -1,7 +1,7 @@
 -- The task of a map's classes spells the map's view: what is walked there are the view's least costs and rounds. Assumes nothing.
 use mathlib.Core.Path.{_≡_, refl, sym, ap, _∙_, subst}
 use mathlib.Core.List.{List, []}
-use Prim.Native.Nat.{ℕ, _+_, _-_, _≤_, _<_}
+use Prim.Native.Nat.{ℕ, _-_, _≤_, _<_, zero-le}
 use native.Mathlib.Omega.{arith}
 use lib.ListN.{getD}
 use Rattle.meaning.specs.Sas.{IsState}
@@ -10,6 +10,7 @@ use Rattle.meaning.specs.Split.{countOf, view, Valid}
 use Rattle.meaning.specs.Bound.{distance, away}
 use Rattle.meaning.proofs.Induced.{seen-below, α-below}
 use Rattle.meaning.proofs.Distances.{round-distance}
+use Rattle.meaning.proofs.Sums.{sum-zero}
 use Rattle.meaning.proofs.Bounds.{view-onto}
 use Rattle.tables.specs.declared.Counts.{Counts}
 use Rattle.tables.specs.Layout.{rowAt, domAt, goalAt, preAt, effAt, goalRow, preRow, effRow, classAt, shareAt}
@@ -90,3 +91,21 @@ module _ (c : Counts) (facts shares : List ℕ) (m : ℕ) (ok : Valid (unpriced 
       let i = imageOf c facts m (stateOf s) in
       ap (read t) e ∙ D .table .made i (image-below s h)
       ∙ round-distance (unpriced c facts .sas) (view T m) (ok .proper) shared-onto r (D .rounds) i (image-below s h)
+
+-- an accepted task is accepted whatever it costs
+pub valid-unpriced : (c : Counts) (facts costs shares : List ℕ) → Valid (taskOf (tables c facts costs shares)) → Valid (unpriced c facts)
+valid-unpriced c facts costs shares ok =
+    let P = ok .proper in
+    record {
+      vars = ok .vars;
+      values = ok .values;
+      proper = record { values = P .values; init = P .init; goal = P .goal; pre = P .pre; eff = P .eff };
+      ops = ok .ops;
+      costs = λ o l. zero-le;
+      maps = ok .maps;
+      classes = ok .classes;
+      none-missing = ok .none-missing;
+      few-states = ok .few-states;
+      shares = λ m o lm lo. zero-le;
+      split = λ o l. omega (arith, sum-zero (c .maps));
+    }

@@ -3,3 +3,4 @@ pub mod Walks
 pub mod Sweeps
 pub mod Classes
 pub mod Sums
+pub mod Entries
