@@ -18,7 +18,7 @@ use Rattle.tables.specs.Task.{stateOf}
 use Rattle.views.specs.Walks.{Walkable}
 use Rattle.views.specs.Sweeps.{Made}
 use Rattle.views.specs.Classes.{unpriced, viewOf, SeenAt, Classed}
-use Rattle.views.proofs.Walking.{size-le}
+use Rattle.views.proofs.Walking.{size-le, Numbered, numbered-next}
 
 -- ---- a fact seen by classes
 
@@ -90,3 +90,15 @@ module _ (c : Counts) (facts : List ℕ) (m : ℕ) (ok : Valid (unpriced c facts
   pub image-digits : (s : List ℕ) → IsState (unpriced c facts .sas) (stateOf s)
       → Digits (viewOf facts m [] .classes) (image (viewOf facts m []) (stateOf s)) (c .vars)
   image-digits s h v l = view-onto (unpriced c facts) ok m lm .inside v (stateOf s v) l (h v l)
+
+  -- a state's class, read from the tables
+  pub class-is : (s : List ℕ) (v x row y z : ℕ) → row ≡ classRow m v → x ≡ stateOf s v → y ≡ rowAt facts row x → z ≡ y
+      → z ≡ image (viewOf facts m []) (stateOf s) v
+  class-is s v x row y z r e h g = g ∙ h ∙ ap₂ (rowAt facts) r e
+
+  -- the numbers stay small on the way to an image
+  pub image-next : (s : List ℕ) → IsState (unpriced c facts .sas) (stateOf s) → (v stride b : ℕ)
+      → Numbered (viewOf facts m [] .classes) (image (viewOf facts m []) (stateOf s)) (c .vars) v stride b → v < c .vars → (x k : ℕ)
+      → x ≡ image (viewOf facts m []) (stateOf s) v → k ≡ viewOf facts m [] .classes v → (stride * k ≤ 4096) × (b + x * stride < 4096)
+  image-next s h =
+      numbered-next (viewOf facts m [] .classes) (image (viewOf facts m []) (stateOf s)) (c .vars) counts-positive (image-digits s h) (ok .few-states m lm)

@@ -4,6 +4,7 @@ pub mod maps;
 pub mod sums;
 pub mod sweep;
 pub mod walk;
+
 use refusals::Refusal;
 
 // The answer of `distances`: the count of rounds, or why not.

@@ -1,21 +1,20 @@
 -- `classes::image_of` meets its contract: the classes of the variables passed so far are in the number. Assumes nothing.
 use borrow.Author.Needs.{needs}
 use Prim.Native.Nat.{ℕ, _-_}
-use mathlib.Core.Path.{_≡_, refl, ap, ap₂, _∙_}
+use mathlib.Core.Path.{refl, _∙_}
 use mathlib.Core.List.{[]}
 use native.Mathlib.Omega.{arith}
 use Rattle.meaning.specs.Views.{image}
-use Rattle.tables.specs.Layout.{rowAt, classAt}
 use Rattle.tables.specs.Task.{stateOf}
 use Rattle.views.specs.Classes.{viewOf}
-use Rattle.views.proofs.Walking.{Numbered, numbered-none, numbered-more, numbered-next, numbered-all}
-use Rattle.views.proofs.Classing.{counts-positive, image-digits}
+use Rattle.views.proofs.Walking.{Numbered, numbered-none, numbered-more, numbered-all}
+use Rattle.views.proofs.Classing.{class-is, image-next}
 use Rattle.views.proofs.classes.image_of.Statement.{statement}
 use Rattle.views.proofs.classes.image_of.Tie as tie
 
 abbrev Inv-loop : tie.InvT-loop
 Inv-loop c facts m s vars stride₀ b₀ v₀ stride b v =
-    let W = viewOf facts m [] in Numbered (W .classes) (image W (stateOf s)) vars v stride b
+    Numbered (viewOf facts m [] .classes) (image (viewOf facts m []) (stateOf s)) vars v stride b
 
 abbrev μ-loop : tie.MeasureT-loop
 μ-loop c facts m s vars stride₀ b₀ v₀ stride b v = vars - v
@@ -43,29 +42,13 @@ row-at-requires c κs = search needs
 wide-requires-2 : tie.Need-wide-requires-2 Inv-loop μ-loop
 wide-requires-2 c κs = search needs
 
-mul-b : tie.Need-mul-b Inv-loop μ-loop
-mul-b c =
-    let a = c .before .before .before .before .before .before .before .before .before .args in
-    let l = c .before .before .before .before .before .before .loop in
-    let W = viewOf (a .facts .now) (a .m) [] in
-    let x = c .wide2 .ensures .0 ∙ c .before .row-at .ensures ∙ ap₂ (rowAt (a .facts .now)) (c .before .before .before .before .class-row .ensures) (c .before .before .wide .ensures .0 ∙ c .before .before .before .byte-at .ensures) in
-    let t =
-    numbered-next (W .classes) (image W (stateOf (a .s .now))) (a .c .vars) (counts-positive (a .c) (a .facts .now) (a .m) (c .before .before .before .before .before .before .before .before .before .pre .0) (c .before .before .before .before .before .before .before .before .before .pre .1))
-    (image-digits (a .c) (a .facts .now) (a .m) (c .before .before .before .before .before .before .before .before .before .pre .0) (c .before .before .before .before .before .before .before .before .before .pre .1) (a .s .now) (c .before .before .before .before .before .before .before .before .before .pre .2)) (c .before .before .before .before .before .before .before .before .before .pre .0 .few-states (a .m) (c .before .before .before .before .before .before .before .before .before .pre .1))
-    (l .v) (l .stride) (l .b) (l .inv) (c .before .before .before .before .before .loop-test .taken) (c .wide2 .result) (W .classes (l .v)) x refl in
-    omega (arith, t .1)
-
 add-b : tie.Need-add-b Inv-loop μ-loop
 add-b c =
     let a = c .before .before .before .before .before .before .before .before .before .args in
     let l = c .before .before .before .before .before .before .loop in
-    let W = viewOf (a .facts .now) (a .m) [] in
-    let x = c .wide2 .ensures .0 ∙ c .before .row-at .ensures ∙ ap₂ (rowAt (a .facts .now)) (c .before .before .before .before .class-row .ensures) (c .before .before .wide .ensures .0 ∙ c .before .before .before .byte-at .ensures) in
-    let t =
-    numbered-next (W .classes) (image W (stateOf (a .s .now))) (a .c .vars) (counts-positive (a .c) (a .facts .now) (a .m) (c .before .before .before .before .before .before .before .before .before .pre .0) (c .before .before .before .before .before .before .before .before .before .pre .1))
-    (image-digits (a .c) (a .facts .now) (a .m) (c .before .before .before .before .before .before .before .before .before .pre .0) (c .before .before .before .before .before .before .before .before .before .pre .1) (a .s .now) (c .before .before .before .before .before .before .before .before .before .pre .2)) (c .before .before .before .before .before .before .before .before .before .pre .0 .few-states (a .m) (c .before .before .before .before .before .before .before .before .before .pre .1))
-    (l .v) (l .stride) (l .b) (l .inv) (c .before .before .before .before .before .loop-test .taken) (c .wide2 .result) (W .classes (l .v)) x refl in
-    omega (arith, t .1)
+    let x = class-is (a .c) (a .facts .now) (a .m) (c .before .before .before .before .before .before .before .before .before .pre .0) (c .before .before .before .before .before .before .before .before .before .pre .1) (a .s .now) (l .v) (c .before .before .wide .result) (c .before .before .before .before .class-row .result) (c .before .row-at .result) (c .wide2 .result)
+    (c .before .before .before .before .class-row .ensures) (c .before .before .wide .ensures .0 ∙ c .before .before .before .byte-at .ensures) (c .before .row-at .ensures) (c .wide2 .ensures .0) in
+    omega (arith, image-next (a .c) (a .facts .now) (a .m) (c .before .before .before .before .before .before .before .before .before .pre .0) (c .before .before .before .before .before .before .before .before .before .pre .1) (a .s .now) (c .before .before .before .before .before .before .before .before .before .pre .2) (l .v) (l .stride) (l .b) (l .inv) (c .before .before .before .before .before .loop-test .taken) (c .wide2 .result) _ x refl .1)
 
 class-count-requires : tie.Need-class-count-requires Inv-loop μ-loop
 class-count-requires c κs = (c .before .before .before .before .before .before .before .before .before .pre .0, c .before .before .before .before .before .before .before .before .before .pre .1, c .before .before .before .before .before .loop-test .taken)
@@ -77,13 +60,9 @@ mul-stride : tie.Need-mul-stride Inv-loop μ-loop
 mul-stride c =
     let a = c .before .before .before .before .before .before .before .before .before .before .before .args in
     let l = c .before .before .before .before .before .before .before .before .loop in
-    let W = viewOf (a .facts .now) (a .m) [] in
-    let x = c .before .before .wide2 .ensures .0 ∙ c .before .before .before .row-at .ensures ∙ ap₂ (rowAt (a .facts .now)) (c .before .before .before .before .before .before .class-row .ensures) (c .before .before .before .before .wide .ensures .0 ∙ c .before .before .before .before .before .byte-at .ensures) in
-    let t =
-    numbered-next (W .classes) (image W (stateOf (a .s .now))) (a .c .vars) (counts-positive (a .c) (a .facts .now) (a .m) (c .before .before .before .before .before .before .before .before .before .before .before .pre .0) (c .before .before .before .before .before .before .before .before .before .before .before .pre .1))
-    (image-digits (a .c) (a .facts .now) (a .m) (c .before .before .before .before .before .before .before .before .before .before .before .pre .0) (c .before .before .before .before .before .before .before .before .before .before .before .pre .1) (a .s .now) (c .before .before .before .before .before .before .before .before .before .before .before .pre .2)) (c .before .before .before .before .before .before .before .before .before .before .before .pre .0 .few-states (a .m) (c .before .before .before .before .before .before .before .before .before .before .before .pre .1))
-    (l .v) (l .stride) (l .b) (l .inv) (c .before .before .before .before .before .before .before .loop-test .taken) (c .before .before .wide2 .result) (c .wide3 .result) x (c .wide3 .ensures .0 ∙ c .before .class-count .ensures) in
-    omega (arith, t .0)
+    let x = class-is (a .c) (a .facts .now) (a .m) (c .before .before .before .before .before .before .before .before .before .before .before .pre .0) (c .before .before .before .before .before .before .before .before .before .before .before .pre .1) (a .s .now) (l .v) (c .before .before .before .before .wide .result) (c .before .before .before .before .before .before .class-row .result) (c .before .before .before .row-at .result) (c .before .before .wide2 .result)
+    (c .before .before .before .before .before .before .class-row .ensures) (c .before .before .before .before .wide .ensures .0 ∙ c .before .before .before .before .before .byte-at .ensures) (c .before .before .before .row-at .ensures) (c .before .before .wide2 .ensures .0) in
+    omega (arith, image-next (a .c) (a .facts .now) (a .m) (c .before .before .before .before .before .before .before .before .before .before .before .pre .0) (c .before .before .before .before .before .before .before .before .before .before .before .pre .1) (a .s .now) (c .before .before .before .before .before .before .before .before .before .before .before .pre .2) (l .v) (l .stride) (l .b) (l .inv) (c .before .before .before .before .before .before .before .loop-test .taken) (c .before .before .wide2 .result) (c .wide3 .result) x (c .wide3 .ensures .0 ∙ c .before .class-count .ensures) .0)
 
 add-v : tie.Need-add-v Inv-loop μ-loop
 add-v c = search needs
@@ -96,7 +75,8 @@ loop-again c =
     let a = c .before .before .before .before .before .before .before .before .before .before .before .args in
     let l = c .before .before .before .before .before .before .before .before .loop in
     let W = viewOf (a .facts .now) (a .m) [] in
-    let x = c .before .before .wide2 .ensures .0 ∙ c .before .before .before .row-at .ensures ∙ ap₂ (rowAt (a .facts .now)) (c .before .before .before .before .before .before .class-row .ensures) (c .before .before .before .before .wide .ensures .0 ∙ c .before .before .before .before .before .byte-at .ensures) in
+    let x = class-is (a .c) (a .facts .now) (a .m) (c .before .before .before .before .before .before .before .before .before .before .before .pre .0) (c .before .before .before .before .before .before .before .before .before .before .before .pre .1) (a .s .now) (l .v) (c .before .before .before .before .wide .result) (c .before .before .before .before .before .before .class-row .result) (c .before .before .before .row-at .result) (c .before .before .wide2 .result)
+    (c .before .before .before .before .before .before .class-row .ensures) (c .before .before .before .before .wide .ensures .0 ∙ c .before .before .before .before .before .byte-at .ensures) (c .before .before .before .row-at .ensures) (c .before .before .wide2 .ensures .0) in
     numbered-more (W .classes) (image W (stateOf (a .s .now))) (a .c .vars) (l .v) (l .stride) (l .b) (l .inv) (c .before .before .before .before .before .before .before .loop-test .taken)
     (c .before .before .wide2 .result) (c .wide3 .result) x (c .wide3 .ensures .0 ∙ c .before .class-count .ensures)
 
@@ -106,6 +86,9 @@ returns c =
     let l = c .before .loop in
     let W = viewOf (a .facts .now) (a .m) [] in
     numbered-all (W .classes) (image W (stateOf (a .s .now))) (a .c .vars) (l .v) (l .stride) (l .b) (l .inv) (c .loop-test .left)
+
+mul-b : tie.Need-mul-b Inv-loop μ-loop
+mul-b c = omega (arith, add-b c)
 
 pub image-of-spec : {M : Type 1} → statement M
 image-of-spec =

@@ -36,16 +36,6 @@ value-after-requires c κs = search needs
 wide-requires : tie.Need-wide-requires Inv-loop μ-loop
 wide-requires c κs = search needs
 
-mul-b : tie.Need-mul-b Inv-loop μ-loop
-mul-b c =
-    let a = c .before .before .before .before .before .before .before .before .args in
-    let l = c .before .before .before .before .before .loop in
-    let x = c .wide .ensures .0 ∙ c .before .value-after .ensures ∙ ap₂ put (c .before .before .before .row-at .ensures) (c .before .before .byte-at .ensures) in
-    let t =
-    numbered-next (domAt (a .facts .now)) (valueAfter (a .facts .now) (a .row) (a .s .now)) (a .vars) (c .before .before .before .before .before .before .before .before .pre .0 .0) (c .before .before .before .before .before .before .before .before .pre .1) (c .before .before .before .before .before .before .before .before .pre .0 .1)
-    (l .v) (l .stride) (l .b) (l .inv) (c .before .before .before .before .loop-test .taken) (c .wide .result) (domAt (a .facts .now) (l .v)) x refl in
-    omega (arith, t .1)
-
 add-b : tie.Need-add-b Inv-loop μ-loop
 add-b c =
     let a = c .before .before .before .before .before .before .before .before .args in
@@ -92,6 +82,9 @@ returns c =
     let a = c .before .before .before .before .args in
     let l = c .before .loop in
     numbered-all (domAt (a .facts .now)) (valueAfter (a .facts .now) (a .row) (a .s .now)) (a .vars) (l .v) (l .stride) (l .b) (l .inv) (c .loop-test .left)
+
+mul-b : tie.Need-mul-b Inv-loop μ-loop
+mul-b c = omega (arith, add-b c)
 
 pub number-after-spec : {M : Type 1} → statement M
 number-after-spec =
