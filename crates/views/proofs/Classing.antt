@@ -31,9 +31,6 @@ seen-said c (suc k) h = let e : suc k - 1 ≡ k = omega arith in rw e (omega ari
 
 -- ---- the number of classes
 
-pub count-more : (c : ℕ → ℕ) (x count k : ℕ) → count ≡ countOf c x → k ≡ c x → max count (k + 1) ≡ countOf c (x + 1)
-count-more c x count k e h = rw (add-one x) (ap₂ max e (ap (λ (y : ℕ). y + 1) h ∙ add-one (c x)))
-
 pub count-most : (c : ℕ → ℕ) (n k : ℕ) → ((x : ℕ) → x < n → c x < k) → countOf c n ≤ k
 count-most c zero k h = zero-le
 count-most c (suc n) k h = omega (arith, count-most c n k (λ x l. h x (omega arith)), h n (le-refl (suc n)))
@@ -71,9 +68,10 @@ module _ (c : Counts) (facts : List ℕ) (m : ℕ) where
 -- ---- the classes of an accepted task
 
 module _ (c : Counts) (facts : List ℕ) (m : ℕ) (ok : Valid (unpriced c facts)) (lm : m < c .maps) where
-  pub class-small : (v : ℕ) → v < c .vars → (dom row : ℕ) → dom ≡ domAt facts v → row ≡ classRow m v → (x : ℕ) → x < dom → rowAt facts row x < 8
-  class-small v lv dom row d r x l =
-      rw r (omega (arith, ok .classes m v x lm lv (omega arith), ok .values v lv))
+  pub class-below : (v : ℕ) → v < c .vars → (dom row : ℕ) → dom ≡ domAt facts v → row ≡ classRow m v
+      → (dom ≤ 8) × ((x : ℕ) → x < dom → rowAt facts row x < dom)
+  class-below v lv dom row d r =
+      (omega (arith, ok .values v lv), λ x l. rw r (omega (arith, ok .classes m v x lm lv (omega arith))))
 
   pub count-is : (v dom row n : ℕ) → dom ≡ domAt facts v → row ≡ classRow m v → n ≡ countOf (rowAt facts row) dom
       → n ≡ countOf (classAt facts m v) (domAt facts v)

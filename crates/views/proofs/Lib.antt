@@ -8,3 +8,5 @@ pub mod Alike
 pub mod Viewing
 pub mod Summing
 pub mod Answers
+pub mod Judging
+pub mod Promises

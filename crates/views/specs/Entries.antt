@@ -44,15 +44,18 @@ IsBound T s v = (d : ℕ → Cost) × ((m : ℕ) → m < T .maps → IsAway T s 
 abbrev pub noSuchMap : Tables → ℕ → Found
 noSuchMap t m = unless (ltb m (t .counts .maps)) (OutOfRange 0)
 
--- 8 for every lent table, then the tables, then the map
+-- the tables, then the map
+unfoldable pub askedFault : Tables → ℕ → Found
+askedFault t m = tablesFault t then noSuchMap t m
+
+-- 8 for every lent table before all
 unfoldable pub distancesFault : Tables → ℕ → List ℕ → Found
-distancesFault t m out = unless (leb 4096 (length out)) TableTooShort then tablesFault t then noSuchMap t m
+distancesFault t m out = unless (leb 4096 (length out)) TableTooShort then askedFault t m
 
--- the tables, the map, then the state
+-- then the state
 unfoldable pub distanceFault : Tables → ℕ → List ℕ → Found
-distanceFault t m s = tablesFault t then noSuchMap t m then stateFault (t .counts) (t .facts) s
+distanceFault t m s = askedFault t m then stateFault (t .counts) (t .facts) s
 
--- the tables, then the state
 unfoldable pub boundFault : Tables → List ℕ → Found
 boundFault t s = tablesFault t then stateFault (t .counts) (t .facts) s
 

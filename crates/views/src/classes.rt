@@ -1,18 +1,19 @@
 // The task of a map's classes, in the lent tables' layout: worked out once a map, before the rounds.
 ghost use mathlib.Core.Path.{_≡_};
-ghost use Prim.Native.Nat.{ℕ, _-_, _<_, max};
+ghost use Prim.Native.Nat.{ℕ, _-_, _<_};
 ghost use lib.ListN.{length, getD};
 ghost use Rattle.meaning.specs.Numbering.{size};
 ghost use Rattle.meaning.specs.Sas.{IsState};
 ghost use Rattle.meaning.specs.Views.{seen};
 ghost use Rattle.meaning.specs.Split.{countOf, Valid};
-ghost use Rattle.tables.specs.Layout.{rowAt, domAt, classAt};
+ghost use Rattle.tables.specs.Layout.{domAt, classAt};
 ghost use Rattle.tables.specs.Task.{stateOf};
 ghost use Rattle.views.specs.Walks.{Walkable};
 ghost use Rattle.views.specs.Classes.{unpriced, SeenAt, Classed, imageOf};
 use crate::walk::wide;
 use meaning::StateNo;
 use tables::Counts;
+use tables::classes::count_of;
 use tables::readers::DOM_ROW;
 use tables::readers::byte_at;
 use tables::readers::class_row;
@@ -45,26 +46,6 @@ fn seen_facts(facts: &[u8], m: u32) -> [u8; SEEN]
         i += 1;
     }
     t
-}
-
-// One more than the largest class of the values below `dom`.
-fn count_of(facts: &[u8], dom: u32, row: u32) -> u32
-    requires { ⌜ ((x : ℕ) → x < dom → rowAt (now facts) row x < 8) ⌝ }
-    ensures { λ r. ⌜ r ≡ countOf (rowAt (now (facts .entry)) row) dom ⌝ }
-{
-    let mut count = 0u32;
-    let mut x = 0u32;
-    while x < dom {
-        count = larger(count, wide(row_at(facts, row, x)) + 1);
-        x += 1;
-    }
-    count
-}
-
-fn larger(a: u32, b: u32) -> u32
-    ensures { λ r. ⌜ r ≡ max a b ⌝ }
-{
-    if a < b { b } else { a }
 }
 
 // How many classes a variable has in map m.

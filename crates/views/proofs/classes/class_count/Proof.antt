@@ -3,7 +3,7 @@ use borrow.Author.Needs.{needs}
 use Prim.Native.Nat.{ℕ}
 use mathlib.Core.Path.{_∙_}
 use native.Mathlib.Omega.{arith}
-use Rattle.views.proofs.Classing.{class-small, count-is, count-byte}
+use Rattle.views.proofs.Classing.{class-below, count-is, count-byte}
 use Rattle.views.proofs.classes.class_count.Statement.{statement}
 use Rattle.views.proofs.classes.class_count.Tie as tie
 
@@ -19,7 +19,7 @@ class-row-requires c κs = (omega (arith, c .before .before .before .pre .1, c .
 count-of-requires : tie.Need-count-of-requires
 count-of-requires c κs =
     let a = c .before .before .before .before .args in
-    class-small (a .c) (a .facts .now) (a .m) (c .before .before .before .before .pre .0) (c .before .before .before .before .pre .1) (a .v) (c .before .before .before .before .pre .2) (c .before .wide .result) (c .class-row .result) (c .before .wide .ensures .0 ∙ c .before .before .row-at .ensures) (c .class-row .ensures)
+    class-below (a .c) (a .facts .now) (a .m) (c .before .before .before .before .pre .0) (c .before .before .before .before .pre .1) (a .v) (c .before .before .before .before .pre .2) (c .before .wide .result) (c .class-row .result) (c .before .wide .ensures .0 ∙ c .before .before .row-at .ensures) (c .class-row .ensures)
 
 cast-result : tie.Need-cast-result
 cast-result c =
