@@ -1,0 +1,76 @@
+-- What is promised of an accepted task is so, and there is no second answer: distances and rounds, the distance of a state, its bound.
+-- Assumes nothing.
+use mathlib.Core.Path.{_≡_, refl, sym, ap, ap₂, _∙_, subst}
+use mathlib.Core.List.{List}
+use Prim.Native.Nat.{ℕ, zero, suc, _≤_, _<_}
+use native.Mathlib.Nat.{le-refl}
+use native.Mathlib.Decide.{decLt}
+use native.Mathlib.Omega.{arith}
+use lib.ListN.{length, getD}
+use lib.Seq.{ext-getD}
+use Rattle.graph.specs.Cost.{Cost, none, fin, _⊑_}
+use Rattle.graph.proofs.Theorems.{rounds-unique}
+use Rattle.meaning.specs.Sas.{State, IsState, Passes, paid}
+use Rattle.meaning.specs.Views.{α, abstractStates, IsDistanceAt, viewGraph}
+use Rattle.meaning.specs.Split.{Task, view, Valid}
+use Rattle.meaning.specs.Bound.{distance, away, join, summed, bound}
+use Rattle.meaning.proofs.Induced.{α-below}
+use Rattle.meaning.proofs.Bounds.{view-onto}
+use Rattle.meaning.proofs.Theorems.{distance-is-least, distance-unique, round-holds-distances, rounds-at-most-states}
+use Rattle.views.specs.Said.{said, read}
+use Rattle.views.specs.Sweeps.{Counted}
+use Rattle.views.specs.Entries.{DistancesOf, IsAway, IsBound}
+use Rattle.views.proofs.Saids.{said-inj}
+
+module _ (T : Task) (ok : Valid T) (m : ℕ) (lm : m < T .maps) where
+  -- the table of the counted rounds holds the distances
+  pub counted-distances : (out out′ : List ℕ) (r : ℕ) → Counted (viewGraph (T .sas) (view T m)) out out′ r → DistancesOf T m out r out′
+  counted-distances out out′ r C =
+      record {
+        distances =
+            λ a l.
+            subst (λ (v : Cost). IsDistanceAt (T .sas) (view T m) a v)
+            (sym (C .table .made a l ∙ round-holds-distances T ok m lm r (C .rounds) a l)) (distance-is-least T ok m lm a l);
+        rounds = C .rounds;
+        others = C .table .kept;
+        room = C .table .size;
+      }
+
+  -- the rounds and the table are settled
+  pub distances-only : (out o u : List ℕ) (r s : ℕ) → DistancesOf T m out r o → DistancesOf T m out s u → (r ≡ s) × (o ≡ u)
+  distances-only out o u r s D E = (
+    rounds-unique (viewGraph (T .sas) (view T m)) r s (D .rounds) (E .rounds),
+    ext-getD 0 o u (D .room ∙ sym (E .room)) (λ a _. pick a (decLt a (abstractStates (T .sas) (view T m)))),
+  )
+    where
+      pick : (a : ℕ) → Dec (a < abstractStates (T .sas) (view T m)) → getD o a 0 ≡ getD u a 0
+      pick a (yes l) =
+          said-inj (getD o a 0) (getD u a 0) (distance-unique T ok m lm a (read o a) (read u a) l (D .distances a l) (E .distances a l))
+      pick a (no l) = D .others a (omega arith) ∙ sym (E .others a (omega arith))
+
+  -- and the rounds never pass the number of abstract states
+  pub distances-rounds-most : (out out′ : List ℕ) (r : ℕ) → DistancesOf T m out r out′ → r ≤ abstractStates (T .sas) (view T m)
+  distances-rounds-most out out′ r D = rounds-at-most-states T ok m lm r (D .rounds)
+
+  image-inside : (s : State) → IsState (T .sas) s → α (T .sas) (view T m) s < abstractStates (T .sas) (view T m)
+  image-inside s h = α-below (T .sas) (view T m) (ok .proper) (view-onto T ok m lm) s h
+
+  -- the distance of a state's image
+  pub away-is : (s : State) → IsState (T .sas) s → IsAway T s m (away T s m)
+  away-is s h = distance-is-least T ok m lm (α (T .sas) (view T m) s) (image-inside s h)
+
+  pub away-only : (s : State) (v w : Cost) → IsState (T .sas) s → IsAway T s m v → IsAway T s m w → v ≡ w
+  away-only s v w h A B = distance-unique T ok m lm (α (T .sas) (view T m) s) v w (image-inside s h) A B
+
+summed-same : (d e : ℕ → Cost) (k : ℕ) → ((m : ℕ) → m < k → d m ≡ e m) → summed d k ≡ summed e k
+summed-same d e zero h = refl
+summed-same d e (suc k) h = ap₂ join (summed-same d e k (λ m l. h m (omega arith))) (h k (le-refl (suc k)))
+
+module _ (T : Task) (ok : Valid T) (s : State) (h : IsState (T .sas) s) where
+  -- the summed bound
+  pub bound-is : IsBound T s (bound T s)
+  bound-is = (away T s, (λ m l. away-is T ok m l s h), refl)
+
+  pub bound-only : (v w : Cost) → IsBound T s v → IsBound T s w → v ≡ w
+  bound-only v w A B =
+      A .2 ∙ summed-same (A .0) (B .0) (T .maps) (λ m l. away-only T ok m l s (A .0 m) (B .0 m) h (A .1 m l) (B .1 m l)) ∙ sym (B .2)

@@ -1,0 +1,150 @@
+-- The first fault decides what an entry answers, and where there is none the task is valid, the map is there and the state is one of the task's.
+-- Assumes nothing.
+use mathlib.Core.Path.{_≡_, refl, sym, ap, _∙_, subst}
+use mathlib.Core.Bool.{true, false}
+use mathlib.Core.List.{List, []}
+use Prim.Native.Nat.{ℕ, _≤_, _<_}
+use native.Mathlib.Omega.{arith}
+use lib.Dec.{leb, ltb}
+use lib.ListN.{length, getD}
+use borrow.Author.Tests.{le-leb, lt-leb, lt-ltb, le-ltb, ltb-true}
+use Rattle.graph.specs.Cost.{Cost}
+use Rattle.refusals.specs.declared.Refusal.{Refusal}
+use Rattle.refusals.specs.declared.Refusal.the-variants.{OutOfRange, TableTooShort}
+use Rattle.meaning.specs.Sas.{IsState}
+use Rattle.meaning.specs.Views.{viewGraph}
+use Rattle.meaning.specs.Split.{view, Valid}
+use Rattle.meaning.specs.Bound.{away, bound}
+use Rattle.tables.specs.declared.Counts.{Counts}
+use Rattle.tables.specs.declared.scan.Found.{Found}
+use Rattle.tables.specs.declared.scan.Found.the-variants.{Clean, Fault}
+use Rattle.tables.specs.Layout.{Tables, shareAt}
+use Rattle.tables.specs.Task.{sasOf, taskOf, tables, stateOf}
+use Rattle.tables.specs.Scan.{unless, _then_, tablesFault, stateFault}
+use Rattle.tables.proofs.Walks.{clean-first, clean-next, kept, broken, rule-held}
+use Rattle.tables.proofs.Validity.{clean-valid, state-clean}
+use Rattle.views.specs.declared.DistancesAnswer.the-variants as distances
+use Rattle.views.specs.declared.DistanceAnswer.{DistanceAnswer}
+use Rattle.views.specs.declared.DistanceAnswer.the-variants as distance
+use Rattle.views.specs.declared.BoundAnswer.{BoundAnswer}
+use Rattle.views.specs.declared.BoundAnswer.the-variants as bounds
+use Rattle.views.specs.Said.{said}
+use Rattle.views.specs.Sweeps.{Counted}
+use Rattle.views.specs.Classes.{viewGraphOf}
+use Rattle.views.specs.Entries.{
+  noSuchMap,
+  askedFault,
+  distancesFault,
+  distanceFault,
+  boundFault,
+  Judged,
+  DistancesGiven,
+  distanceSaid,
+  boundSaid,
+  DistanceGiven,
+  BoundGiven,
+}
+use Rattle.views.proofs.Alike.{counted-alike}
+use Rattle.views.proofs.Viewing.{priced-alike}
+use Rattle.views.proofs.Answers.{counted-distances, away-is, bound-is}
+
+-- ---- one fault after the other
+
+-- a fault is handed on
+pub hands-on : (a b found : Found) (f : Refusal) → found ≡ a → found ≡ Fault f → found ≡ a then b
+hands-on a b found f p q = q ∙ (rw (sym p ∙ q) refl)
+
+-- and where there is none, the next decides
+pub goes-on : (a b found : Found) → found ≡ a → found ≡ Clean → b ≡ a then b
+goes-on a b found p q = rw (sym p ∙ q) refl
+
+pub judged-fault : (g : Found) (refused : Refusal → Type 0) (accepted : Type 0) (f : Refusal) → g ≡ Fault f → refused f → Judged g refused accepted
+judged-fault g refused accepted f e h = subst (λ (x : Found). Judged x refused accepted) (sym e) h
+
+pub judged-clean : (g : Found) (refused : Refusal → Type 0) (accepted : Type 0) → g ≡ Clean → accepted → Judged g refused accepted
+judged-clean g refused accepted e h = subst (λ (x : Found). Judged x refused accepted) (sym e) h
+
+module _ (t : Tables) (m : ℕ) where
+  -- a map that the task has, and one that it hasn't
+  pub map-there : m < t .counts .maps → Clean ≡ noSuchMap t m
+  map-there l = sym (kept (OutOfRange 0) (lt-ltb m (t .counts .maps) l))
+
+  pub map-missing : t .counts .maps ≤ m → Fault (OutOfRange 0) ≡ noSuchMap t m
+  map-missing l = sym (broken (OutOfRange 0) (le-ltb m (t .counts .maps) l))
+
+  pub asked-clean : askedFault t m ≡ Clean → Valid (taskOf t) × (m < t .counts .maps)
+  unfolding askedFault
+  asked-clean e = (
+    clean-valid t (clean-first (tablesFault t) (noSuchMap t m) e),
+    ltb-true m (t .counts .maps) (rule-held (ltb m (t .counts .maps)) (OutOfRange 0) (clean-next (tablesFault t) (noSuchMap t m) e)),
+  )
+
+  pub distance-clean : (s : List ℕ) → distanceFault t m s ≡ Clean → Valid (taskOf t) × (m < t .counts .maps) × IsState (sasOf t) (stateOf s)
+  unfolding distanceFault
+  distance-clean s e =
+      let asked = asked-clean (clean-first (askedFault t m) (stateFault (t .counts) (t .facts) s) e) in
+      (asked .0, asked .1, state-clean t s .0 (clean-next (askedFault t m) (stateFault (t .counts) (t .facts) s) e) .1)
+
+  -- ---- a lent table that is long enough, and one that isn't
+  module _ (out : List ℕ) where
+    distances-short : length out < 4096 → distancesFault t m out ≡ Fault TableTooShort
+    unfolding distancesFault
+    distances-short l = rw (lt-leb 4096 (length out) l) refl
+
+    distances-asked : 4096 ≤ length out → distancesFault t m out ≡ askedFault t m
+    unfolding distancesFault
+    distances-asked l = rw (le-leb 4096 (length out) l) refl
+
+    pub distances-clean : distancesFault t m out ≡ Clean → Valid (taskOf t) × (m < t .counts .maps)
+    unfolding distancesFault
+    distances-clean e = asked-clean (clean-next (unless (leb 4096 (length out)) TableTooShort) (askedFault t m) e)
+
+    pub given-short : length out < 4096 → DistancesGiven t m out (distances.Refused TableTooShort) out
+    given-short l = judged-fault (distancesFault t m out) _ _ TableTooShort (distances-short l) (refl, refl)
+
+    pub given-refused : (f : Refusal) → 4096 ≤ length out → askedFault t m ≡ Fault f → DistancesGiven t m out (distances.Refused f) out
+    given-refused f l e = judged-fault (distancesFault t m out) _ _ f (distances-asked l ∙ e) (refl, refl)
+
+  -- ---- the state
+  pub given-distance-refused : (s : List ℕ) (f : Refusal) → distanceFault t m s ≡ Fault f → DistanceGiven t m s (distance.Refused f)
+  given-distance-refused s f e = judged-fault (distanceFault t m s) _ _ f e refl
+
+module _ (t : Tables) (s : List ℕ) where
+  pub bound-clean : boundFault t s ≡ Clean → Valid (taskOf t) × IsState (sasOf t) (stateOf s)
+  unfolding boundFault
+  bound-clean e = (
+    clean-valid t (clean-first (tablesFault t) (stateFault (t .counts) (t .facts) s) e),
+    state-clean t s .0 (clean-next (tablesFault t) (stateFault (t .counts) (t .facts) s) e) .1,
+  )
+
+  pub given-bound-refused : (f : Refusal) → boundFault t s ≡ Fault f → BoundGiven t s (bounds.Refused f)
+  given-bound-refused f e = judged-fault (boundFault t s) _ _ f e refl
+
+-- ---- accepted
+
+module _ (c : Counts) (facts costs shares : List ℕ) where
+  abbrev lent : Tables
+  lent = tables c facts costs shares
+
+  pub given-rounds : (m : ℕ) (prices out out′ : List ℕ) (r : ℕ) → ((o : ℕ) → o < c .ops → getD prices o 0 ≡ shareAt shares m o) → 4096 ≤ length out
+      → askedFault lent m ≡ Clean → Counted (viewGraphOf c facts m prices) out out′ r → DistancesGiven lent m out (distances.Rounds r) out′
+  given-rounds m prices out out′ r row l e C =
+      let asked = asked-clean lent m e in
+      let T = taskOf lent in
+      let D = counted-alike (viewGraphOf c facts m prices) (viewGraph (T .sas) (view T m)) (priced-alike c facts costs shares m prices row) out out′ r C in
+      judged-clean (distancesFault lent m out) _ _ (distances-asked lent m out l ∙ e)
+      (r, refl, counted-distances T (asked .0) m (asked .1) out out′ r D)
+
+  pub given-distance : (m : ℕ) (s : List ℕ) (d : ℕ) (answer : DistanceAnswer) → distanceFault lent m s ≡ Clean
+      → said d ≡ away (taskOf (tables c facts [] shares)) (stateOf s) m → answer ≡ distanceSaid (said d) → DistanceGiven lent m s answer
+  given-distance m s d answer e h a =
+      let q = distance-clean lent m s e in
+      judged-clean (distanceFault lent m s) _ _ e
+      (away (taskOf lent) (stateOf s) m, a ∙ ap distanceSaid h, away-is (taskOf lent) (q .0) m (q .1) (stateOf s) (q .2))
+
+  pub given-bound : (s : List ℕ) (v : Cost) (answer : BoundAnswer) → boundFault lent s ≡ Clean
+      → v ≡ bound (taskOf (tables c facts [] shares)) (stateOf s) → answer ≡ boundSaid v → BoundGiven lent s answer
+  given-bound s v answer e h a =
+      let q = bound-clean lent s e in
+      judged-clean (boundFault lent s) _ _ e
+      (bound (taskOf lent) (stateOf s), a ∙ ap boundSaid h, bound-is (taskOf lent) (q .0) (stateOf s) (q .1))

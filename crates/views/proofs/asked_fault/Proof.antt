@@ -1,0 +1,43 @@
+-- `asked_fault` meets its contract: a fault of the tables is handed on, and then the map decides. Assumes nothing.
+use borrow.Author.Needs.{needs}
+use mathlib.Core.Path.{_∙_}
+use Rattle.tables.specs.Task.{tables}
+use Rattle.tables.specs.Scan.{tablesFault}
+use Rattle.views.specs.Entries.{noSuchMap, askedFault}
+use Rattle.views.proofs.Judging.{hands-on, goes-on, map-there, map-missing}
+use Rattle.views.proofs.asked_fault.Statement.{statement}
+use Rattle.views.proofs.asked_fault.Tie as tie
+
+tables-fault-requires : tie.Need-tables-fault-requires
+tables-fault-requires c κs = search needs
+
+enum-told : tie.Need-enum-told
+enum-told c = search needs
+
+enum-told-2 : tie.Need-enum-told-2
+enum-told-2 c = search needs
+
+returns : tie.Need-returns
+unfolding askedFault
+returns c =
+    let a = c .before .before .before .before .before .before .args in
+    let t = tables (a .c) (a .facts .now) (a .costs .now) (a .shares .now) in
+    hands-on (tablesFault t) (noSuchMap t (a .map)) (c .before .before .tables-fault .result) (c .enum-told2 .given .0 .0) (c .before .before .tables-fault .ensures) (c .enum-told2 .given .1)
+
+returns-2 : tie.Need-returns-2
+unfolding askedFault
+returns-2 c =
+    let a = c .before .before .before .before .before .before .before .before .args in
+    let t = tables (a .c) (a .facts .now) (a .costs .now) (a .shares .now) in
+    map-there t (a .map) (c .if1 .taken) ∙ goes-on (tablesFault t) (noSuchMap t (a .map)) (c .before .before .before .before .tables-fault .result) (c .before .before .before .before .tables-fault .ensures) (c .before .before .enum-told .given .1)
+
+returns-3 : tie.Need-returns-3
+unfolding askedFault
+returns-3 c =
+    let a = c .before .before .before .before .before .before .before .before .args in
+    let t = tables (a .c) (a .facts .now) (a .costs .now) (a .shares .now) in
+    map-missing t (a .map) (c .if1 .left) ∙ goes-on (tablesFault t) (noSuchMap t (a .map)) (c .before .before .before .before .tables-fault .result) (c .before .before .before .before .tables-fault .ensures) (c .before .before .enum-told .given .1)
+
+pub asked-fault-spec : {M : Type 1} → statement M
+asked-fault-spec =
+    tie.close (tie.spec tables-fault-requires enum-told enum-told-2 returns returns-2 returns-3)

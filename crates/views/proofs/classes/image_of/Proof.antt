@@ -1,0 +1,114 @@
+-- `classes::image_of` meets its contract: the classes of the variables passed so far are in the number. Assumes nothing.
+use borrow.Author.Needs.{needs}
+use Prim.Native.Nat.{ℕ, _-_}
+use mathlib.Core.Path.{refl, _∙_}
+use mathlib.Core.List.{[]}
+use native.Mathlib.Omega.{arith}
+use Rattle.meaning.specs.Views.{image}
+use Rattle.tables.specs.Task.{stateOf}
+use Rattle.views.specs.Classes.{viewOf}
+use Rattle.views.proofs.Walking.{Numbered, numbered-none, numbered-more, numbered-all}
+use Rattle.views.proofs.Classing.{class-is, image-next}
+use Rattle.views.proofs.classes.image_of.Statement.{statement}
+use Rattle.views.proofs.classes.image_of.Tie as tie
+
+abbrev Inv-loop : tie.InvT-loop
+Inv-loop c facts m s vars stride₀ b₀ v₀ stride b v =
+    Numbered (viewOf facts m [] .classes) (image (viewOf facts m []) (stateOf s)) vars v stride b
+
+abbrev μ-loop : tie.MeasureT-loop
+μ-loop c facts m s vars stride₀ b₀ v₀ stride b v = vars - v
+
+loop-holds : tie.Need-loop-holds Inv-loop μ-loop
+loop-holds c =
+    let W = viewOf (c .before .before .args .facts .now) (c .before .before .args .m) [] in
+    numbered-none (W .classes) (image W (stateOf (c .before .before .args .s .now))) (c .before .before .args .c .vars)
+
+class-row-requires : tie.Need-class-row-requires Inv-loop μ-loop
+class-row-requires c κs = (omega (arith, c .before .before .before .before .pre .1, c .before .before .before .before .pre .0 .maps .1), omega (arith, c .loop-test .taken, c .before .before .before .before .pre .0 .vars .1))
+
+cast-byte-at : tie.Need-cast-byte-at Inv-loop μ-loop
+cast-byte-at c = search needs
+
+byte-at-requires : tie.Need-byte-at-requires Inv-loop μ-loop
+byte-at-requires c κs = search needs
+
+wide-requires : tie.Need-wide-requires Inv-loop μ-loop
+wide-requires c κs = search needs
+
+row-at-requires : tie.Need-row-at-requires Inv-loop μ-loop
+row-at-requires c κs = search needs
+
+wide-requires-2 : tie.Need-wide-requires-2 Inv-loop μ-loop
+wide-requires-2 c κs = search needs
+
+add-b : tie.Need-add-b Inv-loop μ-loop
+add-b c =
+    let a = c .before .before .before .before .before .before .before .before .before .args in
+    let l = c .before .before .before .before .before .before .loop in
+    let x = class-is (a .c) (a .facts .now) (a .m) (c .before .before .before .before .before .before .before .before .before .pre .0) (c .before .before .before .before .before .before .before .before .before .pre .1) (a .s .now) (l .v) (c .before .before .wide .result) (c .before .before .before .before .class-row .result) (c .before .row-at .result) (c .wide2 .result)
+    (c .before .before .before .before .class-row .ensures) (c .before .before .wide .ensures .0 ∙ c .before .before .before .byte-at .ensures) (c .before .row-at .ensures) (c .wide2 .ensures .0) in
+    omega (arith, image-next (a .c) (a .facts .now) (a .m) (c .before .before .before .before .before .before .before .before .before .pre .0) (c .before .before .before .before .before .before .before .before .before .pre .1) (a .s .now) (c .before .before .before .before .before .before .before .before .before .pre .2) (l .v) (l .stride) (l .b) (l .inv) (c .before .before .before .before .before .loop-test .taken) (c .wide2 .result) _ x refl .1)
+
+class-count-requires : tie.Need-class-count-requires Inv-loop μ-loop
+class-count-requires c κs = (c .before .before .before .before .before .before .before .before .before .pre .0, c .before .before .before .before .before .before .before .before .before .pre .1, c .before .before .before .before .before .loop-test .taken)
+
+wide-requires-3 : tie.Need-wide-requires-3 Inv-loop μ-loop
+wide-requires-3 c κs = search needs
+
+mul-stride : tie.Need-mul-stride Inv-loop μ-loop
+mul-stride c =
+    let a = c .before .before .before .before .before .before .before .before .before .before .before .args in
+    let l = c .before .before .before .before .before .before .before .before .loop in
+    let x = class-is (a .c) (a .facts .now) (a .m) (c .before .before .before .before .before .before .before .before .before .before .before .pre .0) (c .before .before .before .before .before .before .before .before .before .before .before .pre .1) (a .s .now) (l .v) (c .before .before .before .before .wide .result) (c .before .before .before .before .before .before .class-row .result) (c .before .before .before .row-at .result) (c .before .before .wide2 .result)
+    (c .before .before .before .before .before .before .class-row .ensures) (c .before .before .before .before .wide .ensures .0 ∙ c .before .before .before .before .before .byte-at .ensures) (c .before .before .before .row-at .ensures) (c .before .before .wide2 .ensures .0) in
+    omega (arith, image-next (a .c) (a .facts .now) (a .m) (c .before .before .before .before .before .before .before .before .before .before .before .pre .0) (c .before .before .before .before .before .before .before .before .before .before .before .pre .1) (a .s .now) (c .before .before .before .before .before .before .before .before .before .before .before .pre .2) (l .v) (l .stride) (l .b) (l .inv) (c .before .before .before .before .before .before .before .loop-test .taken) (c .before .before .wide2 .result) (c .wide3 .result) x (c .wide3 .ensures .0 ∙ c .before .class-count .ensures) .0)
+
+add-v : tie.Need-add-v Inv-loop μ-loop
+add-v c = search needs
+
+loop-less : tie.Need-loop-less Inv-loop μ-loop
+loop-less c = search needs
+
+loop-again : tie.Need-loop-again Inv-loop μ-loop
+loop-again c =
+    let a = c .before .before .before .before .before .before .before .before .before .before .before .args in
+    let l = c .before .before .before .before .before .before .before .before .loop in
+    let W = viewOf (a .facts .now) (a .m) [] in
+    let x = class-is (a .c) (a .facts .now) (a .m) (c .before .before .before .before .before .before .before .before .before .before .before .pre .0) (c .before .before .before .before .before .before .before .before .before .before .before .pre .1) (a .s .now) (l .v) (c .before .before .before .before .wide .result) (c .before .before .before .before .before .before .class-row .result) (c .before .before .before .row-at .result) (c .before .before .wide2 .result)
+    (c .before .before .before .before .before .before .class-row .ensures) (c .before .before .before .before .wide .ensures .0 ∙ c .before .before .before .before .before .byte-at .ensures) (c .before .before .before .row-at .ensures) (c .before .before .wide2 .ensures .0) in
+    numbered-more (W .classes) (image W (stateOf (a .s .now))) (a .c .vars) (l .v) (l .stride) (l .b) (l .inv) (c .before .before .before .before .before .before .before .loop-test .taken)
+    (c .before .before .wide2 .result) (c .wide3 .result) x (c .wide3 .ensures .0 ∙ c .before .class-count .ensures)
+
+returns : tie.Need-returns Inv-loop μ-loop
+returns c =
+    let a = c .before .before .before .before .args in
+    let l = c .before .loop in
+    let W = viewOf (a .facts .now) (a .m) [] in
+    numbered-all (W .classes) (image W (stateOf (a .s .now))) (a .c .vars) (l .v) (l .stride) (l .b) (l .inv) (c .loop-test .left)
+
+mul-b : tie.Need-mul-b Inv-loop μ-loop
+mul-b c = omega (arith, add-b c)
+
+pub image-of-spec : {M : Type 1} → statement M
+image-of-spec =
+    tie.close
+    (tie.spec
+    Inv-loop
+    μ-loop
+    loop-holds
+    class-row-requires
+    cast-byte-at
+    byte-at-requires
+    wide-requires
+    row-at-requires
+    wide-requires-2
+    mul-b
+    add-b
+    class-count-requires
+    wide-requires-3
+    mul-stride
+    add-v
+    loop-less
+    loop-again
+    returns)

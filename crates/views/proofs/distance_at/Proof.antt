@@ -1,0 +1,50 @@
+-- `distance_at` meets its contract. Assumes nothing.
+use borrow.Author.Needs.{needs}
+use Prim.Native.Nat.{ℕ}
+use mathlib.Core.Path.{sym, _∙_}
+use Rattle.tables.specs.Task.{tables}
+use Rattle.views.proofs.Viewing.{valid-unpriced}
+use Rattle.views.proofs.Judging.{distance-clean, given-distance-refused, given-distance}
+use Rattle.views.proofs.distance_at.Statement.{statement}
+use Rattle.views.proofs.distance_at.Tie as tie
+
+distance-fault-requires : tie.Need-distance-fault-requires
+distance-fault-requires c κs = search needs
+
+enum-known-found : tie.Need-enum-known-found
+enum-known-found c = search needs
+
+enum-told : tie.Need-enum-told
+enum-told c = search needs
+
+away-of-requires : tie.Need-away-of-requires
+away-of-requires c κs =
+    let a = c .before .before .before .before .before .before .before .args in
+    let q = distance-clean (tables (a .c) (a .facts .now) (a .costs .now) (a .shares .now)) (a .map) (a .s .now) (sym (c .before .before .distance-fault .ensures) ∙ c .enum-told .given .1) in
+    (valid-unpriced (a .c) (a .facts .now) (a .costs .now) (a .shares .now) (q .0), q .1, (λ o l. q .0 .shares (a .map) o (q .1) l), q .2)
+
+as-distance-requires : tie.Need-as-distance-requires
+as-distance-requires c κs = search needs
+
+returns : tie.Need-returns
+returns c =
+    let a = c .before .before .before .before .before .before .before .before .args in
+    given-distance-refused (tables (a .c) (a .facts .now) (a .costs .now) (a .shares .now)) (a .map) (a .s .now) (c .before .found .given .0 .0) (sym (c .before .before .before .distance-fault .ensures) ∙ c .before .found .given .1)
+
+returns-2 : tie.Need-returns-2
+returns-2 c =
+    let a = c .before .before .before .before .before .before .before .before .before .args in
+    given-distance (a .c) (a .facts .now) (a .costs .now) (a .shares .now) (a .map) (a .s .now) (c .before .away-of .result) (c .as-distance .result)
+    (sym (c .before .before .before .before .distance-fault .ensures) ∙ c .before .before .enum-told .given .1) (c .before .away-of .ensures) (c .as-distance .ensures)
+
+pub distance-at-spec : {M : Type 1} → statement M
+distance-at-spec =
+    tie.close
+    (tie.spec
+    distance-fault-requires
+    enum-known-found
+    enum-told
+    away-of-requires
+    as-distance-requires
+    returns
+    returns-2)

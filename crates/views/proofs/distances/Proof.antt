@@ -1,0 +1,71 @@
+-- `distances` meets its contract: the map's own shares are the prices. Assumes nothing.
+use borrow.Author.Needs.{needs}
+use Prim.Native.Nat.{ℕ}
+use mathlib.Core.Path.{sym, _∙_}
+use native.Mathlib.Omega.{arith}
+use Rattle.tables.specs.Task.{tables}
+use Rattle.views.proofs.Viewing.{valid-unpriced, shares-priced}
+use Rattle.views.proofs.Judging.{asked-clean, given-short, given-refused, given-rounds}
+use Rattle.views.proofs.distances.Statement.{statement}
+use Rattle.views.proofs.distances.Tie as tie
+
+returns : tie.Need-returns
+returns c =
+    let a = c .before .before .before .before .before .args in
+    given-short (tables (a .c) (a .facts .now) (a .costs .now) (a .shares .now)) (a .map) (a .out .now) (c .if1 .taken)
+
+asked-fault-requires : tie.Need-asked-fault-requires
+asked-fault-requires c κs = search needs
+
+enum-known-found : tie.Need-enum-known-found
+enum-known-found c = search needs
+
+enum-told : tie.Need-enum-told
+enum-told c = search needs
+
+share-row-requires : tie.Need-share-row-requires
+share-row-requires c κs = search needs
+
+slice-aggregate-view-rounds : tie.Need-slice-aggregate-view-rounds
+slice-aggregate-view-rounds c = search needs
+
+view-rounds-requires : tie.Need-view-rounds-requires
+view-rounds-requires c κs =
+    let a = c .before .before .before .before .before .before .before .before .before .before .before .args in
+    let q = asked-clean (tables (a .c) (a .facts .now) (a .costs .now) (a .shares .now)) (a .map) (sym (c .before .before .before .before .before .asked-fault .ensures) ∙ c .before .before .before .enum-told .given .1) in (
+      valid-unpriced (a .c) (a .facts .now) (a .costs .now) (a .shares .now) (q .0),
+      q .1,
+      shares-priced (a .c) (a .shares .now) (a .map) (c .before .before .share-row .result) (q .0 .ops) (c .before .before .share-row .ensures) (λ o l. q .0 .shares (a .map) o (q .1) l),
+      c .before .before .before .before .before .before .if1 .left,
+    )
+
+returns-2 : tie.Need-returns-2
+returns-2 c =
+    let a = c .before .before .before .before .before .before .before .before .before .args in
+    given-refused (tables (a .c) (a .facts .now) (a .costs .now) (a .shares .now)) (a .map) (a .out .now) (c .before .found .given .0 .0) (c .before .before .before .before .if1 .left) (sym (c .before .before .before .asked-fault .ensures) ∙ c .before .found .given .1)
+
+same-length : tie.Need-same-length
+same-length c = search needs
+
+returns-3 : tie.Need-returns-3
+returns-3 c =
+    let a = c .before .before .before .before .before .before .before .before .before .before .before .before .before .before .args in
+    let e = sym (c .before .before .before .before .before .before .before .before .asked-fault .ensures) ∙ c .before .before .before .before .before .before .enum-told .given .1 in
+    let q = asked-clean (tables (a .c) (a .facts .now) (a .costs .now) (a .shares .now)) (a .map) e in
+    given-rounds (a .c) (a .facts .now) (a .costs .now) (a .shares .now) (a .map) (c .before .before .before .before .before .share-row .result) (a .out .now) (c .before .before .view-rounds .last .1 .1 .1 .1 .0) (c .before .before .view-rounds .result)
+    (λ o l. c .before .before .before .before .before .share-row .ensures o (omega (arith, q .0 .ops))) (c .before .before .before .before .before .before .before .before .before .if1 .left) e (c .before .before .view-rounds .ensures)
+
+pub distances-spec : {M : Type 1} → statement M
+distances-spec =
+    tie.close
+    (tie.spec
+    returns
+    asked-fault-requires
+    enum-known-found
+    enum-told
+    share-row-requires
+    slice-aggregate-view-rounds
+    view-rounds-requires
+    returns-2
+    same-length
+    returns-3)

@@ -1,0 +1,26 @@
+-- `sums::joined` meets its contract. Assumes nothing.
+use borrow.Author.Needs.{needs}
+use native.Mathlib.Omega.{arith}
+use Rattle.views.specs.Sums.{sumSaid}
+use Rattle.views.proofs.Summing.{join-nothing, join-first, join-number}
+use Rattle.views.proofs.sums.joined.Statement.{statement}
+use Rattle.views.proofs.sums.joined.Tie as tie
+
+returns : tie.Need-returns
+returns c = (join-nothing (sumSaid (c .before .args .sum)) (c .before .args .distance) (c .if1 .taken), omega arith)
+
+add-t6 : tie.Need-add-t6
+add-t6 c = search needs
+
+returns-2 : tie.Need-returns-2
+returns-2 c =
+    let a = c .before .before .before .args in
+    (join-number (a .sum .any) (a .sum .total) (a .distance) (c .before .if2 .taken) (c .before .before .if1 .left), omega arith)
+
+returns-3 : tie.Need-returns-3
+returns-3 c =
+    let a = c .before .before .args in
+    (join-first (a .sum .any) (a .sum .total) (a .distance) (c .if2 .left) (c .before .if1 .left), omega arith)
+
+pub joined-spec : {M : Type 1} → statement M
+joined-spec = tie.close (tie.spec returns add-t6 returns-2 returns-3)

@@ -1,0 +1,103 @@
+-- `sweep::cell` meets its contract: over the operators passed so far the cost is the least. Assumes nothing.
+use borrow.Author.Needs.{needs}
+use Prim.Native.Nat.{ℕ, _≤_, _<_, _-_}
+use mathlib.Core.Path.{_≡_, sym, ap, _∙_, subst}
+use native.Mathlib.Omega.{arith}
+use Rattle.graph.specs.Least.{atGoal, best}
+use Rattle.views.specs.Said.{said, read}
+use Rattle.views.specs.Walks.{spaceOf, Spells, nextOf}
+use Rattle.views.proofs.Saids.{cell-more}
+use Rattle.views.proofs.Walking.{step-is, goal-is, spelt-digits, relax-fits}
+use Rattle.views.proofs.sweep.cell.Statement.{statement}
+use Rattle.views.proofs.sweep.cell.Tie as tie
+
+abbrev Inv-loop : tie.InvT-loop
+Inv-loop c facts prices old s ops least₀ o₀ least o =
+    (o ≤ ops) × ((a : ℕ) → Spells (c .vars) facts a s → said least ≡ best (spaceOf c facts prices) (read old) a o)
+
+abbrev μ-loop : tie.MeasureT-loop
+μ-loop c facts prices old s ops least₀ o₀ least o = ops - o
+
+digits-requires : tie.Need-digits-requires Inv-loop μ-loop
+digits-requires c κs = (c .before .before .before .pre .0 .vars, c .before .before .before .pre .0 .values)
+
+slice-aggregate-meets-goal : tie.Need-slice-aggregate-meets-goal Inv-loop μ-loop
+slice-aggregate-meets-goal c = search needs
+
+meets-goal-requires : tie.Need-meets-goal-requires Inv-loop μ-loop
+meets-goal-requires c κs = search needs
+
+start-requires : tie.Need-start-requires Inv-loop μ-loop
+start-requires c κs = search needs
+
+loop-holds : tie.Need-loop-holds Inv-loop μ-loop
+loop-holds c =
+    let x = c .before .before .before .before .before .before .before .args in
+    (omega arith, λ a h. c .start .ensures ∙ ap atGoal (c .before .meets-goal .ensures ∙ goal-is (x .c) (x .facts .now) (x .prices .now) a (c .before .before .before .digits .result) h))
+
+cost-at-requires : tie.Need-cost-at-requires Inv-loop μ-loop
+cost-at-requires c κs = search needs
+
+slice-aggregate-step-from : tie.Need-slice-aggregate-step-from Inv-loop μ-loop
+slice-aggregate-step-from c = search needs
+
+step-from-requires : tie.Need-step-from-requires Inv-loop μ-loop
+step-from-requires c κs =
+    let x = c .before .before .before .before .before .before .before .before .before .before .before .args in
+    (c .before .before .before .before .before .before .before .before .before .before .before .pre .0, c .before .before .loop-test .taken, spelt-digits (x .c) (x .facts .now) (x .prices .now) (c .before .before .before .before .before .before .before .before .before .before .before .pre .0) (x .a .0) (c .before .before .before .before .before .before .before .digits .result) (c .before .before .before .before .before .before .before .digits .ensures))
+
+beyond-requires : tie.Need-beyond-requires Inv-loop μ-loop
+beyond-requires c κs = search needs
+
+relax-requires : tie.Need-relax-requires Inv-loop μ-loop
+relax-requires c κs =
+    let x = c .before .before .before .before .before .before .before .before .before .before .before .before .before .args in
+    relax-fits (x .c) (x .facts .now) (x .prices .now) (c .before .before .before .before .before .before .before .before .before .before .before .before .before .pre .0) (x .old .now) (c .before .before .before .before .before .before .before .before .before .digits .result) (x .a .0) (c .before .before .before .before .before .loop .o) (c .before .before .before .cost-at .result) (c .beyond .result)
+    (nextOf (c .before .step-from .result)) (c .before .before .before .before .before .before .before .before .before .before .before .before .before .pre .1) (c .before .before .before .before .before .before .before .before .before .before .before .before .before .pre .2) (c .before .before .before .before .loop-test .taken) (c .before .before .before .before .before .before .before .before .before .before .before .before .before .pre .3) (c .before .before .before .before .before .before .before .before .before .digits .ensures) (c .before .step-from .ensures) (c .before .before .before .cost-at .ensures) (c .beyond .ensures)
+
+add-o : tie.Need-add-o Inv-loop μ-loop
+add-o c = search needs
+
+loop-less : tie.Need-loop-less Inv-loop μ-loop
+loop-less c = search needs
+
+loop-again : tie.Need-loop-again Inv-loop μ-loop
+loop-again c =
+    let x = c .before .before .before .before .before .before .before .before .before .before .before .before .before .before .args in
+    let l = c .before .before .before .before .before .before .loop in
+    let s = c .before .before .before .before .before .before .before .before .before .before .digits .result in (
+      omega (arith, c .before .before .before .before .before .loop-test .taken),
+      λ a h.
+          cell-more (spaceOf (x .c) (x .facts .now) (x .prices .now)) (x .old .now) a (l .o) (l .least) (c .before .before .before .before .cost-at .result) (c .before .beyond .result) (c .relax .result)
+          (nextOf (c .before .before .step-from .result)) (l .inv .1 a h) (c .before .before .step-from .ensures ∙ step-is (x .c) (x .facts .now) (x .prices .now) a (l .o) s h)
+          (c .before .before .before .before .cost-at .ensures) (c .before .beyond .ensures) (c .relax .ensures),
+    )
+
+returns : tie.Need-returns Inv-loop μ-loop
+returns c =
+    let x = c .before .before .before .before .before .before .before .before .before .args in
+    let l = c .before .loop in
+    let e : l .o ≡ x .c .ops = omega (arith, l .inv .0, c .loop-test .left) in
+    subst (λ (k : ℕ). said (l .least) ≡ best (spaceOf (x .c) (x .facts .now) (x .prices .now)) (read (x .old .now)) (x .a .0) k) e
+    (l .inv .1 (x .a .0) (c .before .before .before .before .before .digits .ensures))
+
+pub cell-spec : {M : Type 1} → statement M
+cell-spec =
+    tie.close
+    (tie.spec
+    Inv-loop
+    μ-loop
+    digits-requires
+    slice-aggregate-meets-goal
+    meets-goal-requires
+    start-requires
+    loop-holds
+    cost-at-requires
+    slice-aggregate-step-from
+    step-from-requires
+    beyond-requires
+    relax-requires
+    add-o
+    loop-less
+    loop-again
+    returns)

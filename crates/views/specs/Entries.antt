@@ -1,0 +1,89 @@
+-- What the entries promise: the distances of a map, the distance of a state, and its summed bound; and where they say no, in the paper's order.
+use mathlib.Core.Path.{_≡_}
+use mathlib.Core.List.{List}
+use Prim.Native.Nat.{ℕ, _≤_, _<_}
+use lib.Dec.{leb, ltb}
+use lib.ListN.{length, getD}
+use Rattle.graph.specs.Cost.{Cost, none, fin}
+use Rattle.graph.specs.Least.{Rounds}
+use Rattle.refusals.specs.declared.Refusal.{Refusal}
+use Rattle.refusals.specs.declared.Refusal.the-variants.{OutOfRange, TableTooShort}
+use Rattle.meaning.specs.Sas.{State}
+use Rattle.meaning.specs.Views.{α, abstractStates, IsDistanceAt, viewGraph}
+use Rattle.meaning.specs.Split.{Task, view}
+use Rattle.meaning.specs.Bound.{summed}
+use Rattle.tables.specs.declared.scan.Found.{Found}
+use Rattle.tables.specs.declared.scan.Found.the-variants.{Clean, Fault}
+use Rattle.tables.specs.Layout.{Tables}
+use Rattle.tables.specs.Task.{taskOf, stateOf}
+use Rattle.tables.specs.Scan.{unless, _then_, tablesFault, stateFault}
+use Rattle.views.specs.declared.DistancesAnswer.{DistancesAnswer}
+use Rattle.views.specs.declared.DistancesAnswer.the-variants as distances
+use Rattle.views.specs.declared.DistanceAnswer.{DistanceAnswer}
+use Rattle.views.specs.declared.DistanceAnswer.the-variants as distance
+use Rattle.views.specs.declared.BoundAnswer.{BoundAnswer}
+use Rattle.views.specs.declared.BoundAnswer.the-variants as bound
+use Rattle.views.specs.Said.{said}
+
+-- DISTANCES. out′ holds the distances of map m at all its abstract states, r is the count of rounds, and the places beyond the map are as they were
+pub record DistancesOf (T : Task) (m : ℕ) (out : List ℕ) (r : ℕ) (out′ : List ℕ) : Type 0 where
+  pub distances : (a : ℕ) → a < abstractStates (T .sas) (view T m) → IsDistanceAt (T .sas) (view T m) a (said (getD out′ a 0))
+  pub rounds : Rounds (viewGraph (T .sas) (view T m)) r
+  pub others : (a : ℕ) → abstractStates (T .sas) (view T m) ≤ a → getD out′ a 0 ≡ getD out a 0
+  pub room : length out′ ≡ length out
+
+-- v is the distance of the state's image in map m
+abbrev pub IsAway : Task → State → ℕ → Cost → Type 0
+IsAway T s m v = IsDistanceAt (T .sas) (view T m) (α (T .sas) (view T m) s) v
+
+-- v is the summed bound of the state: the sum of the distances of its images
+abbrev pub IsBound : Task → State → Cost → Type 0
+IsBound T s v = (d : ℕ → Cost) × ((m : ℕ) → m < T .maps → IsAway T s m (d m)) × (v ≡ summed d (T .maps))
+
+-- WHEN THE DESK SAYS NO. A map asked for by a number that the task hasn't: 3, place 0
+abbrev pub noSuchMap : Tables → ℕ → Found
+noSuchMap t m = unless (ltb m (t .counts .maps)) (OutOfRange 0)
+
+-- the tables, then the map
+unfoldable pub askedFault : Tables → ℕ → Found
+askedFault t m = tablesFault t then noSuchMap t m
+
+-- 8 for every lent table before all
+unfoldable pub distancesFault : Tables → ℕ → List ℕ → Found
+distancesFault t m out = unless (leb 4096 (length out)) TableTooShort then askedFault t m
+
+-- then the state
+unfoldable pub distanceFault : Tables → ℕ → List ℕ → Found
+distanceFault t m s = askedFault t m then stateFault (t .counts) (t .facts) s
+
+unfoldable pub boundFault : Tables → List ℕ → Found
+boundFault t s = tablesFault t then stateFault (t .counts) (t .facts) s
+
+-- THE PROMISES. The first fault is answered as refused says, and where there is none, accepted holds
+abbrev pub Judged : Found → (Refusal → Type 0) → Type 0 → Type 0
+Judged Clean refused accepted = accepted
+Judged (Fault f) refused accepted = refused f
+
+-- a refusal leaves the lent table as it was
+abbrev pub DistancesGiven : Tables → ℕ → List ℕ → DistancesAnswer → List ℕ → Type 0
+DistancesGiven t m out answer out′ =
+    Judged (distancesFault t m out) (λ f. (answer ≡ distances.Refused f) × (out′ ≡ out))
+    ((r : ℕ) × (answer ≡ distances.Rounds r) × DistancesOf (taskOf t) m out r out′)
+
+-- a distance or a sum as an answer: none is a case of its own
+abbrev pub distanceSaid : Cost → DistanceAnswer
+distanceSaid none = distance.Nowhere
+distanceSaid (fin d) = distance.Of d
+
+abbrev pub boundSaid : Cost → BoundAnswer
+boundSaid none = bound.Nowhere
+boundSaid (fin b) = bound.Of b
+
+abbrev pub DistanceGiven : Tables → ℕ → List ℕ → DistanceAnswer → Type 0
+DistanceGiven t m s answer =
+    Judged (distanceFault t m s) (λ f. answer ≡ distance.Refused f)
+    ((v : Cost) × (answer ≡ distanceSaid v) × IsAway (taskOf t) (stateOf s) m v)
+
+abbrev pub BoundGiven : Tables → List ℕ → BoundAnswer → Type 0
+BoundGiven t s answer =
+    Judged (boundFault t s) (λ f. answer ≡ bound.Refused f) ((v : Cost) × (answer ≡ boundSaid v) × IsBound (taskOf t) (stateOf s) v)

@@ -1,0 +1,163 @@
+// Goal distances in simplified views, and the summed bound of a state.
+pub mod classes;
+pub mod maps;
+pub mod sums;
+pub mod sweep;
+pub mod walk;
+
+ghost use mathlib.Core.Path.{_≡_};
+ghost use Rattle.tables.specs.Task.{tables};
+ghost use Rattle.views.specs.Said.{said};
+ghost use Rattle.views.specs.Sums.{sumSaid};
+ghost use Rattle.views.specs.Entries.{askedFault, distanceFault, boundFault, distanceSaid, boundSaid, DistancesGiven, DistanceGiven, BoundGiven};
+use crate::maps::STATES;
+use crate::maps::away_of;
+use crate::maps::share_row;
+use crate::maps::view_rounds;
+use crate::sums::Sum;
+use crate::sums::sum_of;
+use crate::sweep::NO_COST;
+use refusals::Refusal;
+use tables::Counts;
+use tables::scan::Found;
+use tables::scan::state_fault;
+use tables::scan::tables_fault;
+
+// The answer of `distances`: the count of rounds, or why not.
+pub enum DistancesAnswer {
+    Rounds(u32),
+    Refused(Refusal),
+}
+
+// The answer of `distance_at`: the distance, none, or why not.
+pub enum DistanceAnswer {
+    Of(u32),
+    Nowhere,
+    Refused(Refusal),
+}
+
+// The answer of `bound`: the sum, none, or why not.
+pub enum BoundAnswer {
+    Of(u64),
+    Nowhere,
+    Refused(Refusal),
+}
+
+// The first fault where a map is asked for: the tables', or a map that the task hasn't.
+fn asked_fault(c: Counts, facts: &[u8], costs: &[u32], shares: &[u32], map: u32) -> Found
+    ensures { λ r. ⌜ r ≡ askedFault (tables c (now (facts .entry)) (now (costs .entry)) (now (shares .entry))) map ⌝ }
+{
+    let found = tables_fault(c, facts, costs, shares);
+    let Found::Clean = found else {
+        return found;
+    };
+    if map < c.maps {
+        Found::Clean
+    } else {
+        Found::Fault(Refusal::OutOfRange(0))
+    }
+}
+
+// The first fault where a state's distance in a map is asked for.
+fn distance_fault(
+    c: Counts,
+    facts: &[u8],
+    costs: &[u32],
+    shares: &[u32],
+    map: u32,
+    s: &[u8],
+) -> Found
+    ensures { λ r. ⌜ r ≡ distanceFault (tables c (now (facts .entry)) (now (costs .entry)) (now (shares .entry))) map (now (s .entry)) ⌝ }
+{
+    let found = asked_fault(c, facts, costs, shares, map);
+    let Found::Clean = found else {
+        return found;
+    };
+    state_fault(c, facts, s)
+}
+
+// The first fault where a state's bound is asked for.
+fn bound_fault(c: Counts, facts: &[u8], costs: &[u32], shares: &[u32], s: &[u8]) -> Found
+    ensures { λ r. ⌜ r ≡ boundFault (tables c (now (facts .entry)) (now (costs .entry)) (now (shares .entry))) (now (s .entry)) ⌝ }
+{
+    let found = tables_fault(c, facts, costs, shares);
+    let Found::Clean = found else {
+        return found;
+    };
+    state_fault(c, facts, s)
+}
+
+// A table's number as an answer.
+fn as_distance(distance: u32) -> DistanceAnswer
+    ensures { λ r. ⌜ r ≡ distanceSaid (said distance) ⌝ }
+{
+    if distance == NO_COST {
+        DistanceAnswer::Nowhere
+    } else {
+        DistanceAnswer::Of(distance)
+    }
+}
+
+// A sum as an answer.
+fn as_bound(sum: Sum) -> BoundAnswer
+    ensures { λ r. ⌜ r ≡ boundSaid (sumSaid sum) ⌝ }
+{
+    if sum.any {
+        BoundAnswer::Of(sum.total)
+    } else {
+        BoundAnswer::Nowhere
+    }
+}
+
+// The distances of a map at all its abstract states, with the count of rounds; or why not.
+pub fn distances(
+    c: Counts,
+    facts: &[u8],
+    costs: &[u32],
+    shares: &[u32],
+    map: u32,
+    out: &mut [u32],
+) -> DistancesAnswer
+    ensures { λ r. ⌜ DistancesGiven (tables c (now (facts .entry)) (now (costs .entry)) (now (shares .entry))) map (now (out .entry)) r (now (out .exit)) ⌝ }
+{
+    if out.len() < STATES {
+        return DistancesAnswer::Refused(Refusal::TableTooShort);
+    }
+    let found = asked_fault(c, facts, costs, shares, map);
+    match found {
+        Found::Fault(f) => DistancesAnswer::Refused(f),
+        Found::Clean => {
+            let prices = share_row(shares, map);
+            DistancesAnswer::Rounds(view_rounds(c, facts, &prices, map, out))
+        }
+    }
+}
+
+// The distance of a state's image in a map, or none; or why not.
+pub fn distance_at(
+    c: Counts,
+    facts: &[u8],
+    costs: &[u32],
+    shares: &[u32],
+    map: u32,
+    s: &[u8],
+) -> DistanceAnswer
+    ensures { λ r. ⌜ DistanceGiven (tables c (now (facts .entry)) (now (costs .entry)) (now (shares .entry))) map (now (s .entry)) r ⌝ }
+{
+    let found = distance_fault(c, facts, costs, shares, map, s);
+    match found {
+        Found::Fault(f) => DistanceAnswer::Refused(f),
+        Found::Clean => as_distance(away_of(c, facts, shares, map, s)),
+    }
+}
+
+// The summed bound of a state, or none; or why not.
+pub fn bound(c: Counts, facts: &[u8], costs: &[u32], shares: &[u32], s: &[u8]) -> BoundAnswer
+    ensures { λ r. ⌜ BoundGiven (tables c (now (facts .entry)) (now (costs .entry)) (now (shares .entry))) (now (s .entry)) r ⌝ }
+{
+    let found = bound_fault(c, facts, costs, shares, s);
+    match found {
+        Found::Fault(f) => BoundAnswer::Refused(f),
+        Found::Clean => as_bound(sum_of(c, facts, shares, s)),
+    }
+}

@@ -1,0 +1,59 @@
+// The sum of the maps' distances at a state.
+ghost use mathlib.Core.Path.{_≡_};
+ghost use mathlib.Core.List.{[]};
+ghost use Prim.Native.Nat.{ℕ, _+_, _≤_, _<_};
+ghost use Rattle.meaning.specs.Sas.{IsState};
+ghost use Rattle.meaning.specs.Split.{Valid};
+ghost use Rattle.meaning.specs.Bound.{bound, join};
+ghost use Rattle.tables.specs.Task.{taskOf, tables, stateOf};
+ghost use Rattle.views.specs.Said.{said};
+ghost use Rattle.views.specs.Classes.{unpriced, SharesSmall};
+ghost use Rattle.views.specs.Sums.{sumSaid};
+use crate::maps::away_of;
+use crate::sweep::NO_COST;
+use tables::Counts;
+
+// A sum under way: whether some map said a number, and their total.
+pub struct Sum {
+    pub any: bool,
+    pub total: u64,
+}
+
+// With one map's distance more; a map with none adds 0.
+fn joined(sum: Sum, distance: u32) -> Sum
+    requires { ⌜ sum .total ≤ 1000000000000 ⌝ }
+    ensures { λ r. ⌜ (sumSaid r ≡ join (sumSaid sum) (said distance)) × (r .total ≤ sum .total + 4294967295) ⌝ }
+{
+    if distance == NO_COST {
+        return sum;
+    }
+    if sum.any {
+        Sum {
+            any: true,
+            total: sum.total + distance as u64,
+        }
+    } else {
+        Sum {
+            any: true,
+            total: distance as u64,
+        }
+    }
+}
+
+// The sum over all maps.
+pub fn sum_of(c: Counts, facts: &[u8], shares: &[u32], s: &[u8]) -> Sum
+    requires { ⌜ Valid (unpriced c (now facts)) × ((m : ℕ) → m < c .maps → SharesSmall c (now shares) m) × IsState (unpriced c (now facts) .sas) (stateOf (now s)) ⌝ }
+    ensures { λ r. ⌜ sumSaid r ≡ bound (taskOf (tables c (now (facts .entry)) [] (now (shares .entry)))) (stateOf (now (s .entry))) ⌝ }
+{
+    let maps = c.maps;
+    let mut sum = Sum {
+        any: false,
+        total: 0,
+    };
+    let mut m = 0u32;
+    while m < maps {
+        sum = joined(sum, away_of(c, facts, shares, m, s));
+        m += 1;
+    }
+    sum
+}
