@@ -11,13 +11,18 @@ use Rattle.meaning.specs.Split.{Task, Valid, sum}
 use Rattle.tables.specs.declared.scan.Found.the-variants.{Clean}
 use Rattle.tables.specs.Layout.{Tables}
 use Rattle.tables.specs.Task.{taskOf, sasOf, stateOf}
-use Rattle.tables.specs.Scan.{tablesFault}
+use Rattle.tables.specs.Scan.{tablesFault, stateFault}
 use Rattle.tables.proofs.Laws.{by-cases}
 use Rattle.ledger.specs.declared.Run.{Run}
-use Rattle.ledger.specs.Ledger.{allColumns, unshared, rest, gain, fresh, startIn, startFrom, offered}
-use Rattle.ledger.specs.History.{Offer, reallyRuns, added, reallyRun, ran, Tells, Between}
+use Rattle.ledger.specs.declared.Answer.the-variants.{Accepted}
+use Rattle.ledger.specs.Ledger.{allColumns, unshared, rest, gain, fresh, startIn, startFrom, offered, begun}
+use Rattle.ledger.specs.History.{Offer, reallyRuns, added, reallyRun, ran, runAfter, Tells, Between}
 use Rattle.ledger.proofs.Gains.{gain-map, gain-rest, gain-all}
 use Rattle.ledger.proofs.Sequences.{end-append, end-same, runs-later, runs-same, paid-append, paid-same, paid-sum}
+use Rattle.tables.proofs.Walks.{clean-first, clean-next}
+use Rattle.tables.proofs.Validity.{clean-valid, state-clean}
+use Rattle.ledger.proofs.Entries.{begun-no-fault, begun-run}
+use Rattle.ledger.proofs.Begun.{from-inside}
 use Rattle.ledger.proofs.Told.{Told, fresh-told, offer-told}
 
 -- ---- what a run that tells its steps says of the columns
@@ -108,3 +113,43 @@ module _ (t : Tables) (s : List ℕ) (clean : tablesFault t ≡ Clean) (valid : 
       (tells-between (taskOf t) (stateOf s) done (added (sasOf t) (stateOf s) done ys) earlier (ran t earlier ys)
       (fresh-tells xs)
       (ran-told ys done earlier (fresh-ran xs) .tells))
+
+-- ---- THE THEOREMS, of any accepted start and any offers, so at every moment
+
+module _ (t : Tables) (s : List ℕ) (accepted : begun t s .answer ≡ Accepted) where
+  clean : tablesFault t ≡ Clean
+  clean = clean-first (tablesFault t) (stateFault (t .counts) (t .facts) s) (begun-no-fault t s accepted)
+
+  valid : Valid (taskOf t)
+  valid = clean-valid t clean
+
+  inside : startIn (t .counts) (t .facts) (startFrom (t .counts) s) ≡ true
+  inside =
+      from-inside t s valid
+      (state-clean t s .0 (clean-next (tablesFault t) (stateFault (t .counts) (t .facts) s) (begun-no-fault t s accepted)) .1)
+
+  -- the run tells the steps really run
+  pub history : (xs : List Offer) → Tells (taskOf t) (stateOf s) (reallyRun (sasOf t) (stateOf s) xs) (runAfter t s xs)
+  history xs = rw (begun-run t s accepted) (fresh-tells t s clean valid inside xs)
+
+  -- each map was paid its shares of them
+  pub map-paid : (xs : List Offer) (m : ℕ) → m < t .counts .maps
+      → getD (runAfter t s xs .columns) m 0 ≡ paid (taskOf t .share m) (reallyRun (sasOf t) (stateOf s) xs)
+  map-paid xs = tells-map (taskOf t) valid (stateOf s) (reallyRun (sasOf t) (stateOf s) xs) (runAfter t s xs) (history xs)
+
+  -- the unshared column has their costs less their shares
+  pub unshared-paid : (xs : List Offer)
+      → getD (runAfter t s xs .columns) unshared 0 ≡ paid (rest (taskOf t)) (reallyRun (sasOf t) (stateOf s) xs)
+  unshared-paid xs =
+      tells-unshared (taskOf t) valid (stateOf s) (reallyRun (sasOf t) (stateOf s) xs) (runAfter t s xs) (history xs)
+
+  -- all columns together are their costs
+  pub all-paid : (xs : List Offer)
+      → sum (λ c. getD (runAfter t s xs .columns) c 0) allColumns ≡ paid (sasOf t .cost) (reallyRun (sasOf t) (stateOf s) xs)
+  all-paid xs = tells-all (taskOf t) valid (stateOf s) (reallyRun (sasOf t) (stateOf s) xs) (runAfter t s xs) (history xs)
+
+  -- what further offers add runs from the earlier state to the later, and the columns grow by it
+  pub between : (xs ys : List Offer)
+      → Between (taskOf t) (added (sasOf t) (stateOf s) (reallyRun (sasOf t) (stateOf s) xs) ys) (runAfter t s xs)
+      (runAfter t s (xs ++ ys))
+  between xs ys = rw (begun-run t s accepted) (fresh-between t s clean valid inside xs ys)

@@ -1,7 +1,10 @@
 pub mod Gains
 pub mod Answers
 pub mod Runs
-pub mod Sequences
+pub mod Begun
 pub mod Accepted
+pub mod Entries
+pub mod Sequences
 pub mod Told
 pub mod History
+pub mod Cases

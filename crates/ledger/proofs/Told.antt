@@ -28,15 +28,10 @@ use Rattle.ledger.specs.Ledger.{steps, allColumns, gain, booked, fresh, 
 use Rattle.ledger.specs.History.{Offer, mayFollow, reallyRuns, Tells}
 use Rattle.ledger.proofs.Gains.{booked-at, booked-length}
 use Rattle.ledger.proofs.Answers.{next-go, judged-next}
+use Rattle.ledger.proofs.Begun.{zeros-at, from-at, from-beyond, from-size}
 use Rattle.ledger.proofs.Runs.{same-refl, replayed-yes, replayed-no, can-exists}
 use Rattle.ledger.proofs.Sequences.{end-append, runs-append, paid-append}
 use Rattle.ledger.proofs.Accepted.{answered-judged, accepted-number, accepted-room, accepted-can, offer-runs, offer-stays}
-
-zeros-at : (n v : ℕ) → _≡_ {A = ℕ} (getD (replicate n 0) v 0) 0
-zeros-at n v =
-    by-cases (ltb v n) (λ e. getD-replicate {A = ℕ} n v 0 0 (ltb-true v n e))
-    (λ e.
-    List·getD-eq-default (replicate n 0) 0 (omega (arith, length-replicate {A = ℕ} n 0, ltb-false v n e)))
 
 length-snoc : (done : List ℕ) (o : ℕ) → length (done ++ (o ∷ [])) ≡ length done + 1
 length-snoc done o = length-append done (o ∷ [])
@@ -71,20 +66,6 @@ module _ (t : Tables) (s : List ℕ) (clean : tablesFault t ≡ Clean) (valid : 
 
   -- ---- the fresh run
 
-  from-at : (v : ℕ) → v < t .counts .vars → stateOf (startFrom (t .counts) s) v ≡ stateOf s v
-  unfolding startFrom
-  from-at v h =
-      filled-at (stateOf s) (replicate 8 0) (t .counts .vars) v h
-      (omega (arith, length-replicate {A = ℕ} 8 0, valid .vars .1))
-
-  from-beyond : (v : ℕ) → t .counts .vars ≤ v → stateOf (startFrom (t .counts) s) v ≡ 0
-  unfolding startFrom
-  from-beyond v h = filled-later (stateOf s) (replicate 8 0) (t .counts .vars) v h ∙ zeros-at 8 v
-
-  from-size : length (startFrom (t .counts) s) ≡ 8
-  unfolding startFrom
-  from-size = length-filled (stateOf s) (replicate 8 0) (t .counts .vars) ∙ length-replicate {A = ℕ} 8 0
-
   fresh-tells : Tells (taskOf t) (stateOf s) [] (fresh (startFrom (t .counts) s))
   unfolding fresh
   fresh-tells =
@@ -94,10 +75,10 @@ module _ (t : Tables) (s : List ℕ) (clean : tablesFault t ≡ Clean) (valid : 
         log = refl;
         log-unused = λ i h. zeros-at steps i;
         legal = tt;
-        start = from-at;
-        start-unused = from-beyond;
-        now = from-at;
-        now-unused = from-beyond;
+        start = from-at t s valid;
+        start-unused = from-beyond t s valid;
+        now = from-at t s valid;
+        now-unused = from-beyond t s valid;
         column = λ c h. zeros-at allColumns c;
       }
 
@@ -108,7 +89,7 @@ module _ (t : Tables) (s : List ℕ) (clean : tablesFault t ≡ Clean) (valid : 
         tells = fresh-tells;
         from = refl;
         log-size = length-replicate {A = ℕ} steps 0;
-        now-size = from-size;
+        now-size = from-size t s valid;
         columns-size = length-replicate {A = ℕ} allColumns 0;
         given = refl;
       }

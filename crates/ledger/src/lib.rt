@@ -4,7 +4,7 @@ ghost use Prim.Native.Nat.{_≤_, _<_};
 ghost use lib.ListN.{take};
 ghost use Rattle.meaning.specs.Split.{Valid};
 ghost use Rattle.tables.specs.Task.{taskOf, tables};
-ghost use Rattle.ledger.specs.Ledger.{steps, fresh, advanced, canRun, replayed, sameStates, sameSteps, sameRun, isRun, oldStep, nextStep, judged};
+ghost use Rattle.ledger.specs.Ledger.{steps, fresh, advanced, canRun, replayed, sameStates, sameSteps, sameRun, isRun, oldStep, nextStep, judged, answered, offered, begun};
 ghost use Rattle.ledger.specs.Inside.{Bounded};
 
 pub mod columns;
@@ -14,10 +14,14 @@ pub mod starts;
 use crate::columns::columns_after;
 use crate::compare::same_bytes;
 use crate::compare::same_words;
+use crate::starts::start_fault;
+use crate::starts::start_from;
 use crate::starts::start_in;
 use meaning::OpNo;
 use refusals::Refusal;
 use tables::Counts;
+use tables::scan::Found;
+use tables::scan::tables_fault;
 use tables::steps::may_run;
 use tables::steps::state_after;
 
@@ -221,5 +225,85 @@ impl Run {
             return self.old_step(number, op);
         }
         self.next_step(c, facts, number, op)
+    }
+
+    // The answer to an offer: tables, then 17, then the offer itself.
+    fn answer(
+        self,
+        c: Counts,
+        facts: &[u8],
+        costs: &[u32],
+        shares: &[u32],
+        number: u32,
+        op: OpNo,
+    ) -> Answer
+        ensures { λ r. ⌜ r ≡ answered (tables c (now (facts .entry)) (now (costs .entry)) (now (shares .entry))) self number (op .0) ⌝ }
+    {
+        let found = tables_fault(c, facts, costs, shares);
+        match found {
+            Found::Clean => {
+                if !self.is_run(c, facts, costs, shares) {
+                    return Answer::Refused(Refusal::NotARun);
+                }
+                self.judge(c, facts, number, op)
+            }
+            Found::Fault(f) => Answer::Refused(f),
+        }
+    }
+
+    // An offer of a step: the run after it together with the answer. Only an accepted offer moves the run.
+    pub fn offer(
+        mut self,
+        c: Counts,
+        facts: &[u8],
+        costs: &[u32],
+        shares: &[u32],
+        number: u32,
+        op: OpNo,
+    ) -> Offered
+        ensures { λ r. ⌜ r ≡ offered (tables c (now (facts .entry)) (now (costs .entry)) (now (shares .entry))) self number (op .0) ⌝ }
+    {
+        let a = self.answer(c, facts, costs, shares, number, op);
+        match a {
+            Answer::Accepted => {
+                self = self.advance(c, facts, costs, shares, op);
+                Offered {
+                    run: self,
+                    answer: a,
+                }
+            }
+            Answer::Repeated => Offered {
+                run: self,
+                answer: a,
+            },
+            Answer::Refused(_) => Offered {
+                run: self,
+                answer: a,
+            },
+        }
+    }
+
+    // A fresh run from a lent state; or a run of zeros beside the refusal.
+    pub fn begin(c: Counts, facts: &[u8], costs: &[u32], shares: &[u32], start: &[u8]) -> Offered
+        ensures { λ r. ⌜ r ≡ begun (tables c (now (facts .entry)) (now (costs .entry)) (now (shares .entry))) (now (start .entry)) ⌝ }
+    {
+        let found = start_fault(c, facts, costs, shares, start);
+        match found {
+            Found::Clean => {
+                let s = start_from(c, start);
+                let run = Run::fresh(s);
+                Offered {
+                    run,
+                    answer: Answer::Accepted,
+                }
+            }
+            Found::Fault(f) => {
+                let run = Run::fresh([0u8; 8]);
+                Offered {
+                    run,
+                    answer: Answer::Refused(f),
+                }
+            }
+        }
     }
 }

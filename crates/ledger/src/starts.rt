@@ -1,11 +1,16 @@
 // The start of a run: whether a run's own start is one, and the start from a lent state.
 ghost use mathlib.Core.Path.{_≡_};
 ghost use Prim.Native.Nat.{_≤_};
+ghost use Rattle.tables.specs.Task.{tables};
+ghost use Rattle.tables.specs.Scan.{_then_, tablesFault, stateFault};
 ghost use Rattle.ledger.specs.Ledger.{startAt, startIn, startFrom};
 use tables::Counts;
 use tables::readers::DOM_ROW;
 use tables::readers::byte_at;
 use tables::readers::row_at;
+use tables::scan::Found;
+use tables::scan::state_fault;
+use tables::scan::tables_fault;
 
 // A value of a start: in its variable, or 0 beyond the variables.
 pub fn start_at(c: Counts, facts: &[u8], v: u32, x: u8) -> bool
@@ -44,4 +49,15 @@ pub fn start_from(c: Counts, s: &[u8]) -> [u8; 8]
         v += 1;
     }
     t
+}
+
+// The first fault of a start: of the tables, then of the lent state.
+pub fn start_fault(c: Counts, facts: &[u8], costs: &[u32], shares: &[u32], s: &[u8]) -> Found
+    ensures { λ r. ⌜ r ≡ (tablesFault (tables c (now (facts .entry)) (now (costs .entry)) (now (shares .entry))) then stateFault c (now (facts .entry)) (now (s .entry))) ⌝ }
+{
+    let found = tables_fault(c, facts, costs, shares);
+    match found {
+        Found::Clean => state_fault(c, facts, s),
+        Found::Fault(_) => found,
+    }
 }
