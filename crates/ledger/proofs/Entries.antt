@@ -23,6 +23,7 @@ use Rattle.ledger.specs.Ledger.{steps, fresh, advanced, startFrom, answe
 use Rattle.ledger.specs.Inside.{Bounded}
 use Rattle.ledger.proofs.Accepted.{by-found, not-refused, accepted-clean, accepted-run, accepted-exists, accepted-room}
 use Rattle.ledger.proofs.Runs.{run-bounded}
+use Rattle.tables.proofs.Walks.{clean-first}
 use Rattle.tables.proofs.Validity.{clean-valid}
 
 -- ---- an offer
@@ -70,6 +71,9 @@ then-of-fault a b x f p q = rw (← p, q) refl
 module _ (t : Tables) (s : List ℕ) where
   abbrev startFault : Found
   startFault = tablesFault t then stateFault (t .counts) (t .facts) s
+
+  pub few-vars : startFault ≡ Clean → t .counts .vars ≤ 8
+  few-vars p = clean-valid t (clean-first (tablesFault t) (stateFault (t .counts) (t .facts) s) p) .vars .1
 
   pub begun-clean : (q : Run) → startFault ≡ Clean → q ≡ fresh (startFrom (t .counts) s) → record { run = q; answer = Accepted } ≡ begun t s
   unfolding begun started

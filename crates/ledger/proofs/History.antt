@@ -6,8 +6,9 @@ use mathlib.Core.List.{List, [], _∷_, _++_, append-assoc, append-nil}
 use mathlib.Core.Bool.{Bool, true, false, cond}
 use native.Mathlib.Omega.{arith}
 use lib.ListN.{getD}
-use Rattle.meaning.specs.Sas.{State, Runs, end, paid}
+use Rattle.meaning.specs.Sas.{State, IsState, end, paid}
 use Rattle.meaning.specs.Split.{Task, Valid, sum}
+use Rattle.meaning.proofs.Bounds.{end-state}
 use Rattle.tables.specs.declared.scan.Found.the-variants.{Clean}
 use Rattle.tables.specs.Layout.{Tables}
 use Rattle.tables.specs.Task.{taskOf, sasOf, stateOf}
@@ -123,14 +124,22 @@ module _ (t : Tables) (s : List ℕ) (accepted : begun t s .answer ≡ Accepted)
   valid : Valid (taskOf t)
   valid = clean-valid t clean
 
+  start-state : IsState (sasOf t) (stateOf s)
+  start-state =
+      state-clean t s .0 (clean-next (tablesFault t) (stateFault (t .counts) (t .facts) s) (begun-no-fault t s accepted)) .1
+
   inside : startIn (t .counts) (t .facts) (startFrom (t .counts) s) ≡ true
-  inside =
-      from-inside t s valid
-      (state-clean t s .0 (clean-next (tablesFault t) (stateFault (t .counts) (t .facts) s) (begun-no-fault t s accepted)) .1)
+  inside = from-inside t s valid start-state
 
   -- the run tells the steps really run
   pub history : (xs : List Offer) → Tells (taskOf t) (stateOf s) (reallyRun (sasOf t) (stateOf s) xs) (runAfter t s xs)
   history xs = rw (begun-run t s accepted) (fresh-tells t s clean valid inside xs)
+
+  -- the state now is a state of the task
+  pub now-state : (xs : List Offer) → IsState (sasOf t) (stateOf (runAfter t s xs .now))
+  now-state xs v l =
+      rw (history xs .now v l)
+      (end-state (sasOf t) (valid .proper) (reallyRun (sasOf t) (stateOf s) xs) (stateOf s) start-state (history xs .legal) v l)
 
   -- each map was paid its shares of them
   pub map-paid : (xs : List Offer) (m : ℕ) → m < t .counts .maps

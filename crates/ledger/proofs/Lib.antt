@@ -7,4 +7,5 @@ pub mod Entries
 pub mod Sequences
 pub mod Told
 pub mod History
+pub mod Sound
 pub mod Cases

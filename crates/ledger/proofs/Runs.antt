@@ -54,7 +54,13 @@ module _ (r q : Run) where
   unfolding sameRun
   same-yes x p s e = rw (p, s) e
 
-  same-steps : sameRun r q ≡ true → sameSteps r q ≡ true
+  pub same-states : sameRun r q ≡ true → sameStates r q ≡ true
+  unfolding sameRun
+  same-states p =
+      and-left (sameStates r q) (sameSteps r q)
+      (and-left (sameStates r q && sameSteps r q) (sameTo allColumns (r .columns) (q .columns)) p)
+
+  pub same-steps : sameRun r q ≡ true → sameSteps r q ≡ true
   unfolding sameRun
   same-steps p =
       and-right (sameStates r q) (sameSteps r q)
@@ -64,14 +70,13 @@ module _ (r q : Run) where
   unfolding sameSteps
   same-len p = eqb-true (r .len) (q .len) (and-left (eqb (r .len) (q .len)) (sameTo steps (r .log) (q .log)) (same-steps p))
 
-  pub same-column : sameRun r q ≡ true → (c : ℕ) → c < allColumns → getD (r .columns) c 0 ≡ getD (q .columns) c 0
-  unfolding sameRun sameTo
-  same-column p c h =
-      eqb-true (getD (r .columns) c 0) (getD (q .columns) c 0)
-      (every-true (sameAt (r .columns) (q .columns)) allColumns
-      (and-right (sameStates r q && sameSteps r q) (sameTo allColumns (r .columns) (q .columns)) p)
-      c
-      h)
+  pub same-columns : sameRun r q ≡ true → sameTo allColumns (r .columns) (q .columns) ≡ true
+  unfolding sameRun
+  same-columns p = and-right (sameStates r q && sameSteps r q) (sameTo allColumns (r .columns) (q .columns)) p
+
+pub sameTo-at : (k : ℕ) (xs ys : List ℕ) → sameTo k xs ys ≡ true → (i : ℕ) → i < k → getD xs i 0 ≡ getD ys i 0
+unfolding sameTo
+sameTo-at k xs ys p i h = eqb-true (getD xs i 0) (getD ys i 0) (every-true (sameAt xs ys) k p i h)
 
 sameTo-refl : (k : ℕ) (xs : List ℕ) → sameTo k xs xs ≡ true
 unfolding sameTo
@@ -86,7 +91,15 @@ same-refl r =
 
 -- ---- replaying
 
+pub can-exists : (c : Counts) (facts : List ℕ) (r : Run) (o : ℕ) → canRun c facts r o ≡ true → o < c .ops
+unfolding canRun
+can-exists c facts r o p = ltb-true o (c .ops) (and-left (ltb o (c .ops)) (mayRun c facts (r .now) o) p)
+
 module _ (t : Tables) where
+  pub advanced-len : (r : Run) (o : ℕ) → advanced t r o .len ≡ r .len + 1
+  unfolding advanced
+  advanced-len r o = refl
+
   pub replayed-yes : (r : Run) (o : ℕ) (os : List ℕ) → canRun (t .counts) (t .facts) r o ≡ true
       → replayed t r (o ∷ os) ≡ replayed t (advanced t r o) os
   unfolding replayed
@@ -96,11 +109,6 @@ module _ (t : Tables) where
       → replayed t r (o ∷ os) ≡ record { ok = false; run = r }
   unfolding replayed
   replayed-no r o os p = rw (replayed, p) refl
-
-  pub can-exists : (r : Run) (o : ℕ) → canRun (t .counts) (t .facts) r o ≡ true → o < t .counts .ops
-  unfolding canRun
-  can-exists r o p =
-      ltb-true o (t .counts .ops) (and-left (ltb o (t .counts .ops)) (mayRun (t .counts) (t .facts) (r .now) o) p)
 
   -- the turns of the replaying loop, over the first k steps of a log
   module _ (log : List ℕ) (k : ℕ) (long : k ≤ length log) (r : Run) (i : ℕ) where
@@ -140,7 +148,7 @@ module _ (t : Tables) where
     bounded-replayed [] r b = b
     bounded-replayed (o ∷ os) r b =
         by-cases (canRun (t .counts) (t .facts) r o)
-        (λ p. rw (replayed-yes r o os p) (bounded-replayed os (advanced t r o) (bounded-step r o (can-exists r o p) b)))
+        (λ p. rw (replayed-yes r o os p) (bounded-replayed os (advanced t r o) (bounded-step r o (can-exists (t .counts) (t .facts) r o p) b)))
         (λ p. rw (replayed-no r o os p) b)
 
     -- a run that its start and log give is bounded
@@ -151,7 +159,7 @@ module _ (t : Tables) where
         let e : sameRun r q ≡ true =
         and-right (leb (r .len) steps && startIn (t .counts) (t .facts) (r .start) && given t r .ok) (sameRun r q) p in
         let b : Bounded q = bounded-replayed (take (r .len) (r .log)) (fresh (r .start)) (fresh-bounded (r .start)) in
-        record { within = λ c h. omega (arith, same-column r q e c h, b .within c h, same-len r q e) }
+        record { within = λ c h. omega (arith, sameTo-at allColumns (r .columns) (q .columns) (same-columns r q e) c h, b .within c h, same-len r q e) }
 
   pub run-len : (r : Run) → isRun t r ≡ true → r .len ≤ steps
   unfolding isRun

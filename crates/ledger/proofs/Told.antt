@@ -139,7 +139,7 @@ module _ (t : Tables) (s : List ℕ) (clean : tablesFault t ≡ Clean) (valid : 
                   ∙ told .tells .log-unused i (omega (arith, length-snoc done o));
               legal =
                   runs-append (sasOf t) done (o ∷ []) (stateOf s) (told .tells .legal) (
-                    can-exists t q o can,
+                    can-exists (t .counts) (t .facts) q o can,
                     complies-true (sasOf t) (sasOf t .pre o) (end (sasOf t) done (stateOf s)) may,
                     tt,
                   );
@@ -178,7 +178,7 @@ module _ (t : Tables) (s : List ℕ) (clean : tablesFault t ≡ Clean) (valid : 
         (ap (λ (k : ℕ). take k (q .log)) (told .tells .len) ∙ told .tells .log)
         ∙ told .given
 
-    is-run : isRun t q ≡ true
+    pub is-run : isRun t q ≡ true
     unfolding isRun
     is-run =
         let in-start : startIn (t .counts) (t .facts) (q .start) ≡ true =
@@ -216,7 +216,7 @@ module _ (t : Tables) (s : List ℕ) (clean : tablesFault t ≡ Clean) (valid : 
       runs-accepted p =
           let n = runs-number p in
           sym
-          (judged-next (t .counts) (t .facts) q (x .number) (x .op) (can-exists t q (x .op) (runs-can p))
+          (judged-next (t .counts) (t .facts) q (x .number) (x .op) (can-exists (t .counts) (t .facts) q (x .op) (runs-can p))
           (λ z. omega arith)
           Accepted
           (omega (arith, told .tells .len))

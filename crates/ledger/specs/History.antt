@@ -65,3 +65,10 @@ pub record Between (T : Task) (os : List ℕ) (earlier later : Run) : Type 0 whe
   pub legal : Runs (T .sas) os (stateOf (earlier .now))
   pub now : (v : ℕ) → v < T .sas .vars → stateOf (later .now) v ≡ end (T .sas) os (stateOf (earlier .now)) v
   pub column : (c : ℕ) → c < allColumns → getD (later .columns) c 0 ≡ getD (earlier .columns) c 0 + paid (gain T c) os
+
+-- a run as its type has it: the lengths of its lists
+pub record Sized (r : Run) : Type 0 where
+  pub start : length (r .start) ≡ 8
+  pub log : length (r .log) ≡ steps
+  pub now : length (r .now) ≡ 8
+  pub columns : length (r .columns) ≡ allColumns

@@ -1,4 +1,4 @@
-// What a step adds to each column, and the columns after it.
+// What a step adds to each column, and the columns after it. Each function takes the tables whole, as its promise speaks of the task that they spell.
 ghost use mathlib.Core.Path.{_≡_};
 ghost use Prim.Native.Nat.{ℕ, _+_, _<_};
 ghost use lib.ListN.{getD};

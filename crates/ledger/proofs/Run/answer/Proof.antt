@@ -20,22 +20,22 @@ enum-told : tie.Need-enum-told
 enum-told c = search needs
 
 is-run-requires : tie.Need-is-run-requires
-is-run-requires c κs = clean-valid (lent (c .before .before .before .before .before .before)) (sym (c .before .before .tables-fault .ensures) ∙ c .enum-told .given .1)
+is-run-requires c κs = clean-valid _ (sym (c .before .before .tables-fault .ensures) ∙ c .enum-told .given .1)
 
 returns : tie.Need-returns
-returns c = answered-not-a-run (lent (c .before .before .before .before .before .before .before .before)) (c .before .before .before .before .before .before .before .before .args .self) (c .before .before .before .before .before .before .before .before .args .number) (c .before .before .before .before .before .before .before .before .args .op .0) (sym (c .before .before .before .before .tables-fault .ensures) ∙ c .before .before .enum-told .given .1) (sym (c .before .is-run .ensures) ∙ not-true (c .before .is-run .result) (c .if1 .taken))
+returns c = answered-not-a-run _ _ _ _ (sym (c .before .before .before .before .tables-fault .ensures) ∙ c .before .before .enum-told .given .1) (sym (c .before .is-run .ensures) ∙ not-true (c .before .is-run .result) (c .if1 .taken))
 
 judge-requires : tie.Need-judge-requires
-judge-requires c κs = (clean-valid (lent (c .before .before .before .before .before .before .before .before)) (sym (c .before .before .before .before .tables-fault .ensures) ∙ c .before .before .enum-told .given .1) .ops, run-len (lent (c .before .before .before .before .before .before .before .before)) (c .before .before .before .before .before .before .before .before .args .self) (sym (c .before .is-run .ensures) ∙ not-false (c .before .is-run .result) (c .if1 .left)))
+judge-requires c κs = (clean-valid _ (sym (c .before .before .before .before .tables-fault .ensures) ∙ c .before .before .enum-told .given .1) .ops, run-len _ _ (sym (c .before .is-run .ensures) ∙ not-false (c .before .is-run .result) (c .if1 .left)))
 
 enum-known-found : tie.Need-enum-known-found
 enum-known-found c = search needs
 
 returns-2 : tie.Need-returns-2
-returns-2 c = c .judge .ensures ∙ answered-judged (lent (c .before .before .before .before .before .before .before .before .before)) (c .before .before .before .before .before .before .before .before .before .args .self) (c .before .before .before .before .before .before .before .before .before .args .number) (c .before .before .before .before .before .before .before .before .before .args .op .0) (sym (c .before .before .before .before .before .tables-fault .ensures) ∙ c .before .before .before .enum-told .given .1) (sym (c .before .before .is-run .ensures) ∙ not-false (c .before .before .is-run .result) (c .before .if1 .left))
+returns-2 c = c .judge .ensures ∙ answered-judged _ _ _ _ (sym (c .before .before .before .before .before .tables-fault .ensures) ∙ c .before .before .before .enum-told .given .1) (sym (c .before .before .is-run .ensures) ∙ not-false (c .before .before .is-run .result) (c .before .if1 .left))
 
 returns-3 : tie.Need-returns-3
-returns-3 c = answered-fault (lent (c .before .before .before .before .before .before .before)) (c .before .before .before .before .before .before .before .args .self) (c .before .before .before .before .before .before .before .args .number) (c .before .before .before .before .before .before .before .args .op .0) _ (sym (c .before .before .before .tables-fault .ensures) ∙ c .before .found .given .1)
+returns-3 c = answered-fault _ _ _ _ _ (sym (c .before .before .before .tables-fault .ensures) ∙ c .before .found .given .1)
 
 pub answer-spec : {M : Type 1} → statement M
 answer-spec =

@@ -1,10 +1,7 @@
 -- `Run::begin` meets its contract. Assumes nothing.
-use Rattle.ledger.proofs.Entries.{begun-clean, begun-fault}
+use Rattle.ledger.proofs.Entries.{begun-clean, begun-fault, few-vars}
 use Rattle.ledger.specs.Ledger.{fresh}
-use Rattle.tables.proofs.Validity.{clean-valid}
-use Rattle.tables.proofs.Walks.{clean-first}
 use Rattle.tables.specs.Layout.{Tables}
-use Rattle.tables.specs.Scan.{stateFault, tablesFault}
 use Rattle.tables.specs.Task.{tables}
 use borrow.Author.Needs.{needs}
 use mathlib.Core.Path.{_∙_, ap, sym}
@@ -21,7 +18,7 @@ enum-told : tie.Need-enum-told
 enum-told c = search needs
 
 start-from-requires : tie.Need-start-from-requires
-start-from-requires c κs = clean-valid (lent (c .before .before .before .before .before .before .before)) (clean-first (tablesFault (lent (c .before .before .before .before .before .before .before))) (stateFault (c .before .before .before .before .before .before .before .args .c) (c .before .before .before .before .before .before .before .args .facts .now) (c .before .before .before .before .before .before .before .args .start .now)) (sym (c .before .before .start-fault .ensures) ∙ c .enum-told .given .1)) .vars .1
+start-from-requires c κs = few-vars _ _ (sym (c .before .before .start-fault .ensures) ∙ c .enum-told .given .1)
 
 fresh-requires : tie.Need-fresh-requires
 fresh-requires c κs = search needs
@@ -33,10 +30,10 @@ fresh-requires-2 : tie.Need-fresh-requires-2
 fresh-requires-2 c κs = search needs
 
 returns : tie.Need-returns
-returns c = begun-clean (lent (c .before .before .before .before .before .before .before .before .before)) (c .before .before .before .before .before .before .before .before .before .args .start .now) (c .fresh .result) (sym (c .before .before .before .before .start-fault .ensures) ∙ c .before .before .enum-told .given .1) (c .fresh .ensures ∙ ap fresh (c .before .start-from .ensures))
+returns c = begun-clean _ _ _ (sym (c .before .before .before .before .start-fault .ensures) ∙ c .before .before .enum-told .given .1) (c .fresh .ensures ∙ ap fresh (c .before .start-from .ensures))
 
 returns-2 : tie.Need-returns-2
-returns-2 c = begun-fault (lent (c .before .before .before .before .before .before .before .before .before)) (c .before .before .before .before .before .before .before .before .before .args .start .now) _ (c .fresh2 .result) (sym (c .before .before .before .before .start-fault .ensures) ∙ c .before .before .found .given .1) (c .fresh2 .ensures)
+returns-2 c = begun-fault _ _ _ _ (sym (c .before .before .before .before .start-fault .ensures) ∙ c .before .before .found .given .1) (c .fresh2 .ensures)
 
 pub begin-spec : {M : Type 1} → statement M
 begin-spec =

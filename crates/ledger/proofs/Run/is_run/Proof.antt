@@ -17,13 +17,13 @@ cast-len c = search needs
 
 returns : tie.Need-returns
 unfolding steps
-returns c = run-long (lent (c .before .before .before .before .before)) (c .before .before .before .before .before .args .self) (c .if1 .taken)
+returns c = run-long _ _ (c .if1 .taken)
 
 start-in-requires : tie.Need-start-in-requires
 start-in-requires c κs = search needs
 
 returns-2 : tie.Need-returns-2
-returns-2 c = run-outside (lent (c .before .before .before .before .before .before .before .before)) (c .before .before .before .before .before .before .before .before .args .self) (sym (c .before .start-in .ensures) ∙ not-true (c .before .start-in .result) (c .if2 .taken))
+returns-2 c = run-outside _ _ (sym (c .before .start-in .ensures) ∙ not-true (c .before .start-in .result) (c .if2 .taken))
 
 replay-requires : tie.Need-replay-requires
 unfolding steps
@@ -31,14 +31,14 @@ replay-requires c κs = (c .before .before .before .before .before .before .befo
 
 returns-3 : tie.Need-returns-3
 unfolding given
-returns-3 c = run-stuck (lent (c .before .before .before .before .before .before .before .before .before .before .before .before)) (c .before .before .before .before .before .before .before .before .before .before .before .before .args .self) (c .before .before .replay .result) (c .before .before .replay .ensures) (not-true (c .before .before .replay .result .ok) (c .if3 .taken))
+returns-3 c = run-stuck _ _ _ (c .before .before .replay .ensures) (not-true (c .before .before .replay .result .ok) (c .if3 .taken))
 
 same-requires : tie.Need-same-requires
 same-requires c κs = search needs
 
 returns-4 : tie.Need-returns-4
 unfolding given steps
-returns-4 c = run-same (lent (c .before .before .before .before .before .before .before .before .before .before .before .before .before .before)) (c .before .before .before .before .before .before .before .before .before .before .before .before .before .before .args .self) (c .before .before .before .before .replay .result) (c .before .before .before .before .replay .ensures) (c .same .result) (c .before .before .before .before .before .before .before .before .before .if1 .left) (sym (c .before .before .before .before .before .before .before .start-in .ensures) ∙ not-false (c .before .before .before .before .before .before .before .start-in .result) (c .before .before .before .before .before .before .if2 .left)) (not-false (c .before .before .before .before .replay .result .ok) (c .before .before .if3 .left)) (c .same .ensures)
+returns-4 c = run-same _ _ _ (c .before .before .before .before .replay .ensures) _ (c .before .before .before .before .before .before .before .before .before .if1 .left) (sym (c .before .before .before .before .before .before .before .start-in .ensures) ∙ not-false (c .before .before .before .before .before .before .before .start-in .result) (c .before .before .before .before .before .before .if2 .left)) (not-false (c .before .before .before .before .replay .result .ok) (c .before .before .if3 .left)) (c .same .ensures)
 
 pub is-run-spec : {M : Type 1} → statement M
 is-run-spec =

@@ -17,7 +17,7 @@ enum-told : tie.Need-enum-told
 enum-told c = search needs
 
 advance-requires : tie.Need-advance-requires
-advance-requires c κs = step-asks (lent (c .before .before .before .before .before .before)) (c .before .before .before .before .before .before .args .self) (c .before .before .before .before .before .before .args .number) (c .before .before .before .before .before .before .args .op .0) (sym (c .before .before .answer .ensures) ∙ c .enum-told .given .1)
+advance-requires c κs = step-asks _ _ _ _ (sym (c .before .before .answer .ensures) ∙ c .enum-told .given .1)
 
 enum-told-2 : tie.Need-enum-told-2
 enum-told-2 c = search needs
@@ -26,13 +26,13 @@ enum-told-3 : tie.Need-enum-told-3
 enum-told-3 c = search needs
 
 returns : tie.Need-returns
-returns c = offered-accepted (lent (c .before .before .before .before .before .before .before)) (c .before .before .before .before .before .before .before .args .self) (c .before .before .before .before .before .before .before .args .number) (c .before .before .before .before .before .before .before .args .op .0) (c .before .before .before .answer .result) (c .before .before .before .answer .ensures) (c .advance .result) (c .before .enum-told .given .1) (c .advance .ensures)
+returns c = offered-accepted _ _ _ _ _ (c .before .before .before .answer .ensures) _ (c .before .enum-told .given .1) (c .advance .ensures)
 
 returns-2 : tie.Need-returns-2
-returns-2 c = offered-repeated (lent (c .before .before .before .before .before .before)) (c .before .before .before .before .before .before .args .self) (c .before .before .before .before .before .before .args .number) (c .before .before .before .before .before .before .args .op .0) (c .before .before .answer .result) (c .before .before .answer .ensures) (c .enum-told2 .given .1)
+returns-2 c = offered-repeated _ _ _ _ _ (c .before .before .answer .ensures) (c .enum-told2 .given .1)
 
 returns-3 : tie.Need-returns-3
-returns-3 c = offered-refused (lent (c .before .before .before .before .before .before)) (c .before .before .before .before .before .before .args .self) (c .before .before .before .before .before .before .args .number) (c .before .before .before .before .before .before .args .op .0) (c .before .before .answer .result) (c .before .before .answer .ensures) _ (c .enum-told3 .given .1)
+returns-3 c = offered-refused _ _ _ _ _ (c .before .before .answer .ensures) _ (c .enum-told3 .given .1)
 
 pub offer-spec : {M : Type 1} → statement M
 offer-spec =

@@ -1,11 +1,10 @@
 -- `Run::replay` meets its contract: what is left of the log gives, from the run so far, what the whole log gives from the fresh run. Assumes nothing.
 use Prim.Native.Nat.{_+_, _-_, _≤_, ℕ}
 use Rattle.ledger.proofs.Gains.{fresh-bounded}
-use Rattle.ledger.proofs.Runs.{bounded-step, can-exists, given-end, given-next, given-stop}
+use Rattle.ledger.proofs.Runs.{advanced-len, bounded-step, can-exists, given-end, given-next, given-stop}
 use Rattle.ledger.specs.Inside.{Bounded}
-use Rattle.ledger.specs.Ledger.{advanced, fresh, replayed, steps}
+use Rattle.ledger.specs.Ledger.{fresh, replayed, steps}
 use Rattle.ledger.specs.declared.Run.{Run}
-use Rattle.tables.specs.Layout.{Tables}
 use Rattle.tables.specs.Task.{tables}
 use borrow.Author.Needs.{needs}
 use borrow.Author.Tests.{not-false, not-true}
@@ -20,9 +19,6 @@ Inv-loop c facts costs shares len log run₀ i₀ run i = (i ≤ len) × (replay
 
 abbrev μ-loop : tie.MeasureT-loop
 μ-loop c facts costs shares len log run₀ i₀ run i = len - i
-
-abbrev lent : tie.Start Inv-loop μ-loop → Tables
-lent c = tables (c .args .c) (c .args .facts .now) (c .args .costs .now) (c .args .shares .now)
 
 -- the log is as long as its type says
 log-long : (c : tie.Start Inv-loop μ-loop) → c .args .len ≤ length (c .args .t6)
@@ -48,10 +44,10 @@ can-run-requires : tie.Need-can-run-requires Inv-loop μ-loop
 can-run-requires c κs = c .before .before .before .before .before .before .pre .0 .ops
 
 returns : tie.Need-returns Inv-loop μ-loop
-returns c = given-stop (lent (c .before .before .before .before .before .before .before .before)) (c .before .before .before .before .before .before .before .before .args .start) (c .before .before .before .before .before .before .before .before .args .t6) (c .before .before .before .before .before .before .before .before .args .len) (log-long (c .before .before .before .before .before .before .before .before)) (c .before .before .before .before .fresh .result) (c .before .before .before .loop .run) (c .before .before .before .loop .i) (c .before .before .before .before .fresh .ensures) (c .before .before .before .loop .inv .1) (omega arith) (sym (c .before .can-run .ensures) ∙ not-true (c .before .can-run .result) (c .if1 .taken))
+returns c = given-stop _ _ _ _ (log-long (c .before .before .before .before .before .before .before .before)) _ _ _ (c .before .before .before .before .fresh .ensures) (c .before .before .before .loop .inv .1) (omega arith) (sym (c .before .can-run .ensures) ∙ not-true (c .before .can-run .result) (c .if1 .taken))
 
 advance-requires : tie.Need-advance-requires Inv-loop μ-loop
-advance-requires c κs = (c .before .before .before .before .before .before .before .before .pre .0, can-exists (lent (c .before .before .before .before .before .before .before .before)) _ _ (sym (c .before .can-run .ensures) ∙ not-false (c .before .can-run .result) (c .if1 .left)), omega (arith, c .before .before .before .before .before .before .before .before .pre .1), c .before .before .before .loop .inv .2)
+advance-requires c κs = (c .before .before .before .before .before .before .before .before .pre .0, can-exists _ _ _ _ (sym (c .before .can-run .ensures) ∙ not-false (c .before .can-run .result) (c .if1 .left)), omega (arith, c .before .before .before .before .before .before .before .before .pre .1), c .before .before .before .loop .inv .2)
 
 add-i : tie.Need-add-i Inv-loop μ-loop
 add-i c = search needs
@@ -60,17 +56,16 @@ loop-less : tie.Need-loop-less Inv-loop μ-loop
 loop-less c = search needs
 
 loop-again : tie.Need-loop-again Inv-loop μ-loop
-unfolding advanced
 loop-again c =
     let can = sym (c .before .before .can-run .ensures) ∙ not-false (c .before .before .can-run .result) (c .before .if1 .left) in (
       omega arith,
-      rw (c .advance .ensures) (given-next (lent (c .before .before .before .before .before .before .before .before .before)) (c .before .before .before .before .before .before .before .before .before .args .start) (c .before .before .before .before .before .before .before .before .before .args .t6) (c .before .before .before .before .before .before .before .before .before .args .len) (log-long (c .before .before .before .before .before .before .before .before .before)) (c .before .before .before .before .before .fresh .result) (c .before .before .before .before .loop .run) (c .before .before .before .before .loop .i) (c .before .before .before .before .before .fresh .ensures) (c .before .before .before .before .loop .inv .1) (omega arith) can),
-      rw (c .advance .ensures) (bounded-step (lent (c .before .before .before .before .before .before .before .before .before)) (c .before .before .before .before .before .before .before .before .before .pre .0) (c .before .before .before .before .loop .run) _ (can-exists (lent (c .before .before .before .before .before .before .before .before .before)) (c .before .before .before .before .loop .run) _ can) (c .before .before .before .before .loop .inv .2)),
-      ap (λ (r : Run). r .len) (c .advance .ensures) ∙ ap (λ (x : ℕ). x + 1) (c .before .before .before .before .loop .inv .3),
+      rw (c .advance .ensures) (given-next _ _ _ _ (log-long (c .before .before .before .before .before .before .before .before .before)) _ _ _ (c .before .before .before .before .before .fresh .ensures) (c .before .before .before .before .loop .inv .1) (omega arith) can),
+      rw (c .advance .ensures) (bounded-step _ (c .before .before .before .before .before .before .before .before .before .pre .0) _ _ (can-exists _ _ _ _ can) (c .before .before .before .before .loop .inv .2)),
+      ap (λ (r : Run). r .len) (c .advance .ensures) ∙ advanced-len _ _ _ ∙ ap (λ (x : ℕ). x + 1) (c .before .before .before .before .loop .inv .3),
     )
 
 returns-2 : tie.Need-returns-2 Inv-loop μ-loop
-returns-2 c = given-end (lent (c .before .before .before .before .before .before)) (c .before .before .before .before .before .before .args .start) (c .before .before .before .before .before .before .args .t6) (c .before .before .before .before .before .before .args .len) (log-long (c .before .before .before .before .before .before)) (c .before .before .fresh .result) (c .before .loop .run) (c .before .loop .i) (c .before .before .fresh .ensures) (c .before .loop .inv .1) (omega arith)
+returns-2 c = given-end _ _ _ _ (log-long (c .before .before .before .before .before .before)) _ _ (c .before .loop .i) (c .before .before .fresh .ensures) (c .before .loop .inv .1) (omega arith)
 
 pub replay-spec : {M : Type 1} → statement M
 replay-spec =
