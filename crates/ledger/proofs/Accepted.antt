@@ -1,7 +1,7 @@
 -- What an answer follows from, and what an accepted offer had. Assumes nothing.
 use Prim.Native.Nat.{ℕ, _+_, _-_, _≤_, _<_}
-use mathlib.Core.Path.{_≡_, refl, ap, sym, _∙_}
-use mathlib.Core.Bool.{Bool, true, false, cond}
+use mathlib.Core.Path.{_≡_, refl, _∙_}
+use mathlib.Core.Bool.{true, false}
 use native.Mathlib.Omega.{arith}
 use lib.Dec.{ltb, leb, eqb}
 use lib.ListN.{getD}
@@ -16,7 +16,7 @@ use Rattle.tables.proofs.Laws.{by-cases}
 use Rattle.ledger.specs.declared.Run.{Run}
 use Rattle.ledger.specs.declared.Answer.{Answer}
 use Rattle.ledger.specs.declared.Answer.the-variants.{Accepted, Repeated, Refused}
-use Rattle.ledger.specs.Ledger.{steps, canRun, isRun, oldStep, nextStep, judged, unlessFault, answered, advanced, moved, offered}
+use Rattle.ledger.specs.Ledger.{steps, canRun, isRun, oldStep, nextStep, judged, answered, advanced, moved, offered}
 use Rattle.ledger.proofs.Answers.{old-same, old-other, next-full, next-not, judged-none, judged-zero, judged-beyond, judged-old, judged-next}
 
 -- by cases on what a scan found, with the equation

@@ -1,10 +1,10 @@
 -- The start that a run is begun with: the lent state's values, 0 beyond them, and inside the variables if the lent state is. Assumes nothing.
 use Prim.Native.Nat.{ℕ, _≤_, _<_}
-use mathlib.Core.Path.{_≡_, refl, ap, sym, _∙_}
+use mathlib.Core.Path.{_≡_, refl, sym, _∙_}
 use mathlib.Core.List.{List}
-use mathlib.Core.Bool.{Bool, true, false}
+use mathlib.Core.Bool.{true}
 use native.Mathlib.Omega.{arith}
-use lib.Dec.{ltb, eqb}
+use lib.Dec.{ltb}
 use lib.ListN.{length, getD, replicate, length-replicate, getD-replicate, List·getD-eq-default}
 use borrow.Author.Tests.{lt-ltb, eq-eqb, ltb-true, ltb-false}
 use Rattle.meaning.specs.Sas.{IsState}
@@ -13,7 +13,7 @@ use Rattle.meaning.proofs.Facts.{true-every}
 use Rattle.tables.specs.Layout.{Tables, domAt}
 use Rattle.tables.specs.Task.{taskOf, sasOf, stateOf}
 use Rattle.tables.proofs.Laws.{by-cases, filled-at, filled-later, length-filled}
-use Rattle.ledger.specs.Ledger.{startAt, startsAt, startIn, startFrom}
+use Rattle.ledger.specs.Ledger.{startsAt, startIn, startFrom}
 use Rattle.ledger.proofs.Answers.{start-within, start-beyond}
 
 pub zeros-at : (n v : ℕ) → _≡_ {A = ℕ} (getD (replicate n 0) v 0) 0

@@ -3,8 +3,8 @@ use Prim.Native.Nat.{ℕ, _+_, _*_}
 use mathlib.Core.Path.{_≡_, refl}
 use mathlib.Core.List.{List, [], _∷_, _++_}
 use lib.ListN.{replicate}
-use Rattle.refusals.specs.declared.Refusal.the-variants.{NoSuchOperator, MayNotRun, NotTheNext, OtherOperator, RunFull, NotARun}
-use Rattle.tables.specs.Layout.{Tables, factsRoom, costsRoom, sharesRoom}
+use Rattle.refusals.specs.declared.Refusal.the-variants.{NoSuchOperator, MayNotRun, NotTheNext, OtherOperator, RunFull}
+use Rattle.tables.specs.Layout.{Tables}
 use Rattle.tables.specs.Steps.{rowHolds, mayRun, filled, stepped}
 use Rattle.tables.specs.Scan.{each, factsFault, operatorFault, classesFault, mapFault, sharesFault, splitFault, taskFault, roomy, tablesFault, stateFault}
 use Rattle.ledger.specs.declared.Run.{Run}

@@ -3,11 +3,7 @@
 use Prim.Native.Nat.{ℕ, _≤_, _<_}
 use mathlib.Core.Path.{_≡_, refl, ap, sym, _∙_}
 use mathlib.Core.List.{List}
-use mathlib.Core.Bool.{Bool, true, false}
-use native.Mathlib.Omega.{arith}
-use lib.Dec.{ltb}
-use lib.ListN.{length, replicate}
-use borrow.Author.Tests.{lt-ltb, ltb-true, ltb-false, eq-eqb}
+use lib.ListN.{replicate}
 use Rattle.refusals.specs.declared.Refusal.{Refusal}
 use Rattle.meaning.specs.Split.{Valid}
 use Rattle.tables.specs.declared.scan.Found.{Found}
@@ -19,7 +15,7 @@ use Rattle.ledger.specs.declared.Run.{Run}
 use Rattle.ledger.specs.declared.Answer.{Answer}
 use Rattle.ledger.specs.declared.Answer.the-variants.{Accepted, Repeated, Refused}
 use Rattle.ledger.specs.declared.Offered.{Offered}
-use Rattle.ledger.specs.Ledger.{steps, fresh, advanced, startFrom, answered, moved, offered, started, begun}
+use Rattle.ledger.specs.Ledger.{steps, fresh, advanced, startFrom, answered, offered, started, begun}
 use Rattle.ledger.specs.Inside.{Bounded}
 use Rattle.ledger.proofs.Accepted.{by-found, not-refused, accepted-clean, accepted-run, accepted-exists, accepted-room}
 use Rattle.ledger.proofs.Runs.{run-bounded}

@@ -1,9 +1,9 @@
 -- THE HISTORY: after any offers a run tells the steps that the offers alone say were really run. From that: each map was paid its shares, the unshared
 -- column has cost less shares, all columns together are the costs; and what was run between two moments is a sequence from the earlier state. Assumes nothing.
-use Prim.Native.Nat.{ℕ, zero, suc, _+_, _≤_, _<_}
+use Prim.Native.Nat.{ℕ, zero, suc, _<_}
 use mathlib.Core.Path.{_≡_, refl, ap, sym, _∙_, subst}
 use mathlib.Core.List.{List, [], _∷_, _++_, append-assoc, append-nil}
-use mathlib.Core.Bool.{Bool, true, false, cond}
+use mathlib.Core.Bool.{true}
 use native.Mathlib.Omega.{arith}
 use lib.ListN.{getD}
 use Rattle.meaning.specs.Sas.{State, IsState, end, paid}

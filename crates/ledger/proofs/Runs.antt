@@ -1,15 +1,14 @@
 -- Laws of runs: when two are the same, what replaying a log gives, and what a run has that its start and log give. Assumes nothing.
-use Prim.Native.Nat.{ℕ, zero, suc, _+_, _*_, _≤_, _<_}
+use Prim.Native.Nat.{ℕ, _+_, _≤_, _<_}
 use mathlib.Core.Path.{_≡_, refl, ap, sym, _∙_}
 use mathlib.Core.List.{List, [], _∷_}
-use mathlib.Core.Bool.{Bool, true, false, _&&_, cond, and-false}
+use mathlib.Core.Bool.{Bool, true, false, _&&_, and-false}
 use native.Mathlib.Numerals.{add-one}
 use native.Mathlib.Omega.{arith}
 use lib.Dec.{ltb, leb, eqb}
-use lib.ListN.{length, getD, take, drop, replicate, drop-of-length-le, length-take, length-replicate}
+use lib.ListN.{length, getD, take, drop, drop-of-length-le, length-take}
 use lib.Seq.{drop-cons, getD-take}
 use borrow.Author.Tests.{lt-leb, le-leb, eq-eqb, ne-eqb, leb-true, eqb-true, ltb-true}
-use Rattle.meaning.specs.Views.{every}
 use Rattle.meaning.specs.Split.{Valid}
 use Rattle.meaning.proofs.Facts.{and-left, and-right, every-true, true-every}
 use Rattle.tables.specs.declared.Counts.{Counts}
@@ -19,7 +18,7 @@ use Rattle.tables.specs.Steps.{mayRun}
 use Rattle.tables.proofs.Laws.{by-cases}
 use Rattle.ledger.specs.declared.Run.{Run}
 use Rattle.ledger.specs.declared.Tried.{Tried}
-use Rattle.ledger.specs.Ledger.{steps, allColumns, booked, fresh, advanced, canRun, replayed, given, startIn, sameAt, sameTo, sameStates, sameSteps, sameRun, isRun}
+use Rattle.ledger.specs.Ledger.{steps, allColumns, fresh, advanced, canRun, replayed, given, startIn, sameAt, sameTo, sameStates, sameSteps, sameRun, isRun}
 use Rattle.ledger.specs.Inside.{Bounded}
 use Rattle.ledger.proofs.Gains.{gain-small, booked-most, fresh-bounded}
 

@@ -1,9 +1,9 @@
 -- Laws of sequences: one step more at the end, two parts, and states that agree on the variables. Assumes nothing.
-use Prim.Native.Nat.{ℕ, zero, suc, _+_, _<_}
-use mathlib.Core.Path.{_≡_, refl, ap, ap₂, sym, _∙_, subst}
+use Prim.Native.Nat.{ℕ, _+_, _<_}
+use mathlib.Core.Path.{_≡_, refl, ap₂, subst}
 use mathlib.Core.List.{List, [], _∷_, _++_}
 use native.Mathlib.Omega.{arith}
-use Rattle.meaning.specs.Sas.{State, Sas, Holds, MayRun, after, Runs, end, paid}
+use Rattle.meaning.specs.Sas.{State, Sas, Holds, after, Runs, end, paid}
 use Rattle.meaning.specs.Split.{sum}
 use Rattle.meaning.proofs.Sums.{sum-add, sum-zero}
 use Rattle.meaning.proofs.Space.{after-same}

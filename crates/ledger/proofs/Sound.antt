@@ -1,17 +1,16 @@
 -- 17, EXACTLY: a run is what its start and log give exactly if its start is a state of the task and it tells steps from there; and there is only one run
 -- that tells given steps. So a run that passes is determined at every place, and every run that tells its steps passes. Assumes nothing.
-use Prim.Native.Nat.{ℕ, zero, suc, _+_, _≤_, _<_}
-use mathlib.Core.Path.{_≡_, refl, ap, ap₂, sym, _∙_, subst}
+use Prim.Native.Nat.{ℕ, _+_, _≤_, _<_}
+use mathlib.Core.Path.{_≡_, refl, ap, sym, _∙_, subst}
 use mathlib.Core.Logic.{_↔_, _⊎_, inl, inr, ⊎-elim}
 use mathlib.Core.List.{List, [], _∷_, _++_, append-assoc, append-nil}
-use mathlib.Core.Bool.{Bool, true, false, _&&_, false≢true}
+use mathlib.Core.Bool.{true, false, _&&_, false≢true}
 use native.Mathlib.Omega.{arith}
 use lib.Dec.{ltb, leb, eqb}
 use lib.ListN.{length, getD, take, length-append, length-take}
 use lib.Seq.{ext-getD, getD-take}
 use borrow.Author.Tests.{lt-ltb, eqb-true, ltb-true, ltb-false}
 use Rattle.meaning.specs.Sas.{State, IsState, Runs, end}
-use Rattle.meaning.specs.Views.{every}
 use Rattle.meaning.specs.Split.{Task, Valid}
 use Rattle.meaning.proofs.Facts.{and-left, and-right, every-true, true-complies}
 use Rattle.tables.specs.declared.scan.Found.the-variants.{Clean}
@@ -22,7 +21,7 @@ use Rattle.tables.proofs.Laws.{by-cases}
 use Rattle.tables.proofs.Validity.{clean-valid}
 use Rattle.ledger.specs.declared.Run.{Run}
 use Rattle.ledger.specs.declared.Tried.{Tried}
-use Rattle.ledger.specs.Ledger.{steps, allColumns, fresh, advanced, canRun, replayed, given, startsAt, startIn, startFrom, sameAt, sameTo, sameStates, sameSteps, sameRun, isRun}
+use Rattle.ledger.specs.Ledger.{steps, allColumns, fresh, advanced, canRun, replayed, given, startsAt, startIn, startFrom, sameTo, sameStates, sameSteps, sameRun, isRun}
 use Rattle.ledger.specs.History.{mayFollow, Tells, Sized}
 use Rattle.ledger.proofs.Answers.{start-within, start-beyond}
 use Rattle.ledger.proofs.Runs.{same-states, same-steps, same-len, same-columns, sameTo-at, replayed-yes, replayed-no, run-len}

@@ -1,15 +1,15 @@
 -- A run that tells the steps done tells one more after an accepted offer, and the same after any other: the invariant of the history. Assumes nothing.
-use Prim.Native.Nat.{ℕ, zero, suc, _+_, _≤_, _<_}
-use mathlib.Core.Path.{_≡_, refl, ap, ap₂, sym, _∙_, subst}
+use Prim.Native.Nat.{ℕ, _+_, _<_}
+use mathlib.Core.Path.{_≡_, refl, ap, ap₂, sym, _∙_}
 use mathlib.Core.List.{List, [], _∷_, _++_}
-use mathlib.Core.Bool.{Bool, true, false, _&&_, cond, false≢true}
+use mathlib.Core.Bool.{Bool, true, _&&_, cond, false≢true}
 use native.Mathlib.Numerals.{add-one}
 use native.Mathlib.Omega.{arith}
-use lib.Dec.{ltb, leb, eqb}
-use lib.ListN.{length, getD, set, take, replicate, length-append, length-replicate, length-set, getD-replicate, List·getD-eq-default}
+use lib.Dec.{ltb, eqb}
+use lib.ListN.{length, set, take, length-append, length-replicate, length-set}
 use lib.Seq.{take-suc-set, getD-set-other}
-use borrow.Author.Tests.{lt-ltb, le-leb, eq-eqb, eqb-true, ltb-true, ltb-false}
-use Rattle.meaning.specs.Sas.{State, after, end, paid}
+use borrow.Author.Tests.{lt-ltb, le-leb, eq-eqb, eqb-true, ltb-true}
+use Rattle.meaning.specs.Sas.{State, end}
 use Rattle.meaning.specs.Views.{complies}
 use Rattle.meaning.specs.Split.{Valid}
 use Rattle.meaning.proofs.Facts.{and-left, and-right, complies-true, complies-same}
@@ -17,14 +17,14 @@ use Rattle.meaning.proofs.Space.{after-same}
 use Rattle.tables.specs.declared.scan.Found.the-variants.{Clean}
 use Rattle.tables.specs.Layout.{Tables}
 use Rattle.tables.specs.Task.{taskOf, sasOf, stateOf}
-use Rattle.tables.specs.Steps.{mayRun, stepped}
+use Rattle.tables.specs.Steps.{stepped}
 use Rattle.tables.specs.Scan.{tablesFault}
-use Rattle.tables.proofs.Laws.{by-cases, filled-at, filled-later, length-filled}
+use Rattle.tables.proofs.Laws.{by-cases}
 use Rattle.tables.proofs.Meant.{may-run-is, stepped-is, stepped-beyond, stepped-length}
 use Rattle.ledger.specs.declared.Run.{Run}
 use Rattle.ledger.specs.declared.Tried.{Tried}
 use Rattle.ledger.specs.declared.Answer.the-variants.{Accepted}
-use Rattle.ledger.specs.Ledger.{steps, allColumns, gain, booked, fresh, advanced, canRun, replayed, given, startIn, startFrom, sameRun, isRun, answered, offered}
+use Rattle.ledger.specs.Ledger.{steps, allColumns, gain, fresh, advanced, canRun, replayed, given, startIn, startFrom, isRun, answered, offered}
 use Rattle.ledger.specs.History.{Offer, mayFollow, reallyRuns, Tells}
 use Rattle.ledger.proofs.Gains.{booked-at, booked-length}
 use Rattle.ledger.proofs.Answers.{next-go, judged-next}
