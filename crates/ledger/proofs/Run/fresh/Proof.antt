@@ -1,0 +1,12 @@
+-- `Run::fresh` meets its contract. Assumes nothing.
+use Rattle.ledger.specs.Ledger.{fresh, steps}
+use mathlib.Core.Path.{refl}
+use Rattle.ledger.proofs.Run.fresh.Statement.{statement}
+use Rattle.ledger.proofs.Run.fresh.Tie as tie
+
+returns : tie.Need-returns
+unfolding fresh steps
+returns c = refl
+
+pub fresh-spec : {M : Type 1} → statement M
+fresh-spec = tie.close (tie.spec returns)
