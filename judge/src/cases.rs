@@ -183,6 +183,30 @@ fn a_runs() -> Vec<Vector> {
     ]
 }
 
+/// Runs of case A that agree with themselves but aren't runs of it.
+fn a_wrong_runs() -> Vec<Vector> {
+    let wrong = |title: &str, lines: &str| a(&format!("case A, run: {}", title)).lines(lines).lines("O 1 0; O 2 1");
+    vec![
+        wrong("a start just outside its variable, and the same now", "s 7 0 2; s 10 0 2"),
+        wrong("a start far outside its variable, and the same now", "s 7 1 255; s 10 1 255"),
+        wrong("the last variable's start outside", "s 7 2 3; s 10 2 3"),
+        wrong("a start at the top of its variables is one", "s 7 0 1 2 2; s 10 0 1 2 2"),
+        wrong("a start with a place beyond the variables", "s 7 3 1; s 10 3 1"),
+        wrong("a state now with a place beyond the variables", "s 10 7 1"),
+        wrong("a step that isn't there", "s 8 0 4; s 9 0 1"),
+        wrong("a step that may not run", "s 8 0 2; s 9 0 1; s 10 1 2; s 11 1 1"),
+        wrong("a step not counted", "s 8 0 1"),
+        wrong("a place of the log used far behind", "s 8 255 1"),
+        wrong("a column of a map that isn't there", "s 11 3 1"),
+        wrong("a step booked as unshared", "s 9 0 1; s 10 0 1; s 11 8 1"),
+        wrong("a step booked in another map", "s 9 0 1; s 10 0 1; s 11 1 1"),
+        wrong("a step booked twice", "s 9 0 1; s 10 0 1; s 11 0 2"),
+        wrong("a step not booked", "s 9 0 1; s 10 0 1"),
+        wrong("a step not taken", "s 9 0 1; s 11 0 1"),
+        wrong("a step taken and booked is one", "s 9 0 1; s 10 0 1; s 11 0 1"),
+    ]
+}
+
 /// Lines that aren't in the script's form, and places and values that aren't there.
 fn lines_of_the_script() -> Vec<Vector> {
     let long = format!("s 0 0 1{}", " 1".repeat(100));
@@ -200,6 +224,7 @@ pub fn bench() -> Vec<Vector> {
     vectors.extend(lengths());
     vectors.extend(a_by_entries());
     vectors.extend(a_runs());
+    vectors.extend(a_wrong_runs());
     vectors.extend(lines_of_the_script());
     vectors
 }

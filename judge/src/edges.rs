@@ -109,6 +109,15 @@ fn distances_at_the_edge() -> Vec<Vector> {
     ]
 }
 
+/// Each operator of a counter alone, at states of the two highest values.
+fn highest_values() -> Vector {
+    let task = counters(1, 3, 8);
+    let states = (0..8).map(|bits| (0..3).map(|v| 6 + (bits >> v) % 2).collect::<Vec<usize>>());
+    states.fold(Vector::new("each operator of a counter at its highest values").task(&task).lines("l 5 1"), |vector, at| {
+        (0..task.ops.len()).fold(vector.state(&at), |vector, o| vector.lines(&format!("s 5 0 {}; J", o)))
+    })
+}
+
 fn lists_at_the_edge() -> Vec<Vector> {
     let with = |title: &str, list: &[u32]| Vector::new(title).task(&switch()).lend(FIRST, list);
     let idle = |length: usize| vec![2; length];
@@ -209,6 +218,14 @@ pub fn long() -> Vec<Vector> {
 }
 
 pub fn edges() -> Vec<Vector> {
-    let groups = [map_sizes(), distances_at_the_edge(), lists_at_the_edge(), full_runs(), short_tables(), counts_at_the_edge()];
+    let groups = [
+        map_sizes(),
+        vec![highest_values()],
+        distances_at_the_edge(),
+        lists_at_the_edge(),
+        full_runs(),
+        short_tables(),
+        counts_at_the_edge(),
+    ];
     groups.into_iter().flatten().collect()
 }

@@ -12,7 +12,7 @@ use crate::task::{State, Task};
 
 type Kind = fn(&mut Rng) -> Vector;
 
-const KINDS: [Kind; 23] = [
+const KINDS: [Kind; 24] = [
     |rng| valid(rng, "tiny", TINY, true),
     |rng| valid(rng, "small", SMALL, true),
     |rng| valid(rng, "medium", MEDIUM, true),
@@ -26,6 +26,7 @@ const KINDS: [Kind; 23] = [
     |rng| damaged_tables(rng, "large", LARGE, 8),
     unread_places,
     states,
+    each_op,
     lists,
     long_lists,
     two_lists,
@@ -44,7 +45,7 @@ pub fn by_chance(rng: &mut Rng, i: usize) -> Vector {
 }
 
 fn valid(rng: &mut Rng, name: &str, size: Size, all_maps: bool) -> Vector {
-    let task = task(rng, size);
+    let task = telling_task(rng, size);
     let mut vector = Vector::new(&format!("a {} task", name)).dirty().task(&task).lines("K");
     let asked = if all_maps { 0..task.maps.len() } else { task.maps.len() - 1..task.maps.len() };
     for m in asked {
@@ -138,7 +139,7 @@ fn some_entry(rng: &mut Rng, task: &Task) -> String {
 }
 
 fn damaged_tables(rng: &mut Rng, name: &str, size: Size, times: usize) -> Vector {
-    let task = task(rng, size);
+    let task = telling_task(rng, size);
     let init = task.init.clone();
     let (list, _) = walk(rng, &task, &init, 6);
     let vector = Vector::new(&format!("damaged tables of a {} task", name)).task(&task).state(&init).lend(FIRST, &list);
@@ -152,7 +153,7 @@ fn damaged_tables(rng: &mut Rng, name: &str, size: Size, times: usize) -> Vector
 /// The tables set by hand, with something in every place that isn't the task's.
 fn unread_places(rng: &mut Rng) -> Vector {
     let size = rng.pick(&[TINY, SMALL, SMALL, MEDIUM]);
-    let task = task(rng, size);
+    let task = telling_task(rng, size);
     let (vars, ops) = (task.dom.len(), task.ops.len());
     let tables = tables_of(&task);
     let counts = counts_of(&task);
@@ -183,7 +184,7 @@ fn unread_places(rng: &mut Rng) -> Vector {
 
 /// States with a value outside, and with too few places.
 fn states(rng: &mut Rng) -> Vector {
-    let task = task(rng, SMALL);
+    let task = telling_task(rng, SMALL);
     let vars = task.dom.len();
     let mut vector = Vector::new("states outside their variables").task(&task);
     for _ in 0..6 {
@@ -242,8 +243,20 @@ fn long_lists(rng: &mut Rng) -> Vector {
     vector
 }
 
+/// Which operators may run, told one by one.
+fn each_op(rng: &mut Rng) -> Vector {
+    let size = rng.pick(&[SMALL, LARGE, FULL]);
+    let task = task(rng, size);
+    let mut vector = Vector::new("each operator alone at some states").task(&task).lines("l 5 1");
+    for _ in 0..3 {
+        let at = state(rng, &task.dom);
+        vector = (0..=task.ops.len()).fold(vector.state(&at), |vector, o| vector.lines(&format!("s 5 0 {}; J", o)));
+    }
+    vector
+}
+
 fn two_lists(rng: &mut Rng) -> Vector {
-    let size = rng.pick(&[SMALL, MEDIUM]);
+    let size = rng.pick(&[SMALL, MEDIUM, LARGE]);
     let task = lively_task(rng, size);
     let mut vector = Vector::new("the cheaper of two lists").task(&task).state(&task.init);
     for _ in 0..6 {
@@ -256,7 +269,7 @@ fn two_lists(rng: &mut Rng) -> Vector {
 
 /// Offers as a careful and as a careless caller makes them.
 fn honest_run(rng: &mut Rng) -> Vector {
-    let size = rng.pick(&[TINY, SMALL, MEDIUM]);
+    let size = rng.pick(&[TINY, SMALL, MEDIUM, LARGE]);
     let task = lively_task(rng, size);
     let mut run = Run::fresh(&task.init);
     let mut vector = Vector::new("offers to a run, with retries and slips").task(&task).state(&task.init).lines("G");
@@ -294,7 +307,7 @@ fn some_field(rng: &mut Rng, task: &Task, run: &Run) -> (u32, usize, u32, u32) {
 }
 
 fn damaged_run(rng: &mut Rng) -> Vector {
-    let size = rng.pick(&[TINY, SMALL, MEDIUM]);
+    let size = rng.pick(&[TINY, SMALL, MEDIUM, LARGE]);
     let task = lively_task(rng, size);
     let steps = rng.between(0, 20);
     let (list, _) = walk(rng, &task, &task.init.clone(), steps);

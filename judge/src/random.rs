@@ -2,6 +2,7 @@
 
 use crate::limits::*;
 use crate::rng::Rng;
+use crate::space::distances;
 use crate::task::{Facts, Op, State, Task};
 
 /// How large a task may become.
@@ -29,10 +30,10 @@ pub fn state(rng: &mut Rng, dom: &[usize]) -> State {
 
 fn cost(rng: &mut Rng) -> u64 {
     match rng.below(8) {
-        0 | 1 => 0,
-        2..=4 => rng.between(1, 9) as u64,
-        5 => rng.between(10, 99_999) as u64,
-        6 => rng.between(100_000, 999_999) as u64,
+        0 => 0,
+        1 | 2 => rng.between(1, 9) as u64,
+        3..=5 => rng.between(10, 999) as u64,
+        6 => rng.between(1_000, 999_999) as u64,
         _ => COST,
     }
 }
@@ -40,18 +41,28 @@ fn cost(rng: &mut Rng) -> u64 {
 /// An operator of any facts, or one that moves a variable from value to value.
 fn op(rng: &mut Rng, dom: &[usize]) -> Op {
     let places = 2 * dom.len().max(2);
-    let mut op = Op { cost: cost(rng), pre: vec![None; dom.len()], eff: vec![None; dom.len()] };
     if rng.chance(1, 2) {
         let v = rng.below(dom.len());
-        op.pre = facts(rng, dom, 1, places);
-        op.pre[v] = Some(rng.below(dom[v]));
-        op.eff[v] = Some(rng.below(dom[v]));
-    } else {
-        let (pre, eff) = (rng.between(0, 3), rng.between(0, 4));
-        op.pre = facts(rng, dom, pre, places);
-        op.eff = facts(rng, dom, eff, places);
+        let (from, to) = (rng.below(dom[v]), rng.below(dom[v]));
+        return moving(rng, dom, v, from, to);
     }
+    let (pre, eff) = (rng.between(0, 3), rng.between(0, 4));
+    Op { cost: cost(rng), pre: facts(rng, dom, pre, places), eff: facts(rng, dom, eff, places) }
+}
+
+fn moving(rng: &mut Rng, dom: &[usize], v: usize, from: usize, to: usize) -> Op {
+    let mut op = Op { cost: cost(rng), pre: facts(rng, dom, 1, 3 * dom.len()), eff: vec![None; dom.len()] };
+    op.pre[v] = Some(from);
+    op.eff[v] = Some(to);
     op
+}
+
+/// An operator that moves a variable to a value beside its own, so that goals are far.
+fn short_move(rng: &mut Rng, dom: &[usize]) -> Op {
+    let v = rng.below(dom.len());
+    let from = rng.below(dom[v]);
+    let to = if rng.chance(3, 4) { from + 1 } else { from.saturating_sub(1) };
+    moving(rng, dom, v, from, to.min(dom[v] - 1))
 }
 
 /// A variable's classes: kept apart, all in one, or thrown together with none missing.
@@ -81,41 +92,69 @@ fn map(rng: &mut Rng, dom: &[usize]) -> Vec<Vec<usize>> {
     map
 }
 
-/// A split of the costs over the maps, some of them to the last second.
+/// A split of the costs over the maps: an even one, or one by chance.
 fn split(rng: &mut Rng, ops: &[Op], maps: usize) -> Vec<Vec<u64>> {
+    let even = rng.chance(2, 3);
     let mut shares = vec![vec![0; ops.len()]; maps];
     for (o, op) in ops.iter().enumerate() {
-        let mut rest = op.cost;
-        for _ in 0..maps {
-            let part = if rng.chance(1, 2) { rest } else { rng.below(rest as usize + 1) as u64 };
-            shares[rng.below(maps)][o] += part;
-            rest -= part;
-            if rng.chance(1, 3) {
-                break;
-            }
+        let parts = if even { vec![op.cost / maps as u64; maps] } else { parts(rng, op.cost, maps) };
+        for (m, part) in parts.into_iter().enumerate() {
+            shares[m][o] = part;
         }
     }
     shares
+}
+
+/// Parts of a cost by chance, often down to the last second.
+fn parts(rng: &mut Rng, cost: u64, maps: usize) -> Vec<u64> {
+    let mut parts = vec![0; maps];
+    let mut rest = cost;
+    for _ in 0..rng.between(1, maps) {
+        let part = if rng.chance(1, 2) { rest } else { rng.below(rest as usize + 1) as u64 };
+        parts[rng.below(maps)] += part;
+        rest -= part;
+    }
+    parts
 }
 
 /// A valid task; its goal is met after some steps, or empty, or anything.
 pub fn task(rng: &mut Rng, size: Size) -> Task {
     let vars = rng.between(size.vars.0, size.vars.1);
     let dom: Vec<usize> = (0..vars).map(|_| rng.between(size.values.0, size.values.1)).collect();
-    let ops: Vec<Op> = (0..rng.between(size.ops.0, size.ops.1)).map(|_| op(rng, &dom)).collect();
+    let far = rng.chance(1, 2);
+    let some_op = if far { short_move } else { op };
+    let ops: Vec<Op> = (0..rng.between(size.ops.0, size.ops.1)).map(|_| some_op(rng, &dom)).collect();
     let maps: Vec<_> = (0..rng.between(size.maps.0, size.maps.1)).map(|_| map(rng, &dom)).collect();
     let shares = split(rng, &ops, maps.len());
-    let init = state(rng, &dom);
+    let init = if far { vec![0; vars] } else { state(rng, &dom) };
     let mut task = Task { goal: vec![None; vars], dom, init, ops, maps, shares };
-    let steps = rng.between(1, 8);
-    let init = task.init.clone();
-    let (_, end) = walk(rng, &task, &init, steps);
-    task.goal = match rng.below(8) {
-        0 => vec![None; vars],
+    task.goal = goal(rng, &task, if far { 40 } else { 8 });
+    task
+}
+
+fn goal(rng: &mut Rng, task: &Task, steps: usize) -> Facts {
+    let steps = rng.between(1, steps);
+    let (_, end) = walk(rng, task, &task.init, steps);
+    match rng.below(12) {
+        0 => vec![None; task.dom.len()],
         1 => facts(rng, &task.dom, 1, 2),
         _ => end.iter().map(|value| rng.chance(2, 3).then_some(*value)).collect(),
-    };
-    task
+    }
+}
+
+/// Of some tasks the one whose maps tell the most states apart by their distances.
+pub fn telling_task(rng: &mut Rng, size: Size) -> Task {
+    let tasks: Vec<Task> = (0..5).map(|_| task(rng, size)).collect();
+    let told_apart = |task: &Task| (0..task.maps.len()).map(|m| different(task, m)).sum::<usize>();
+    tasks.into_iter().max_by_key(told_apart).unwrap()
+}
+
+/// How many different distances a map has.
+fn different(task: &Task, m: usize) -> usize {
+    let mut least = distances(task, m).least;
+    least.sort_unstable();
+    least.dedup();
+    least.len()
 }
 
 /// Up to so many steps that may run, and the state after them; a step that moves is preferred.
