@@ -16,7 +16,8 @@ use Rattle.tables.proofs.Laws.{by-cases}
 use Rattle.ledger.specs.declared.Run.{Run}
 use Rattle.ledger.specs.declared.Answer.{Answer}
 use Rattle.ledger.specs.declared.Answer.the-variants.{Accepted, Repeated, Refused}
-use Rattle.ledger.specs.Ledger.{steps, canRun, isRun, oldStep, nextStep, judged, answered, advanced, moved, offered}
+use Rattle.sequences.specs.Stepping.{steps}
+use Rattle.ledger.specs.Ledger.{canRun, isRun, oldStep, nextStep, judged, answered, advanced, moved, offered}
 use Rattle.ledger.proofs.Answers.{old-same, old-other, next-full, next-not, judged-none, judged-zero, judged-beyond, judged-old, judged-next}
 
 -- by cases on what a scan found, with the equation

@@ -14,7 +14,8 @@ use Rattle.tables.specs.Steps.{mayRun}
 use Rattle.ledger.specs.declared.Run.{Run}
 use Rattle.ledger.specs.declared.Answer.{Answer}
 use Rattle.ledger.specs.declared.Answer.the-variants.{Accepted, Repeated, Refused}
-use Rattle.ledger.specs.Ledger.{steps, canRun, startAt, oldStep, nextStep, judged}
+use Rattle.sequences.specs.Stepping.{steps}
+use Rattle.ledger.specs.Ledger.{canRun, startAt, oldStep, nextStep, judged}
 
 -- ---- a value of a start
 

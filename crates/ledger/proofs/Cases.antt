@@ -10,7 +10,8 @@ use Rattle.tables.specs.Scan.{each, factsFault, operatorFault, classesFault, ma
 use Rattle.ledger.specs.declared.Run.{Run}
 use Rattle.ledger.specs.declared.Answer.{Answer}
 use Rattle.ledger.specs.declared.Answer.the-variants.{Accepted, Repeated, Refused}
-use Rattle.ledger.specs.Ledger.{steps, rest, gain, booked, fresh, advanced, canRun, replayed, given, startAt, startIn, sameTo, sameStates, sameSteps, sameRun, isRun, oldStep, nextStep, judged, answered, offered, startFrom, started, begun}
+use Rattle.sequences.specs.Stepping.{steps}
+use Rattle.ledger.specs.Ledger.{rest, gain, booked, fresh, advanced, canRun, replayed, given, startAt, startIn, sameTo, sameStates, sameSteps, sameRun, isRun, oldStep, nextStep, judged, answered, offered, startFrom, started, begun}
 
 -- rows of a width, each with what stands at its front and 0 after it
 abbrev row : ℕ → List ℕ → List ℕ

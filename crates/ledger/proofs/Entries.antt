@@ -15,7 +15,8 @@ use Rattle.ledger.specs.declared.Run.{Run}
 use Rattle.ledger.specs.declared.Answer.{Answer}
 use Rattle.ledger.specs.declared.Answer.the-variants.{Accepted, Repeated, Refused}
 use Rattle.ledger.specs.declared.Offered.{Offered}
-use Rattle.ledger.specs.Ledger.{steps, fresh, advanced, startFrom, answered, offered, started, begun}
+use Rattle.sequences.specs.Stepping.{steps}
+use Rattle.ledger.specs.Ledger.{fresh, advanced, startFrom, answered, offered, started, begun}
 use Rattle.ledger.specs.Inside.{Bounded}
 use Rattle.ledger.proofs.Accepted.{by-found, not-refused, accepted-clean, accepted-run, accepted-exists, accepted-room}
 use Rattle.ledger.proofs.Runs.{run-bounded}

@@ -10,7 +10,8 @@ use borrow.Author.Tests.{lt-ltb, le-ltb, eq-eqb, ne-eqb, ltb-true, ltb-false, eq
 use Rattle.meaning.specs.Split.{Task, Valid, sum}
 use Rattle.tables.proofs.Laws.{by-cases, filled-at, length-filled}
 use Rattle.ledger.specs.declared.Run.{Run}
-use Rattle.ledger.specs.Ledger.{steps, allColumns, unshared, rest, gain, bookedAt, booked, fresh}
+use Rattle.sequences.specs.Stepping.{steps}
+use Rattle.ledger.specs.Ledger.{allColumns, unshared, rest, gain, bookedAt, booked, fresh}
 use Rattle.ledger.specs.Inside.{Bounded}
 
 -- ---- sums, as a counting loop asks for them

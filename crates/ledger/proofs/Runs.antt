@@ -18,7 +18,8 @@ use Rattle.tables.specs.Steps.{mayRun}
 use Rattle.tables.proofs.Laws.{by-cases}
 use Rattle.ledger.specs.declared.Run.{Run}
 use Rattle.ledger.specs.declared.Tried.{Tried}
-use Rattle.ledger.specs.Ledger.{steps, allColumns, fresh, advanced, canRun, replayed, given, startIn, sameAt, sameTo, sameStates, sameSteps, sameRun, isRun}
+use Rattle.sequences.specs.Stepping.{steps}
+use Rattle.ledger.specs.Ledger.{allColumns, fresh, advanced, canRun, replayed, given, startIn, sameAt, sameTo, sameStates, sameSteps, sameRun, isRun}
 use Rattle.ledger.specs.Inside.{Bounded}
 use Rattle.ledger.proofs.Gains.{gain-small, booked-most, fresh-bounded}
 

@@ -21,7 +21,8 @@ use Rattle.tables.proofs.Laws.{by-cases}
 use Rattle.tables.proofs.Validity.{clean-valid}
 use Rattle.ledger.specs.declared.Run.{Run}
 use Rattle.ledger.specs.declared.Tried.{Tried}
-use Rattle.ledger.specs.Ledger.{steps, allColumns, fresh, advanced, canRun, replayed, given, startsAt, startIn, startFrom, sameTo, sameStates, sameSteps, sameRun, isRun}
+use Rattle.sequences.specs.Stepping.{steps}
+use Rattle.ledger.specs.Ledger.{allColumns, fresh, advanced, canRun, replayed, given, startsAt, startIn, startFrom, sameTo, sameStates, sameSteps, sameRun, isRun}
 use Rattle.ledger.specs.History.{mayFollow, Tells, Sized}
 use Rattle.ledger.proofs.Answers.{start-within, start-beyond}
 use Rattle.ledger.proofs.Runs.{same-states, same-steps, same-len, same-columns, sameTo-at, replayed-yes, replayed-no, run-len}

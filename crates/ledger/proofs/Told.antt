@@ -24,7 +24,8 @@ use Rattle.tables.proofs.Meant.{may-run-is, stepped-is, stepped-beyond, stepped
 use Rattle.ledger.specs.declared.Run.{Run}
 use Rattle.ledger.specs.declared.Tried.{Tried}
 use Rattle.ledger.specs.declared.Answer.the-variants.{Accepted}
-use Rattle.ledger.specs.Ledger.{steps, allColumns, gain, fresh, advanced, canRun, replayed, given, startIn, startFrom, isRun, answered, offered}
+use Rattle.sequences.specs.Stepping.{steps}
+use Rattle.ledger.specs.Ledger.{allColumns, gain, fresh, advanced, canRun, replayed, given, startIn, startFrom, isRun, answered, offered}
 use Rattle.ledger.specs.History.{Offer, mayFollow, reallyRuns, Tells}
 use Rattle.ledger.proofs.Gains.{booked-at, booked-length}
 use Rattle.ledger.proofs.Answers.{next-go, judged-next}

@@ -11,7 +11,8 @@ use Rattle.meaning.specs.Split.{Task}
 use Rattle.tables.specs.Layout.{Tables}
 use Rattle.tables.specs.Task.{stateOf}
 use Rattle.ledger.specs.declared.Run.{Run}
-use Rattle.ledger.specs.Ledger.{steps, allColumns, gain, offered, begun}
+use Rattle.sequences.specs.Stepping.{steps}
+use Rattle.ledger.specs.Ledger.{allColumns, gain, offered, begun}
 
 -- an offer: a step number and an operator
 pub record Offer : Type 0 where

@@ -14,15 +14,12 @@ use Rattle.tables.specs.Layout.{Tables, domAt}
 use Rattle.tables.specs.Task.{taskOf, stateOf}
 use Rattle.tables.specs.Steps.{mayRun, filled, stepped}
 use Rattle.tables.specs.Scan.{_then_, tablesFault, stateFault}
+use Rattle.sequences.specs.Stepping.{steps}
 use Rattle.ledger.specs.declared.Run.{Run}
 use Rattle.ledger.specs.declared.Tried.{Tried}
 use Rattle.ledger.specs.declared.Answer.{Answer}
 use Rattle.ledger.specs.declared.Answer.the-variants.{Accepted, Repeated, Refused}
 use Rattle.ledger.specs.declared.Offered.{Offered}
-
--- the most steps of a run
-unfoldable pub steps : ℕ
-steps = 256
 
 -- columns 0 to 7 are what the maps were paid, column 8 is the unshared one
 abbrev pub allColumns : ℕ

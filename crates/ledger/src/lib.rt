@@ -4,7 +4,8 @@ ghost use Prim.Native.Nat.{_≤_, _<_};
 ghost use lib.ListN.{take};
 ghost use Rattle.meaning.specs.Split.{Valid};
 ghost use Rattle.tables.specs.Task.{taskOf, tables};
-ghost use Rattle.ledger.specs.Ledger.{steps, fresh, advanced, canRun, replayed, sameStates, sameSteps, sameRun, isRun, oldStep, nextStep, judged, answered, offered, begun};
+ghost use Rattle.sequences.specs.Stepping.{steps};
+ghost use Rattle.ledger.specs.Ledger.{fresh, advanced, canRun, replayed, sameStates, sameSteps, sameRun, isRun, oldStep, nextStep, judged, answered, offered, begun};
 ghost use Rattle.ledger.specs.Inside.{Bounded};
 
 pub mod columns;
@@ -19,14 +20,12 @@ use crate::starts::start_from;
 use crate::starts::start_in;
 use meaning::OpNo;
 use refusals::Refusal;
+use sequences::STEPS;
 use tables::Counts;
 use tables::scan::Found;
 use tables::scan::tables_fault;
 use tables::steps::may_run;
 use tables::steps::state_after;
-
-// The most steps of a run.
-pub const STEPS: usize = 256;
 
 // How many columns a run has: what each of 8 maps was paid, and the unshared one.
 pub const COLUMNS: usize = 9;

@@ -15,7 +15,7 @@ use Rattle.tables.specs.Scan.{_then_, tablesFault, stateFault}
 use Rattle.sequences.specs.declared.stepping.Stepped.{Stepped}
 use Rattle.sequences.specs.declared.stepping.Stepped.the-variants.{Ran, NoSuch, MayNot}
 
--- the most steps of a sequence
+-- the most steps of a sequence or a run
 unfoldable pub steps : ℕ
 steps = 256
 

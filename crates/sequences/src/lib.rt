@@ -20,7 +20,7 @@ pub mod input;
 pub mod judging;
 pub mod stepping;
 
-// The most steps of a sequence.
+// The most steps of a sequence or a run.
 pub const STEPS: usize = 256;
 
 // JUDGING a lent list of operators from a lent state: passed with its cost, or the first refusal in the paper's order.

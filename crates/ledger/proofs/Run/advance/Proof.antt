@@ -1,6 +1,7 @@
 -- `Run::advance` meets its contract. Assumes nothing.
 use Rattle.ledger.proofs.Gains.{column-room}
-use Rattle.ledger.specs.Ledger.{advanced, steps}
+use Rattle.sequences.specs.Stepping.{steps}
+use Rattle.ledger.specs.Ledger.{advanced}
 use borrow.Author.Needs.{needs}
 use mathlib.Core.Path.{refl}
 use native.Mathlib.Omega.{arith}

@@ -1,5 +1,6 @@
 -- `Run::fresh` meets its contract. Assumes nothing.
-use Rattle.ledger.specs.Ledger.{fresh, steps}
+use Rattle.sequences.specs.Stepping.{steps}
+use Rattle.ledger.specs.Ledger.{fresh}
 use mathlib.Core.Path.{refl}
 use Rattle.ledger.proofs.Run.fresh.Statement.{statement}
 use Rattle.ledger.proofs.Run.fresh.Tie as tie

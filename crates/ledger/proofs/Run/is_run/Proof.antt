@@ -1,6 +1,7 @@
 -- `Run::is_run` meets its contract: the tests in the order of the definition. Assumes nothing.
 use Rattle.ledger.proofs.Runs.{run-long, run-outside, run-same, run-stuck}
-use Rattle.ledger.specs.Ledger.{given, steps}
+use Rattle.sequences.specs.Stepping.{steps}
+use Rattle.ledger.specs.Ledger.{given}
 use Rattle.tables.specs.Layout.{Tables}
 use Rattle.tables.specs.Task.{tables}
 use borrow.Author.Needs.{needs}

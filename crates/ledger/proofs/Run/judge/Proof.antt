@@ -1,6 +1,6 @@
 -- `Run::judge` meets its contract. Assumes nothing.
 use Rattle.ledger.proofs.Answers.{judged-beyond, judged-next, judged-none, judged-old, judged-zero}
-use Rattle.ledger.specs.Ledger.{steps}
+use Rattle.sequences.specs.Stepping.{steps}
 use borrow.Author.Needs.{needs}
 use native.Mathlib.Omega.{arith}
 use Rattle.ledger.proofs.Run.judge.Statement.{statement}

@@ -1,6 +1,6 @@
 -- `Run::next_step` meets its contract. Assumes nothing.
 use Rattle.ledger.proofs.Answers.{next-full, next-go, next-not}
-use Rattle.ledger.specs.Ledger.{steps}
+use Rattle.sequences.specs.Stepping.{steps}
 use borrow.Author.Needs.{needs}
 use mathlib.Core.Path.{_∙_, sym}
 use Rattle.ledger.proofs.Run.next_step.Statement.{statement}

@@ -1,6 +1,6 @@
 -- `Run::old_step` meets its contract. Assumes nothing.
 use Rattle.ledger.proofs.Answers.{old-other, old-same}
-use Rattle.ledger.specs.Ledger.{steps}
+use Rattle.sequences.specs.Stepping.{steps}
 use borrow.Author.Needs.{needs}
 use native.Mathlib.Omega.{arith}
 use Rattle.ledger.proofs.Run.old_step.Statement.{statement}

@@ -3,7 +3,8 @@ use Prim.Native.Nat.{_+_, _-_, _≤_, ℕ}
 use Rattle.ledger.proofs.Gains.{fresh-bounded}
 use Rattle.ledger.proofs.Runs.{advanced-len, bounded-step, can-exists, given-end, given-next, given-stop}
 use Rattle.ledger.specs.Inside.{Bounded}
-use Rattle.ledger.specs.Ledger.{fresh, replayed, steps}
+use Rattle.sequences.specs.Stepping.{steps}
+use Rattle.ledger.specs.Ledger.{fresh, replayed}
 use Rattle.ledger.specs.declared.Run.{Run}
 use Rattle.tables.specs.Task.{tables}
 use borrow.Author.Needs.{needs}

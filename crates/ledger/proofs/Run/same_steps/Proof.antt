@@ -1,6 +1,6 @@
 -- `Run::same_steps` meets its contract. Assumes nothing.
 use Rattle.ledger.proofs.Runs.{steps-no, steps-yes}
-use Rattle.ledger.specs.Ledger.{steps}
+use Rattle.sequences.specs.Stepping.{steps}
 use borrow.Author.Needs.{needs}
 use Rattle.ledger.proofs.Run.same_steps.Statement.{statement}
 use Rattle.ledger.proofs.Run.same_steps.Tie as tie
