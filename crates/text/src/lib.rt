@@ -1,0 +1,29 @@
+// The reader of the task text: a byte at a time, into a work area; the lent tables are written at the end, on acceptance only.
+use refusals::Refusal;
+use tables::Counts;
+
+// What the reader answers: the task's counts, or why not.
+pub enum Reading {
+    Accepted(Counts),
+    Refused(Refusal),
+}
+
+// Where the reading stands between two bytes.
+pub struct Ctrl {
+    pub code: u32,
+    pub line: u32,
+    pub part: u32,
+    pub field: u32,
+    pub key: u32,
+    pub run: u32,
+    pub val: u32,
+    pub var: u32,
+    pub least: u32,
+    pub item: u32,
+    pub row: u32,
+    pub mask: u32,
+    pub prod: u32,
+    pub vars: u32,
+    pub ops: u32,
+    pub maps: u32,
+}
