@@ -41,6 +41,8 @@ use Rattle.text.specs.Fields.{
   slash,
   colon,
   semicolon,
+  mostOps,
+  mostMaps,
   mostStates,
   overLine,
   Outcome,
@@ -360,9 +362,9 @@ unfoldable pub threes : ℕ → ℕ → List ℕ → List ℕ
 threes zero i w = []
 threes (suc n) i w = get3 w i ∷ threes n (i + 3) w
 
--- the line of the lowest operator whose shares total above its cost, 0 for none
+-- the line of the lowest operator whose shares total above its cost, 0 for none; a control of a text has no more than these counts
 unfoldable pub over : St → ℕ
-over s = overLine (costIn (s .area)) (shareIn (s .area)) (s .ctrl .maps) (s .ctrl .ops) 0
+over s = overLine (costIn (s .area)) (shareIn (s .area)) (min (s .ctrl .maps) mostMaps) (min (s .ctrl .ops) mostOps) 0
 
 unfoldable pub countsOf : Ctrl → Counts
 countsOf c = record { vars = c .vars; ops = c .ops; maps = c .maps }
