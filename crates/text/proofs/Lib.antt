@@ -1,1 +1,4 @@
 pub mod Cases
+pub mod Filling
+pub mod Laws
+pub mod Masks
