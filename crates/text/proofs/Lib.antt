@@ -1,3 +1,4 @@
+pub mod Admission
 pub mod Cases
 pub mod Filling
 pub mod Laws
