@@ -1,2 +1,3 @@
 pub mod Cases
 pub mod BridgeReading
+pub mod BridgeNumbers
