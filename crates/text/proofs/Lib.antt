@@ -1,3 +1,4 @@
 pub mod Cases
 pub mod BridgeReading
 pub mod BridgeNumbers
+pub mod BridgeArea
