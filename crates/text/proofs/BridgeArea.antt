@@ -59,6 +59,10 @@ pub put-getD : (w : List ℕ) (p v i : ℕ) → i < p → getD (put w p v) i 0 �
 unfolding put
 put-getD w p v i h = getD-set-other w p i (v % 256) 0 (λ e. omega arith)
 
+pub put-same : (w : List ℕ) (p v : ℕ) → p < length w → v < 256 → getD (put w p v) p 0 ≡ v
+unfolding put
+put-same w p v h q = getD-set-same w p (v % 256) 0 h ∙ (let e : v % 256 ≡ v = omega arith in e)
+
 pub put-length : (w : List ℕ) (p v : ℕ) → length (put w p v) ≡ length w
 unfolding put
 put-length w p v = length-set w p (v % 256)

@@ -187,7 +187,7 @@ unfolding pick
 pick-same true b = refl
 pick-same false b = refl
 
-run-of : (c : Ctrl) (r v : ℕ) → withDigit c r v .run ≡ r
+pub run-of : (c : Ctrl) (r v : ℕ) → withDigit c r v .run ≡ r
 unfolding withDigit
 run-of c r v = refl
 

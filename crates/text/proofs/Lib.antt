@@ -2,3 +2,4 @@ pub mod Cases
 pub mod BridgeReading
 pub mod BridgeNumbers
 pub mod BridgeArea
+pub mod BridgeRows
