@@ -182,7 +182,7 @@ abbrev pub beginsDash : Ctrl → List ℕ → Bool
 beginsDash c [] = false
 beginsDash c (b ∷ t) = dashHere (withDigit c 0 0) b
 
-pick-same : (q b : Bool) → pick q b b ≡ b
+pub pick-same : (q b : Bool) → pick q b b ≡ b
 unfolding pick
 pick-same true b = refl
 pick-same false b = refl

@@ -3,3 +3,4 @@ pub mod BridgeReading
 pub mod BridgeNumbers
 pub mod BridgeArea
 pub mod BridgeRows
+pub mod BridgeLines
