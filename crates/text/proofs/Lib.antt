@@ -4,3 +4,4 @@ pub mod BridgeNumbers
 pub mod BridgeArea
 pub mod BridgeRows
 pub mod BridgeLines
+pub mod BridgeFacts
