@@ -5,3 +5,4 @@ pub mod BridgeArea
 pub mod BridgeRows
 pub mod BridgeLines
 pub mod BridgeFacts
+pub mod BridgeOps
