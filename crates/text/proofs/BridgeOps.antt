@@ -189,3 +189,54 @@ operator-ok l r n fits h w p k ok =
               (cost-kept n w (p .long) r v h (omega (arith, within-both v 0 1000001 q))))
         t a (bare (num l 7 0 0 0 r 0 1 n) t refl))
     0 (bytes "op=") refl
+
+-- ---- lines of one kind: N rows of field f, each read by `one`, up to line E, where field g follows
+module _ (f g N E : ℕ) (n : Counts) (j : ℕ) (p : ℕ → Part) (k : Next) (few : N ≤ 64) (low : E ≤ 999999)
+    (one : (l r : ℕ) → r < N → (w : List ℕ) → Known j w → (k₁ : Next)
+        → ((u : List ℕ) → Known j u → (t : List ℕ) → Bytes t → reading (afterRow l f g r N n) u t ≡ k₁ t (l + 1) (tablesOf n u))
+        → (t : List ℕ) → Bytes t → reading (kw l f r n 0) w t ≡ p r t l (tablesOf n w) k₁)
+    (done : (w : List ℕ) → Known j w → (t : List ℕ) → Bytes t → reading (kw E g 0 n 0) w t ≡ k t E (tablesOf n w)) where
+  after-last : (l r : ℕ) → r + 1 ≡ N → l + 1 ≡ E → afterRow l f g r N n ≡ kw E g 0 n 0
+  unfolding pick
+  after-last l r e q =
+      let y : up l ≡ E = omega arith in
+      rw (y, le-ltb (up r) N (omega arith))
+
+  after-more : (l r : ℕ) → r + 1 < N → l + 1 < E → afterRow l f g r N n ≡ kw (l + 1) f (r + 1) n 0
+  unfolding pick
+  after-more l r e q =
+      let y : up l ≡ l + 1 = omega arith in
+      let x : up r ≡ r + 1 = omega arith in
+      rw (x, y, lt-ltb (r + 1) N e)
+
+  pub lines-ok : (m r l : ℕ) → r + suc m ≡ N → l + suc m ≡ E → (w : List ℕ) → Known j w → (t : List ℕ) → Bytes t
+      → reading (kw l f r n 0) w t ≡ lines p (suc m) r t l (tablesOf n w) k
+  unfolding lines _▸_
+  lines-ok zero r l e q w h t a =
+      let y : l + 1 ≡ E = omega arith in
+      one l r (omega arith) w h k (λ u i t₁ a₁. rw (after-last l r (omega arith) y) (rw y (done u i t₁ a₁))) t a
+  lines-ok (suc m) r l e q w h t a =
+      one l r (omega arith) w h (λ u₁ m₁ U. lines p (suc m) (r + 1) u₁ m₁ U k)
+      (λ u i t₁ a₁. rw (after-more l r (omega arith) (omega arith)) (lines-ok m (r + 1) (l + 1) (omega arith) (omega arith) u i t₁ a₁)) t a
+
+pub op-lines-ok : (n : Counts) → Fits n → (w : List ℕ) → Known (n .vars) w → (k : Next)
+    → ((u : List ℕ) → Known (n .vars) u → (t : List ℕ) → Bytes t → reading (kw (7 + n .ops) 12 0 n 0) u t ≡ k t (7 + n .ops) (tablesOf n u))
+    → (t : List ℕ) → Bytes t → reading (kw 7 (pick (eqb (n .ops) 0) 12 7) 0 n 0) w t ≡ opLines t 7 (tablesOf n w) k
+unfolding opLines ask tablesOf lines pick
+op-lines-ok n fits w p k ok t a = split (n .ops) refl
+  where
+    part : ℕ → Part
+    part r = line "op=" (operator r)
+    split : (N : ℕ) → n .ops ≡ N → reading (kw 7 (pick (eqb (n .ops) 0) 12 7) 0 n 0) w t ≡ lines part (n .ops) 0 t 7 (tablesOf n w) k
+    split zero e =
+        let f : _≡_ {A = ℕ} (pick (eqb (n .ops) 0) 12 7) 12 = rw (eq-eqb (n .ops) 0 e) in
+        let y : 7 + n .ops ≡ 7 = omega arith in
+        ap (λ (x : ℕ). reading (kw 7 x 0 n 0) w t) f
+        ∙ (rw y at (ok w p t a))
+        ∙ sym (ap (λ (m : ℕ). lines part m 0 t 7 (tablesOf n w) k) e)
+    split (suc m) e =
+        let f : _≡_ {A = ℕ} (pick (eqb (n .ops) 0) 12 7) 7 = rw (ne-eqb (n .ops) 0 (λ z. omega arith)) in
+        let y = fits .ops in
+        ap (λ (x : ℕ). reading (kw 7 x 0 n 0) w t) f
+        ∙ lines-ok 7 12 (n .ops) (7 + n .ops) n (n .vars) part k y (omega arith) (λ l r h. operator-ok l r n fits (omega arith)) ok m 0 7 (omega arith) (omega arith) w p t a
+        ∙ sym (ap (λ (x : ℕ). lines part x 0 t 7 (tablesOf n w) k) e)
