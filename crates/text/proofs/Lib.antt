@@ -1,4 +1,3 @@
-pub mod Cases
 pub mod BridgeReading
 pub mod BridgeNumbers
 pub mod BridgeArea
@@ -6,3 +5,7 @@ pub mod BridgeRows
 pub mod BridgeLines
 pub mod BridgeFacts
 pub mod BridgeOps
+pub mod Cases
+pub mod Filling
+pub mod Laws
+pub mod Masks

@@ -1,4 +1,13 @@
 // The reader of the task text: a byte at a time, into a work area; the lent tables are written at the end, on acceptance only.
+mod area;
+mod control;
+mod end;
+mod fields;
+mod fill;
+mod mask;
+mod step;
+mod whole;
+
 use refusals::Refusal;
 use tables::Counts;
 
@@ -8,7 +17,9 @@ pub enum Reading {
     Refused(Refusal),
 }
 
-// Where the reading stands between two bytes.
+// Where the reading stands between two bytes: the fault that stopped it (0 for none) and the line; the part of the line, the field, and
+// the place in its keyword; the digit run and its value; the variable, the least variable allowed, the place in a row, the row of the line;
+// the classes seen and the abstract states so far; the counts.
 pub struct Ctrl {
     pub code: u32,
     pub line: u32,
