@@ -35,7 +35,7 @@ then-mark c w r v x d T k h z e goes ok (other {b = b} {t = t} o) (byte y a) =
     ∙ ap (λ (y : Ctrl). reading y (stored (withDigit c r v) w) t) (goes b)
     ∙ marked (noted (withDigit c r v)) d (stored (withDigit c r v) w) b x [] t T k (λ q. ok t a)
 
-judged-in : (c : Ctrl) (w : List ℕ) (r v : ℕ) → within v (getD leasts (c .field) 0) (limit c w) ≡ true → judged (withDigit c r v) w ≡ pick (leb (c .least) v) 0 4
+pub judged-in : (c : Ctrl) (w : List ℕ) (r v : ℕ) → within v (getD leasts (c .field) 0) (limit c w) ≡ true → judged (withDigit c r v) w ≡ pick (leb (c .least) v) 0 4
 unfolding judged withDigit pick
 judged-in c w r v q = rw (in-range c w r v ∙ q)
 

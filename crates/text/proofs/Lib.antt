@@ -5,6 +5,7 @@ pub mod BridgeRows
 pub mod BridgeLines
 pub mod BridgeFacts
 pub mod BridgeOps
+pub mod BridgeMaps
 pub mod Cases
 pub mod Filling
 pub mod Laws
