@@ -6,6 +6,7 @@ pub mod BridgeLines
 pub mod BridgeFacts
 pub mod BridgeOps
 pub mod BridgeMaps
+pub mod BridgeShares
 pub mod Cases
 pub mod Filling
 pub mod Laws
