@@ -40,7 +40,7 @@ get3-put3 w i v h q =
     let l₁ : length w₁ ≡ length w = length-set w i a in
     let l₂ : length w₂ ≡ length w₁ = length-set w₁ (i + 1) b in
     let e₀ : getD (set w₂ (i + 2) c) i 0 ≡ a =
-        getD-set-other w₂ (i + 2) i c 0 (λ e. omega arith) ∙ getD-set-other w₁ (i + 1) i b 0 (λ e. omega arith) ∙ getD-set-same w i a 0 (omega arith) in
+    getD-set-other w₂ (i + 2) i c 0 (λ e. omega arith) ∙ getD-set-other w₁ (i + 1) i b 0 (λ e. omega arith) ∙ getD-set-same w i a 0 (omega arith) in
     let e₁ : getD (set w₂ (i + 2) c) (i + 1) 0 ≡ b = getD-set-other w₂ (i + 2) (i + 1) c 0 (λ e. omega arith) ∙ getD-set-same w₁ (i + 1) b 0 (omega arith) in
     let e₂ : getD (set w₂ (i + 2) c) (i + 2) 0 ≡ c = getD-set-same w₂ (i + 2) c 0 (omega arith) in
     rw (e₀, e₁, e₂) (three-bytes v q)
@@ -154,5 +154,5 @@ over-of c w n h g =
     let q : min (c .ops) 64 ≡ c .ops = omega arith in
     rw (e, q)
     (over-same (costIn w) (costAt (threes 64 1624 w)) (shareIn w) (shareAt (threes 512 1816 w)) 64
-        (λ o a. sym (threes-get 64 1624 w o (costByte o) refl a)) (c .maps) (c .ops) 0 (omega arith)
-        (λ i j a b. sym (threes-get 512 1816 w (sharePlace i j) (shareByte i j) refl (omega arith))))
+    (λ o a. sym (threes-get 64 1624 w o (costByte o) refl a)) (c .maps) (c .ops) 0 (omega arith)
+    (λ i j a b. sym (threes-get 512 1816 w (sharePlace i j) (shareByte i j) refl (omega arith))))

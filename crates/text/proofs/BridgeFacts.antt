@@ -23,7 +23,7 @@ use Rattle.text.proofs.BridgeRows.{num, then-mark, fault-plain, no-faul
 module _ (c : Ctrl) (w : List ℕ) (lo lim : ℕ) (e : getD leasts (c .field) 0 ≡ lo) (q : limit c w ≡ lim) (h : c .field ≡ 15 → ⊥) (low : lo ≤ 4294967295) (cap : lim ≤ 4294967295)
     (p : ℕ → Part) (T : Tables) (k : Next)
     (ok : (r v : ℕ) (t : List ℕ) → (r ≡ 0 → ⊥) → Stop t → Bytes t → within v (getD leasts (c .field) 0) (limit c w) ≡ true → within v lo lim ≡ true
-        → reading (withDigit c r v) w t ≡ p v t (c .line) T k) where
+    → reading (withDigit c r v) w t ≡ p v t (c .line) T k) where
   pub number-at : (t : List ℕ) → Bytes t → beginsDash c t ≡ false → reading (withDigit c 0 0) w t ≡ number lo lim p t (c .line) T k
   number-at t a d =
       number-ok c w h (rw e low) (rw q cap) p T k (λ r v u z o b s. ok r v u z o b s (rw (e, q) at s)) t a d
@@ -81,14 +81,17 @@ module _ (l f g r : ℕ) (n : Counts) (place : ℕ → ℕ) (x : ℕ) (d : Ctrl)
       where
         w₁ : List ℕ
         w₁ = put w (place v) (up y)
+
         known : Known (n .vars) w₁
         known = let j = fits .high in let i = L .room v (omega arith) in known-put p (place v) (up y) (omega arith)
+
         move : reading (withDigit (num l g v 0 0 r 0 1 n) z y) w (b ∷ t)
             ≡ reading (pick (eqb b comma) (num l f 0 (up v) 0 r 0 1 n) (mark (noted (withDigit (num l g v 0 0 r 0 1 n) z y)) b x d)) w₁ t
         move =
             sound-byte (num l g v 0 0 r 0 1 n) w z y b t q o e
             ∙ ap (λ (c : Ctrl). reading c (stored (withDigit (num l g v 0 0 r 0 1 n) z y) w) t) (L .val-after v z y b w)
             ∙ ap (λ (u₁ : List ℕ). reading (pick (eqb b comma) (num l f 0 (up v) 0 r 0 1 n) (mark (noted (withDigit (num l g v 0 0 r 0 1 n) z y)) b x d)) u₁ t) (L .val-kept v z y w)
+
         split : (s : Bool) → eqb b comma ≡ s
             → reading (pick (eqb b comma) (num l f 0 (up v) 0 r 0 1 n) (mark (noted (withDigit (num l g v 0 0 r 0 1 n) z y)) b x d)) w₁ t
             ≡ pick {A = List ℕ → Verdict} (eqb b comma) (λ u₁. facts place N (v + 1) u₁ l (tablesOf n w₁) ends) (λ u₁. lit (x ∷ []) (b ∷ u₁) l (tablesOf n w₁) k) t
@@ -107,12 +110,12 @@ module _ (l f g r : ℕ) (n : Counts) (place : ℕ → ℕ) (x : ℕ) (d : Ctrl)
         let e : dom w v ≡ domAt (tablesOf n w .facts) v = sym (dom-of n w v (omega arith)) in
         number-at (num l g v 0 0 r 0 1 n) w 0 (domAt (tablesOf n w .facts) v) (L .val-least) (L .val-limit v w ∙ e) (L .val15) (omega arith) (omega arith) _ (tablesOf n w) ends
         (λ z y u q o b s s₁.
-            let h : y < 8 = omega (arith, within-both y 0 (domAt (tablesOf n w .facts) v) s₁) in
-            let e₁ : up y ≡ y + 1 = omega arith in
-            let m = L .room v (omega arith) in
-            more-or-end z y w u p q o b h (no-fault (num l g v 0 0 r 0 1 n) w z y q (L .val13) s zero-le)
-            ∙ ap (λ (T : Tables). choice comma (facts place N (v + 1)) nothing u l T ends)
-              (ap (λ (i₁ : ℕ). tablesOf n (put w (place v) i₁)) e₁ ∙ fact-kept n w (p .long) (place v) (y + 1) (m .1) (omega arith)))
+        let h : y < 8 = omega (arith, within-both y 0 (domAt (tablesOf n w .facts) v) s₁) in
+        let e₁ : up y ≡ y + 1 = omega arith in
+        let m = L .room v (omega arith) in
+        more-or-end z y w u p q o b h (no-fault (num l g v 0 0 r 0 1 n) w z y q (L .val13) s zero-le)
+        ∙ ap (λ (T : Tables). choice comma (facts place N (v + 1)) nothing u l T ends)
+        (ap (λ (i₁ : ℕ). tablesOf n (put w (place v) i₁)) e₁ ∙ fact-kept n w (p .long) (place v) (y + 1) (m .1) (omega arith)))
         t a (L .val-bare v t)
 
   -- a variable: its order, its colon, its value
@@ -126,8 +129,8 @@ module _ (l f g r : ℕ) (n : Counts) (place : ℕ → ℕ) (x : ℕ) (d : Ctrl)
   variable-ok N m w p again z v u y o b s i true j =
       rw j
       (then-mark (num l f 0 m 0 r 0 1 n) w z v colon (num l g v 0 0 r 0 1 n) (tablesOf n w) _ (L .var15) y (no-fault (num l f 0 m 0 r 0 1 n) w z v y (L .var13) s (leb-true m v j))
-          (λ x₁. L .var-after m z v x₁ w)
-          (λ u₁ b₁. rw (L .var-kept m z v w) (value-ok N v i (again v (leb-true m v j)) w p u₁ b₁)) o b)
+      (λ x₁. L .var-after m z v x₁ w)
+      (λ u₁ b₁. rw (L .var-kept m z v w) (value-ok N v i (again v (leb-true m v j)) w p u₁ b₁)) o b)
   variable-ok N m w p again z v u y o b s i false j = rw j (rising m z v w u y o s (leb-false m v j))
 
   facts-ok : (N m : ℕ) → n .vars ≤ N + m → (w : List ℕ) → Known (n .vars) w → (t : List ℕ) → Bytes t → beginsDash (num l f 0 m 0 r 0 1 n) t ≡ false
@@ -139,8 +142,8 @@ module _ (l f g r : ℕ) (n : Counts) (place : ℕ → ℕ) (x : ℕ) (d : Ctrl)
   facts-ok (suc N) m h w p t a e =
       number-at (num l f 0 m 0 r 0 1 n) w 0 (n .vars) (L .var-least) (L .var-limit m w) (L .var15) (omega arith) (let y = fits .high in omega arith) _ (tablesOf n w) ends
       (λ z v u y o b s q.
-          variable-ok N m w p (λ v₁ i w₁ p₁ u₁ b₁. facts-ok N (v₁ + 1) (omega arith) w₁ p₁ u₁ b₁ (bare-least (num l f 0 (v₁ + 1) 0 r 0 1 n) u₁ (λ q₁. omega arith)))
-          z v u y o b s (within-both v 0 (n .vars) q .1) (leb m v) refl)
+      variable-ok N m w p (λ v₁ i w₁ p₁ u₁ b₁. facts-ok N (v₁ + 1) (omega arith) w₁ p₁ u₁ b₁ (bare-least (num l f 0 (v₁ + 1) 0 r 0 1 n) u₁ (λ q₁. omega arith)))
+      z v u y o b s (within-both v 0 (n .vars) q .1) (leb m v) refl)
       t a e
 
   -- the dash of an empty list, and what ends it

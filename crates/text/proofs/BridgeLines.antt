@@ -82,8 +82,8 @@ module _ (l f : ℕ) (n : Counts) (w : List ℕ) (h : f ≡ 15 → ⊥) (c : f �
   single-ok t a =
       number-ok (num l f 0 0 0 0 0 1 n) w h low cap (λ v. keep (keeps v)) (tablesOf n w) (eol k)
       (λ z v u y o b s.
-          then-mark (num l f 0 0 0 0 0 1 n) w z v lineEnd (d v) (keeps v (tablesOf n w)) (λ u₁ m₁ U₁. k u₁ (m₁ + 1) U₁) h y
-              (no-fault (num l f 0 0 0 0 0 1 n) w z v y c s zero-le) (goes z v) (λ u₁ b₁. rw (same z v) (ok v s u₁ b₁)) o b)
+      then-mark (num l f 0 0 0 0 0 1 n) w z v lineEnd (d v) (keeps v (tablesOf n w)) (λ u₁ m₁ U₁. k u₁ (m₁ + 1) U₁) h y
+      (no-fault (num l f 0 0 0 0 0 1 n) w z v y c s zero-le) (goes z v) (λ u₁ b₁. rw (same z v) (ok v s u₁ b₁)) o b)
       t a (bare (num l f 0 0 0 0 0 1 n) t e)
 
 -- edition=
@@ -106,8 +106,8 @@ unfolding varsLine line endOfLine _▸_ keep opened fresh pick limit stored with
 vars-ok n w k ok =
     key-ok 2 1 0 n w (λ z. omega arith) (tablesOf n w) _
     (single-ok 2 1 n w (λ z. omega arith) (λ z. omega arith) (omega arith) (omega arith) refl
-        (λ v T. withCounts v (T .counts .ops) (T .counts .maps) T) k (λ v. kw 3 2 0 (withVars v n) 0) (λ z v. refl) (λ z v b. refl)
-        (λ v q. let g = within-both v 1 9 q in ok v (g .0) (omega arith)))
+    (λ v T. withCounts v (T .counts .ops) (T .counts .maps) T) k (λ v. kw 3 2 0 (withVars v n) 0) (λ z v. refl) (λ z v b. refl)
+    (λ v q. let g = within-both v 1 9 q in ok v (g .0) (omega arith)))
     0 (bytes "vars=") refl
 
 -- ---- a line with a number for each variable
@@ -137,19 +137,19 @@ dom-ok n fits w g k ok =
     let one : suc (n .vars - 1) ≡ n .vars = let y = fits .low in omega arith in
     key-ok 3 2 0 n w (λ z. omega arith) (tablesOf n w) _
     (λ t a.
-        row-ok 3 2 0 n (λ i. i) (λ i. 0) (n .vars) (λ z. omega arith) (λ z. omega arith) (omega arith) (λ i U. 9) (λ i v. putFact (domPlace i) v) Known (eol k)
-        (λ i u. bare (num 3 2 i 0 0 0 0 1 n) u refl)
-        (λ i u y p. (refl, omega arith))
-        (λ i z v u y p q.
-            let s = within-both v 1 9 q in
-            let x = fits .high in
-            (fact-kept n u (p .long) i v (omega arith) (omega arith), known-dom p v (omega arith) (s .0) (omega arith)))
-        (λ i z v b u y. vars-more 3 z v b i n u (fits .high) domRow y)
-        (λ i z v u t₁ y x o a₁ p e.
-            then-mark (num 3 2 i 0 0 0 0 1 n) u z v lineEnd (kw 4 3 0 n 0) _ (λ u₁ m₁ U₁. k u₁ (m₁ + 1) U₁) (λ q. omega arith) x e
-            (λ b. vars-last 3 z v b i n u (fits .high) domRow y) (ok _ (rw y at p)) o a₁)
-        (n .vars - 1) 0 (omega arith) w g t a
-        ∙ ap (λ (m : ℕ). row 1 (λ i U. 9) (λ i v. putFact (domPlace i) v) m 0 t 3 (tablesOf n w) (eol k)) one)
+    row-ok 3 2 0 n (λ i. i) (λ i. 0) (n .vars) (λ z. omega arith) (λ z. omega arith) (omega arith) (λ i U. 9) (λ i v. putFact (domPlace i) v) Known (eol k)
+    (λ i u. bare (num 3 2 i 0 0 0 0 1 n) u refl)
+    (λ i u y p. (refl, omega arith))
+    (λ i z v u y p q.
+    let s = within-both v 1 9 q in
+    let x = fits .high in
+    (fact-kept n u (p .long) i v (omega arith) (omega arith), known-dom p v (omega arith) (s .0) (omega arith)))
+    (λ i z v b u y. vars-more 3 z v b i n u (fits .high) domRow y)
+    (λ i z v u t₁ y x o a₁ p e.
+    then-mark (num 3 2 i 0 0 0 0 1 n) u z v lineEnd (kw 4 3 0 n 0) _ (λ u₁ m₁ U₁. k u₁ (m₁ + 1) U₁) (λ q. omega arith) x e
+    (λ b. vars-last 3 z v b i n u (fits .high) domRow y) (ok _ (rw y at p)) o a₁)
+    (n .vars - 1) 0 (omega arith) w g t a
+    ∙ ap (λ (m : ℕ). row 1 (λ i U. 9) (λ i v. putFact (domPlace i) v) m 0 t 3 (tablesOf n w) (eol k)) one)
     0 (bytes "dom=") refl
 
 -- init=
@@ -161,24 +161,24 @@ init-ok n fits w g k ok =
     let one : suc (n .vars - 1) ≡ n .vars = let y = fits .low in omega arith in
     key-ok 4 3 0 n w (λ z. omega arith) (tablesOf n w) _
     (λ t a.
-        row-ok 4 3 0 n (λ i. i) (λ i. 0) (n .vars) (λ z. omega arith) (λ z. omega arith) (omega arith) (λ i U. domAt (U .facts) i) (λ i v. putFact (initPlace i) v)
-        (λ i u. Known (n .vars) u) (eol k)
-        (λ i u. bare (num 4 3 i 0 0 0 0 1 n) u refl)
-        (λ i u y p. 
-            let x = fits .high in
-            let d : domAt (tablesOf n u .facts) i ≡ dom u i = dom-of n u i (omega arith) in
-            let s = p .doms i y in
-            (sym d, omega arith))
-        (λ i z v u y p q.
-            let x = fits .high in
-            let d : domAt (tablesOf n u .facts) i ≡ dom u i = dom-of n u i (omega arith) in
-            let r = p .doms i y in
-            let s = within-both v 0 (domAt (tablesOf n u .facts) i) q in
-            (fact-kept n u (p .long) (initPlace i) v (omega arith) (omega arith), known-put p (initPlace i) v (omega arith)))
-        (λ i z v b u y. vars-more 4 z v b i n u (fits .high) initRow y)
-        (λ i z v u t₁ y x o a₁ p e.
-            then-mark (num 4 3 i 0 0 0 0 1 n) u z v lineEnd (kw 5 4 0 n 0) _ (λ u₁ m₁ U₁. k u₁ (m₁ + 1) U₁) (λ q. omega arith) x e
-            (λ b. vars-last 4 z v b i n u (fits .high) initRow y) (ok _ p) o a₁)
-        (n .vars - 1) 0 (omega arith) w g t a
-        ∙ ap (λ (m : ℕ). row 0 (λ i U. domAt (U .facts) i) (λ i v. putFact (initPlace i) v) m 0 t 4 (tablesOf n w) (eol k)) one)
+    row-ok 4 3 0 n (λ i. i) (λ i. 0) (n .vars) (λ z. omega arith) (λ z. omega arith) (omega arith) (λ i U. domAt (U .facts) i) (λ i v. putFact (initPlace i) v)
+    (λ i u. Known (n .vars) u) (eol k)
+    (λ i u. bare (num 4 3 i 0 0 0 0 1 n) u refl)
+    (λ i u y p.
+    let x = fits .high in
+    let d : domAt (tablesOf n u .facts) i ≡ dom u i = dom-of n u i (omega arith) in
+    let s = p .doms i y in
+    (sym d, omega arith))
+    (λ i z v u y p q.
+    let x = fits .high in
+    let d : domAt (tablesOf n u .facts) i ≡ dom u i = dom-of n u i (omega arith) in
+    let r = p .doms i y in
+    let s = within-both v 0 (domAt (tablesOf n u .facts) i) q in
+    (fact-kept n u (p .long) (initPlace i) v (omega arith) (omega arith), known-put p (initPlace i) v (omega arith)))
+    (λ i z v b u y. vars-more 4 z v b i n u (fits .high) initRow y)
+    (λ i z v u t₁ y x o a₁ p e.
+    then-mark (num 4 3 i 0 0 0 0 1 n) u z v lineEnd (kw 5 4 0 n 0) _ (λ u₁ m₁ U₁. k u₁ (m₁ + 1) U₁) (λ q. omega arith) x e
+    (λ b. vars-last 4 z v b i n u (fits .high) initRow y) (ok _ p) o a₁)
+    (n .vars - 1) 0 (omega arith) w g t a
+    ∙ ap (λ (m : ℕ). row 0 (λ i U. domAt (U .facts) i) (λ i v. putFact (initPlace i) v) m 0 t 4 (tablesOf n w) (eol k)) one)
     0 (bytes "init=") refl

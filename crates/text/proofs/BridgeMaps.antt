@@ -123,7 +123,7 @@ module _ (l v i r m p : ℕ) (n : Counts) (z x : ℕ) (w : List ℕ) (y : z ≡ 
 -- ---- the classes of one variable; `last` reads its last class and what follows
 module _ (l r v : ℕ) (n : Counts) (fits : Fits n) (hr : r < 8) (hv : v < n .vars) (p : ℕ) (P : List ℕ → Part) (k : Next)
     (last : (cs : List ℕ) (i z x : ℕ) (w u : List ℕ) → Known (n .vars) w → i + 1 ≡ dom w v → (z ≡ 0 → ⊥) → within x 0 (dom w v) ≡ true → Stop u → Bytes u
-        → reading (withDigit (num l 13 v 0 i r (maskOf 8 (has cs)) p n) z x) w u ≡ demand (noneMissing (x ∷ cs)) ClassMissing u l (tablesOf n (put w (classPlace r v i) x)) (λ u₁ m₁ U. P (x ∷ cs) u₁ m₁ U k)) where
+    → reading (withDigit (num l 13 v 0 i r (maskOf 8 (has cs)) p n) z x) w u ≡ demand (noneMissing (x ∷ cs)) ClassMissing u l (tablesOf n (put w (classPlace r v i) x)) (λ u₁ m₁ U. P (x ∷ cs) u₁ m₁ U k)) where
   same-dom : (w : List ℕ) (i x : ℕ) → dom (put w (classPlace r v i) x) v ≡ dom w v
   same-dom w i x = put-getD w (classPlace r v i) x v (let y = fits .high in omega arith)
 
@@ -136,9 +136,9 @@ module _ (l r v : ℕ) (n : Counts) (fits : Fits n) (hr : r < 8) (hv : v < n .va
       let q : dom w v ≡ domAt (tablesOf n w .facts) v = sym (dom-of n w v (omega arith)) in
       number-at (num l 13 v 0 i r (maskOf 8 (has cs)) p n) w 0 (domAt (tablesOf n w .facts) v) refl q (λ z. omega arith) (omega arith) (omega arith) _ (tablesOf n w) k
       (λ z x u y o b s s₁.
-          let j = within-both x 0 (dom w v) s in
-          last cs i z x w u g (omega arith) y s o b
-          ∙ ap (λ (T : Tables). demand (noneMissing (x ∷ cs)) ClassMissing u l T (λ u₁ m₁ U. P (x ∷ cs) u₁ m₁ U k)) (fact-kept n w (g .long) (classPlace r v i) x (omega arith) (omega arith)))
+      let j = within-both x 0 (dom w v) s in
+      last cs i z x w u g (omega arith) y s o b
+      ∙ ap (λ (T : Tables). demand (noneMissing (x ∷ cs)) ClassMissing u l T (λ u₁ m₁ U. P (x ∷ cs) u₁ m₁ U k)) (fact-kept n w (g .long) (classPlace r v i) x (omega arith) (omega arith)))
       t a (bare (num l 13 v 0 i r (maskOf 8 (has cs)) p n) t refl)
   classes-ok (suc m) i cs w g e t a =
       let h = fits .high in
@@ -146,15 +146,15 @@ module _ (l r v : ℕ) (n : Counts) (fits : Fits n) (hr : r < 8) (hv : v < n .va
       let q : dom w v ≡ domAt (tablesOf n w .facts) v = sym (dom-of n w v (omega arith)) in
       number-at (num l 13 v 0 i r (maskOf 8 (has cs)) p n) w 0 (domAt (tablesOf n w .facts) v) refl q (λ z. omega arith) (omega arith) (omega arith) _ (tablesOf n w) k
       (λ z x u y o b s s₁.
-          let j = within-both x 0 (dom w v) s in
-          let w₁ = put w (classPlace r v i) x in
-          then-mark (num l 13 v 0 i r (maskOf 8 (has cs)) p n) w z x comma (num l 13 v 0 (i + 1) r (maskOf 8 (has (x ∷ cs))) p n) (tablesOf n w₁)
-          (λ u₁ m₁ U. classes r v P (suc m) (i + 1) (x ∷ cs) u₁ m₁ U k) (λ f. omega arith) y
-          (none-yet l v i r (maskOf 8 (has cs)) p n z x w y s (omega arith) (omega arith))
-          (λ c. class-more l v i r (maskOf 8 (has cs)) p n z x c w (omega arith) (omega arith)
-              ∙ ap (λ (c₁ : ℕ). mark (noted (withDigit (num l 13 v 0 i r (maskOf 8 (has cs)) p n) z x)) c comma (num l 13 v 0 (i + 1) r c₁ p n)) (mask-class cs x (omega arith)))
-          (classes-ok m (i + 1) (x ∷ cs) w₁ (known-put g (classPlace r v i) x (omega arith)) (let f : dom w₁ v ≡ dom w v = same-dom w i x in omega arith)) o b
-          ∙ ap (λ (T : Tables). lit (comma ∷ []) u l T (λ u₁ m₁ U. classes r v P (suc m) (i + 1) (x ∷ cs) u₁ m₁ U k)) (fact-kept n w (g .long) (classPlace r v i) x (omega arith) (omega arith)))
+      let j = within-both x 0 (dom w v) s in
+      let w₁ = put w (classPlace r v i) x in
+      then-mark (num l 13 v 0 i r (maskOf 8 (has cs)) p n) w z x comma (num l 13 v 0 (i + 1) r (maskOf 8 (has (x ∷ cs))) p n) (tablesOf n w₁)
+      (λ u₁ m₁ U. classes r v P (suc m) (i + 1) (x ∷ cs) u₁ m₁ U k) (λ f. omega arith) y
+      (none-yet l v i r (maskOf 8 (has cs)) p n z x w y s (omega arith) (omega arith))
+      (λ c. class-more l v i r (maskOf 8 (has cs)) p n z x c w (omega arith) (omega arith)
+      ∙ ap (λ (c₁ : ℕ). mark (noted (withDigit (num l 13 v 0 i r (maskOf 8 (has cs)) p n) z x)) c comma (num l 13 v 0 (i + 1) r c₁ p n)) (mask-class cs x (omega arith)))
+      (classes-ok m (i + 1) (x ∷ cs) w₁ (known-put g (classPlace r v i) x (omega arith)) (let f : dom w₁ v ≡ dom w v = same-dom w i x in omega arith)) o b
+      ∙ ap (λ (T : Tables). lit (comma ∷ []) u l T (λ u₁ m₁ U. classes r v P (suc m) (i + 1) (x ∷ cs) u₁ m₁ U k)) (fact-kept n w (g .long) (classPlace r v i) x (omega arith) (omega arith)))
       t a (bare (num l 13 v 0 i r (maskOf 8 (has cs)) p n) t refl)
 
 -- ---- the variables of one map
@@ -203,13 +203,13 @@ module _ (l r : ℕ) (n : Counts) (fits : Fits n) (hr : r < 8) (k : Next)
         let d : up v ≡ n .vars = let m = var-low in omega arith in
         rw j
         (then-mark c w z x lineEnd (afterRow l 13 14 r (n .maps) n) (tablesOf n (put w (classPlace r v i) x)) (λ u₁ m₁ U. k u₁ (m₁ + 1) U) (λ m. omega arith) y
-            (fault-is ∙ rw (f, eq-eqb (up v) (n .vars) d, le-ltb mostStates (min states 4097) (omega (arith, leb-true states mostStates j))))
-            (λ m. class-end l v i r (maskOf 8 (has cs)) (min s 4097) n z x m w e item-low h var-low) (ok _ known) o b)
+        (fault-is ∙ rw (f, eq-eqb (up v) (n .vars) d, le-ltb mostStates (min states 4097) (omega (arith, leb-true states mostStates j))))
+        (λ m. class-end l v i r (maskOf 8 (has cs)) (min s 4097) n z x m w e item-low h var-low) (ok _ known) o b)
     last-end h f false j =
         let d : up v ≡ n .vars = let m = var-low in omega arith in
         rw j
         (faulty c w z x 7 (λ m. omega arith) y o
-            (fault-is ∙ rw (f, eq-eqb (up v) (n .vars) d, lt-ltb mostStates (min states 4097) (omega (arith, leb-false states mostStates j)))) (λ m. omega arith))
+        (fault-is ∙ rw (f, eq-eqb (up v) (n .vars) d, lt-ltb mostStates (min states 4097) (omega (arith, leb-false states mostStates j)))) (λ m. omega arith))
 
     -- of any other variable: the slash
     last-slash : v + 1 < n .vars → noneMissing (x ∷ cs) ≡ true → (go : Next)
@@ -221,7 +221,7 @@ module _ (l r : ℕ) (n : Counts) (fits : Fits n) (hr : r < 8) (k : Next)
         then-mark c w z x slash (num l 13 (v + 1) 0 0 r 0 (min states 4097) n) (tablesOf n (put w (classPlace r v i) x)) go (λ m. omega arith) y
         (fault-is ∙ rw (f, ne-eqb (up v) (n .vars) d))
         (λ m. class-slash l v i r (maskOf 8 (has cs)) (min s 4097) n z x m w e item-low h var-low
-            ∙ ap (λ (j : ℕ). mark (noted (withDigit c z x)) m slash (num l 13 (v + 1) 0 0 r 0 j n)) product)
+        ∙ ap (λ (j : ℕ). mark (noted (withDigit c z x)) m slash (num l 13 (v + 1) 0 0 r 0 j n)) product)
         again o b
 
     gaps-first : (go : Next) (j : Bool) → noneMissing (x ∷ cs) ≡ j → (noneMissing (x ∷ cs) ≡ true → reading (withDigit c z x) w u ≡ go u l (tablesOf n (put w (classPlace r v i) x)))
@@ -233,8 +233,8 @@ module _ (l r : ℕ) (n : Counts) (fits : Fits n) (hr : r < 8) (k : Next)
   -- a variable's list from its first class on
   list-of : (v s : ℕ) (hv : v < n .vars) (P : List ℕ → Part) (w : List ℕ) → Known (n .vars) w
       → ((cs : List ℕ) (i z x : ℕ) (w₁ u : List ℕ) → Known (n .vars) w₁ → i + 1 ≡ dom w₁ v → (z ≡ 0 → ⊥) → within x 0 (dom w₁ v) ≡ true → Stop u → Bytes u
-          → reading (withDigit (num l 13 v 0 i r (maskOf 8 (has cs)) (min s 4097) n) z x) w₁ u
-          ≡ demand (noneMissing (x ∷ cs)) ClassMissing u l (tablesOf n (put w₁ (classPlace r v i) x)) (λ u₁ m₁ U. P (x ∷ cs) u₁ m₁ U (eol k)))
+      → reading (withDigit (num l 13 v 0 i r (maskOf 8 (has cs)) (min s 4097) n) z x) w₁ u
+      ≡ demand (noneMissing (x ∷ cs)) ClassMissing u l (tablesOf n (put w₁ (classPlace r v i) x)) (λ u₁ m₁ U. P (x ∷ cs) u₁ m₁ U (eol k)))
       → (t : List ℕ) → Bytes t → reading (num l 13 v 0 0 r 0 (min s 4097) n) w t ≡ classes r v P (domAt (tablesOf n w .facts) v) 0 [] t l (tablesOf n w) (eol k)
   list-of v s hv P w g last t a =
       let h = fits .high in
@@ -251,11 +251,11 @@ module _ (l r : ℕ) (n : Counts) (fits : Fits n) (hr : r < 8) (k : Next)
   variables-ok zero v s e w g =
       list-of v s (omega arith) (λ cs. parted zero slash ▸ variables r zero (v + 1) (s * classCount cs)) w g
       (λ cs i z x w₁ u g₁ e₁ y q o b.
-          gaps-first v s (omega arith) cs i z x w₁ u g₁ e₁ y q o b _ (noneMissing (x ∷ cs)) refl
-          (λ j. last-end v s (omega arith) cs i z x w₁ u g₁ e₁ y q o b (omega arith) j (leb (s * classCount (x ∷ cs)) mostStates) refl))
+      gaps-first v s (omega arith) cs i z x w₁ u g₁ e₁ y q o b _ (noneMissing (x ∷ cs)) refl
+      (λ j. last-end v s (omega arith) cs i z x w₁ u g₁ e₁ y q o b (omega arith) j (leb (s * classCount (x ∷ cs)) mostStates) refl))
   variables-ok (suc m) v s e w g =
       list-of v s (omega arith) (λ cs. parted (suc m) slash ▸ variables r (suc m) (v + 1) (s * classCount cs)) w g
       (λ cs i z x w₁ u g₁ e₁ y q o b.
-          gaps-first v s (omega arith) cs i z x w₁ u g₁ e₁ y q o b _ (noneMissing (x ∷ cs)) refl
-          (λ j. last-slash v s (omega arith) cs i z x w₁ u g₁ e₁ y q o b (omega arith) j (λ u₁ m₁ U. variables r (suc m) (v + 1) (s * classCount (x ∷ cs)) u₁ m₁ U (eol k))
-              (variables-ok m (v + 1) (s * classCount (x ∷ cs)) (omega arith) (put w₁ (classPlace r v i) x) (known-put g₁ (classPlace r v i) x (let h = fits .high in omega arith)))))
+      gaps-first v s (omega arith) cs i z x w₁ u g₁ e₁ y q o b _ (noneMissing (x ∷ cs)) refl
+      (λ j. last-slash v s (omega arith) cs i z x w₁ u g₁ e₁ y q o b (omega arith) j (λ u₁ m₁ U. variables r (suc m) (v + 1) (s * classCount (x ∷ cs)) u₁ m₁ U (eol k))
+      (variables-ok m (v + 1) (s * classCount (x ∷ cs)) (omega arith) (put w₁ (classPlace r v i) x) (known-put g₁ (classPlace r v i) x (let h = fits .high in omega arith)))))

@@ -260,7 +260,7 @@ module _ (c : Ctrl) (w : List ℕ) where
 module _ (c : Ctrl) (w : List ℕ) (h : c .field ≡ 15 → ⊥) (low : getD leasts (c .field) 0 ≤ 4294967295) (cap : limit c w ≤ 4294967295)
     (p : ℕ → Part) (T : Tables) (k : Next)
     (ok : (r v : ℕ) (t : List ℕ) → (r ≡ 0 → ⊥) → Stop t → Bytes t → within v (getD leasts (c .field) 0) (limit c w) ≡ true
-        → reading (withDigit c r v) w t ≡ p v t (c .line) T k) where
+    → reading (withDigit c r v) w t ≡ p v t (c .line) T k) where
   lo : ℕ
   lo = getD leasts (c .field) 0
 
@@ -271,6 +271,7 @@ module _ (c : Ctrl) (w : List ℕ) (h : c .field ≡ 15 → ⊥) (low : getD lea
     where
       same : within (min v 4294967295) lo (limit c w) ≡ within v lo (limit c w)
       same = within-cap v lo (limit c w) low cap
+
       split : (q : Bool) → within v lo (limit c w) ≡ q → reading (withDigit c r (min v 4294967295)) w t ≡ demand (within v lo (limit c w)) OutOfRange t (c .line) T (λ u₁ m U. p v u₁ m U k)
       split true q = rw q (ap (λ (x : ℕ). reading (withDigit c r x) w t) (within-low v lo (limit c w) cap (within-both v lo (limit c w) q .1)) ∙ ok r v t z o a q)
       split false q = rw q (faulty c w r (min v 4294967295) 3 h z o (fault-3 c w r (min v 4294967295) z (same ∙ q)) (λ y. omega arith))
@@ -294,6 +295,7 @@ module _ (c : Ctrl) (w : List ℕ) (h : c .field ≡ 15 → ⊥) (low : getD lea
     where
       state : (q : isDigit b ≡ true) → reading (withDigit c 0 0) w (b ∷ t) ≡ reading (withDigit c (pick (eqb (0 + (b - 48)) 0) 1 2) (more 0 (b - 48))) w t
       state q = moves _ _ w w b t (digit-step c w 0 0 b q (λ z. omega arith))
+
       lead : (e : Bool) → eqb b 48 ≡ e → isDigit b ≡ true → reading (withDigit c 0 0) w (b ∷ t) ≡ number lo (limit c w) p (b ∷ t) (c .line) T k
       lead true e q =
           let z : b ≡ 48 = eqb-true b 48 e in
@@ -311,6 +313,7 @@ module _ (c : Ctrl) (w : List ℕ) (h : c .field ≡ 15 → ⊥) (low : getD lea
           ∙ ap (λ (x : ℕ). reading (withDigit c 2 x) w (drop (runLen t) t)) (more-value 0 (b - 48) (take (runLen t) t))
           ∙ closing 2 (value (10 * 0 + (b - 48)) (take (runLen t) t)) (drop (runLen t) t) (λ o. omega arith) (stop-run t) (bytes-drop (runLen t) a)
           ∙ sym (number-other lo (limit c w) p (c .line) T k b t q z)
+
       split : (q : Bool) → isDigit b ≡ q → reading (withDigit c 0 0) w (b ∷ t) ≡ number lo (limit c w) p (b ∷ t) (c .line) T k
       split true q = lead (eqb b 48) refl q
       split false q = empty-byte c w b t q d ∙ sym (number-off lo (limit c w) p (c .line) T k (b ∷ t) (formed-off b t q))

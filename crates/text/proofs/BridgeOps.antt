@@ -91,7 +91,7 @@ goal-list n =
       val-bare = λ v t. bare (num 5 5 v 0 0 0 0 1 n) t refl;
       var-dash = λ b. pick-self (eqb b 45);
       dash-ends = λ b. refl;
-      room = λ v q. (omega arith, omega arith)
+      room = λ v q. (omega arith, omega arith);
     }
 
 pre-list : (l r : ℕ) (n : Counts) → r < 64 → FactList l 8 9 r n (prePlace r) semicolon (num l 10 0 0 0 r 0 1 n)
@@ -113,7 +113,7 @@ pre-list l r n h =
       val-bare = λ v t. bare (num l 9 v 0 0 r 0 1 n) t refl;
       var-dash = λ b. pick-self (eqb b 45);
       dash-ends = λ b. refl;
-      room = λ v q. (omega arith, omega arith)
+      room = λ v q. (omega arith, omega arith);
     }
 
 -- the line after a row's: another of the same field f while rows are left, else field g
@@ -139,7 +139,7 @@ eff-list l r n h =
       val-bare = λ v t. bare (num l 11 v 0 0 r 0 1 n) t refl;
       var-dash = λ b. pick-self (eqb b 45);
       dash-ends = λ b. refl;
-      room = λ v q. (omega arith, omega arith)
+      room = λ v q. (omega arith, omega arith);
     }
 
 -- goal=
@@ -163,8 +163,8 @@ unfolding opsLine line endOfLine _▸_ keep opened fresh pick limit stored withD
 ops-ok n w k ok =
     key-ok 6 6 0 n w (λ z. omega arith) (tablesOf n w) _
     (single-ok 6 6 n w (λ z. omega arith) (λ z. omega arith) (omega arith) (omega arith) refl
-        (λ v T. withCounts (T .counts .vars) v (T .counts .maps) T) k (λ v. kw 7 (pick (eqb v 0) 12 7) 0 (withOps v n) 0) (λ z v. refl) (λ z v b. refl)
-        (λ v q. let g = within-both v 0 65 q in ok v (omega arith)))
+    (λ v T. withCounts (T .counts .vars) v (T .counts .maps) T) k (λ v. kw 7 (pick (eqb v 0) 12 7) 0 (withOps v n) 0) (λ z v. refl) (λ z v b. refl)
+    (λ v q. let g = within-both v 0 65 q in ok v (omega arith)))
     0 (bytes "ops=") refl
 
 -- op=
@@ -175,26 +175,26 @@ unfolding line operator endOfLine _▸_ keep opened fresh pick limit stored with
 operator-ok l r n fits h w p k ok =
     key-ok l 7 r n w (λ z. omega arith) (tablesOf n w) _
     (λ t a.
-        number-at (num l 7 0 0 0 r 0 1 n) w 0 1000001 refl refl (λ z. omega arith) (omega arith) (omega arith) _ (tablesOf n w) _
-        (λ z v u y o b s q.
-            let x = fits .high in
-            then-mark (num l 7 0 0 0 r 0 1 n) w z v semicolon (num l 8 0 0 0 r 0 1 n) _ _ (λ i. omega arith) y
-            (no-fault (num l 7 0 0 0 r 0 1 n) w z v y (λ i. omega arith) s zero-le)
-            (λ i. refl)
-            (list-ok l 8 9 r n (prePlace r) semicolon (num l 10 0 0 0 r 0 1 n) (pre-list l r n h) fits (λ u₁ m₁ U. factList (effPlace r) u₁ m₁ U (eol k))
-                (list-ok l 10 11 r n (effPlace r) lineEnd (afterRow l 7 12 r (n .ops) n) (eff-list l r n h) fits (λ u₁ m₁ U. k u₁ (m₁ + 1) U) ok)
-                (put3 w (costByte r) v) (known-put3 p (costByte r) v (omega arith)))
-            o b
-            ∙ ap (λ (T : Tables). lit (semicolon ∷ []) u l T (λ u₁ m₁ U. factList (prePlace r) u₁ m₁ U (λ u₂ m₂ U₂. lit (semicolon ∷ []) u₂ m₂ U₂ (λ u₃ m₃ U₃. factList (effPlace r) u₃ m₃ U₃ (eol k)))))
-              (cost-kept n w (p .long) r v h (omega (arith, within-both v 0 1000001 q))))
-        t a (bare (num l 7 0 0 0 r 0 1 n) t refl))
+    number-at (num l 7 0 0 0 r 0 1 n) w 0 1000001 refl refl (λ z. omega arith) (omega arith) (omega arith) _ (tablesOf n w) _
+    (λ z v u y o b s q.
+    let x = fits .high in
+    then-mark (num l 7 0 0 0 r 0 1 n) w z v semicolon (num l 8 0 0 0 r 0 1 n) _ _ (λ i. omega arith) y
+    (no-fault (num l 7 0 0 0 r 0 1 n) w z v y (λ i. omega arith) s zero-le)
+    (λ i. refl)
+    (list-ok l 8 9 r n (prePlace r) semicolon (num l 10 0 0 0 r 0 1 n) (pre-list l r n h) fits (λ u₁ m₁ U. factList (effPlace r) u₁ m₁ U (eol k))
+    (list-ok l 10 11 r n (effPlace r) lineEnd (afterRow l 7 12 r (n .ops) n) (eff-list l r n h) fits (λ u₁ m₁ U. k u₁ (m₁ + 1) U) ok)
+    (put3 w (costByte r) v) (known-put3 p (costByte r) v (omega arith)))
+    o b
+    ∙ ap (λ (T : Tables). lit (semicolon ∷ []) u l T (λ u₁ m₁ U. factList (prePlace r) u₁ m₁ U (λ u₂ m₂ U₂. lit (semicolon ∷ []) u₂ m₂ U₂ (λ u₃ m₃ U₃. factList (effPlace r) u₃ m₃ U₃ (eol k)))))
+    (cost-kept n w (p .long) r v h (omega (arith, within-both v 0 1000001 q))))
+    t a (bare (num l 7 0 0 0 r 0 1 n) t refl))
     0 (bytes "op=") refl
 
 -- ---- lines of one kind: N rows of field f, each read by `one`, up to line E, where field g follows
 module _ (f g N E : ℕ) (n : Counts) (j : ℕ) (p : ℕ → Part) (k : Next) (few : N ≤ 64) (low : E ≤ 999999)
     (one : (l r : ℕ) → r < N → (w : List ℕ) → Known j w → (k₁ : Next)
-        → ((u : List ℕ) → Known j u → (t : List ℕ) → Bytes t → reading (afterRow l f g r N n) u t ≡ k₁ t (l + 1) (tablesOf n u))
-        → (t : List ℕ) → Bytes t → reading (kw l f r n 0) w t ≡ p r t l (tablesOf n w) k₁)
+    → ((u : List ℕ) → Known j u → (t : List ℕ) → Bytes t → reading (afterRow l f g r N n) u t ≡ k₁ t (l + 1) (tablesOf n u))
+    → (t : List ℕ) → Bytes t → reading (kw l f r n 0) w t ≡ p r t l (tablesOf n w) k₁)
     (done : (w : List ℕ) → Known j w → (t : List ℕ) → Bytes t → reading (kw E g 0 n 0) w t ≡ k t E (tablesOf n w)) where
   after-last : (l r : ℕ) → r + 1 ≡ N → l + 1 ≡ E → afterRow l f g r N n ≡ kw E g 0 n 0
   unfolding pick
@@ -227,6 +227,7 @@ op-lines-ok n fits w p k ok t a = split (n .ops) refl
   where
     part : ℕ → Part
     part r = line "op=" (operator r)
+
     split : (N : ℕ) → n .ops ≡ N → reading (kw 7 (pick (eqb (n .ops) 0) 12 7) 0 n 0) w t ≡ lines part (n .ops) 0 t 7 (tablesOf n w) k
     split zero e =
         let f : _≡_ {A = ℕ} (pick (eqb (n .ops) 0) 12 7) 12 = rw (eq-eqb (n .ops) 0 e) in

@@ -75,14 +75,14 @@ pub known-put : {j : ℕ} {w : List ℕ} → Known j w → (p v : ℕ) → j ≤
 known-put {j} {w} g p v h =
     record {
       long = put-length w p v ∙ g .long;
-      doms = λ i a. rw (put-getD w p v i (omega arith)) (g .doms i a)
+      doms = λ i a. rw (put-getD w p v i (omega arith)) (g .doms i a);
     }
 
 pub known-put3 : {j : ℕ} {w : List ℕ} → Known j w → (p v : ℕ) → j ≤ p → Known j (put3 w p v)
 known-put3 {j} {w} g p v h =
     record {
       long = put3-length w p v ∙ g .long;
-      doms = λ i a. rw (put3-getD w p v i (omega arith)) (g .doms i a)
+      doms = λ i a. rw (put3-getD w p v i (omega arith)) (g .doms i a);
     }
 
 -- one variable's number of values more
@@ -92,6 +92,7 @@ known-dom {j} {w} g v h a b =
   where
     same : dom (put w j v) j ≡ v
     same = put-same w j v (let l = g .long in omega arith) (omega arith)
+
     split : (i : ℕ) (q : Bool) → eqb i j ≡ q → i < j + 1 → (1 ≤ dom (put w j v) i) × (dom (put w j v) i ≤ 8)
     split i true e q = rw (eqb-true i j e, same) (a, b)
     split i false e q = let n : i ≡ j → ⊥ = eqb-false i j e in rw (put-getD w j v i (omega arith)) (g .doms i (omega arith))
@@ -102,14 +103,14 @@ module _ (l f r : ℕ) (n : Counts) (vi it : ℕ → ℕ) (N : ℕ) (h : f ≡ 1
     (bare : (i : ℕ) (t : List ℕ) → beginsDash (num l f (vi i) 0 (it i) r 0 1 n) t ≡ false)
     (limits : (i : ℕ) (w : List ℕ) → i < N → P i w → (limit (num l f (vi i) 0 (it i) r 0 1 n) w ≡ lim i (tablesOf n w)) × (lim i (tablesOf n w) ≤ 4294967295))
     (kept : (i z v : ℕ) (w : List ℕ) → i < N → P i w → within v (getD leasts f 0) (lim i (tablesOf n w)) ≡ true
-        → (tablesOf n (stored (withDigit (num l f (vi i) 0 (it i) r 0 1 n) z v) w) ≡ keeps i v (tablesOf n w))
-        × P (i + 1) (stored (withDigit (num l f (vi i) 0 (it i) r 0 1 n) z v) w))
+    → (tablesOf n (stored (withDigit (num l f (vi i) 0 (it i) r 0 1 n) z v) w) ≡ keeps i v (tablesOf n w))
+    × P (i + 1) (stored (withDigit (num l f (vi i) 0 (it i) r 0 1 n) z v) w))
     (more : (i z v b : ℕ) (w : List ℕ) → i + 1 < N
-        → after (noted (withDigit (num l f (vi i) 0 (it i) r 0 1 n) z v)) w b
-        ≡ mark (noted (withDigit (num l f (vi i) 0 (it i) r 0 1 n) z v)) b comma (num l f (vi (i + 1)) 0 (it (i + 1)) r 0 1 n))
+    → after (noted (withDigit (num l f (vi i) 0 (it i) r 0 1 n) z v)) w b
+    ≡ mark (noted (withDigit (num l f (vi i) 0 (it i) r 0 1 n) z v)) b comma (num l f (vi (i + 1)) 0 (it (i + 1)) r 0 1 n))
     (last : (i z v : ℕ) (w u : List ℕ) → i + 1 ≡ N → (z ≡ 0 → ⊥) → Stop u → Bytes u → P (i + 1) (stored (withDigit (num l f (vi i) 0 (it i) r 0 1 n) z v) w)
-        → fault (withDigit (num l f (vi i) 0 (it i) r 0 1 n) z v) w ≡ 0
-        → reading (withDigit (num l f (vi i) 0 (it i) r 0 1 n) z v) w u ≡ k u l (tablesOf n (stored (withDigit (num l f (vi i) 0 (it i) r 0 1 n) z v) w))) where
+    → fault (withDigit (num l f (vi i) 0 (it i) r 0 1 n) z v) w ≡ 0
+    → reading (withDigit (num l f (vi i) 0 (it i) r 0 1 n) z v) w u ≡ k u l (tablesOf n (stored (withDigit (num l f (vi i) 0 (it i) r 0 1 n) z v) w))) where
   pub row-ok : (m i : ℕ) → i + suc m ≡ N → (w : List ℕ) → P i w → (t : List ℕ) → Bytes t
       → reading (num l f (vi i) 0 (it i) r 0 1 n) w t ≡ row (getD leasts f 0) lim keeps (suc m) i t l (tablesOf n w) k
   unfolding row parted keep _▸_ withDigit pick
@@ -118,9 +119,9 @@ module _ (l f r : ℕ) (n : Counts) (vi it : ℕ → ℕ) (N : ℕ) (h : f ≡ 1
       let q = limits i w g p in
       number-ok (num l f (vi i) 0 (it i) r 0 1 n) w h low (rw (q .0) (q .1)) _ (tablesOf n w) k
       (λ z v u y o b s.
-          let s₁ : within v (getD leasts f 0) (lim i (tablesOf n w)) ≡ true = rw (q .0) at s in
-          let d = kept i z v w g p s₁ in
-          last i z v w u (omega arith) y o b (d .1) (no-fault (num l f (vi i) 0 (it i) r 0 1 n) w z v y c s zero-le) ∙ ap (λ (T : Tables). k u l T) (d .0))
+      let s₁ : within v (getD leasts f 0) (lim i (tablesOf n w)) ≡ true = rw (q .0) at s in
+      let d = kept i z v w g p s₁ in
+      last i z v w u (omega arith) y o b (d .1) (no-fault (num l f (vi i) 0 (it i) r 0 1 n) w z v y c s zero-le) ∙ ap (λ (T : Tables). k u l T) (d .0))
       t a (bare i t)
       ∙ ap (λ (x : ℕ). number (getD leasts f 0) x (λ v. keep (keeps i v) ▸ parted zero comma ▸ row (getD leasts f 0) lim keeps zero (i + 1)) t l (tablesOf n w) k) (q .0)
   row-ok (suc m) i e w p t a =
@@ -128,11 +129,11 @@ module _ (l f r : ℕ) (n : Counts) (vi it : ℕ → ℕ) (N : ℕ) (h : f ≡ 1
       let q = limits i w g p in
       number-ok (num l f (vi i) 0 (it i) r 0 1 n) w h low (rw (q .0) (q .1)) _ (tablesOf n w) k
       (λ z v u y o b s.
-          let s₁ : within v (getD leasts f 0) (lim i (tablesOf n w)) ≡ true = rw (q .0) at s in
-          let d = kept i z v w g p s₁ in
-          then-mark (num l f (vi i) 0 (it i) r 0 1 n) w z v comma _ _ (λ u₁ m₁ U. row (getD leasts f 0) lim keeps (suc m) (i + 1) u₁ m₁ U k) h y
-              (no-fault (num l f (vi i) 0 (it i) r 0 1 n) w z v y c s zero-le) (λ x. more i z v x w (omega arith))
-              (λ u₁ b₁. row-ok m (i + 1) (omega arith) _ (d .1) u₁ b₁) o b
-          ∙ ap (λ (T : Tables). lit (comma ∷ []) u l T (λ u₁ m₁ U. row (getD leasts f 0) lim keeps (suc m) (i + 1) u₁ m₁ U k)) (d .0))
+      let s₁ : within v (getD leasts f 0) (lim i (tablesOf n w)) ≡ true = rw (q .0) at s in
+      let d = kept i z v w g p s₁ in
+      then-mark (num l f (vi i) 0 (it i) r 0 1 n) w z v comma _ _ (λ u₁ m₁ U. row (getD leasts f 0) lim keeps (suc m) (i + 1) u₁ m₁ U k) h y
+      (no-fault (num l f (vi i) 0 (it i) r 0 1 n) w z v y c s zero-le) (λ x. more i z v x w (omega arith))
+      (λ u₁ b₁. row-ok m (i + 1) (omega arith) _ (d .1) u₁ b₁) o b
+      ∙ ap (λ (T : Tables). lit (comma ∷ []) u l T (λ u₁ m₁ U. row (getD leasts f 0) lim keeps (suc m) (i + 1) u₁ m₁ U k)) (d .0))
       t a (bare i t)
       ∙ ap (λ (x : ℕ). number (getD leasts f 0) x (λ v. keep (keeps i v) ▸ parted (suc m) comma ▸ row (getD leasts f 0) lim keeps (suc m) (i + 1)) t l (tablesOf n w) k) (q .0)

@@ -80,8 +80,8 @@ maps-ok l n w k h ok =
     let e : up l ≡ l + 1 = omega arith in
     key-ok l 12 0 n w (λ z. omega arith) (tablesOf n w) _
     (single-ok l 12 n w (λ z. omega arith) (λ z. omega arith) (omega arith) (omega arith) refl
-        (λ v T. withCounts (T .counts .vars) (T .counts .ops) v T) k (λ v. kw (up l) 13 0 (withMaps v n) 0) (λ z v. refl) (λ z v b. refl)
-        (λ v q t a. let g = within-both v 1 9 q in ap (λ (x : ℕ). reading (kw x 13 0 (withMaps v n) 0) w t) e ∙ ok v (g .0) (omega arith) t a))
+    (λ v T. withCounts (T .counts .vars) (T .counts .ops) v T) k (λ v. kw (up l) 13 0 (withMaps v n) 0) (λ z v. refl) (λ z v b. refl)
+    (λ v q t a. let g = within-both v 1 9 q in ap (λ (x : ℕ). reading (kw x 13 0 (withMaps v n) 0) w t) e ∙ ok v (g .0) (omega arith) t a))
     0 (bytes "maps=") refl
 
 -- map=
@@ -99,8 +99,8 @@ map-ok l r n fits h w g k ok =
 -- as many lines of one kind as there are maps
 maps-many : (n : Counts) → Fits n → 1 ≤ n .maps → (f g l : ℕ) (p : ℕ → Part) (k : Next) → l ≤ 100
     → ((l₁ r : ℕ) → r < n .maps → (w : List ℕ) → Known (n .vars) w → (k₁ : Next)
-        → ((u : List ℕ) → Known (n .vars) u → (t : List ℕ) → Bytes t → reading (afterRow l₁ f g r (n .maps) n) u t ≡ k₁ t (l₁ + 1) (tablesOf n u))
-        → (t : List ℕ) → Bytes t → reading (kw l₁ f r n 0) w t ≡ p r t l₁ (tablesOf n w) k₁)
+    → ((u : List ℕ) → Known (n .vars) u → (t : List ℕ) → Bytes t → reading (afterRow l₁ f g r (n .maps) n) u t ≡ k₁ t (l₁ + 1) (tablesOf n u))
+    → (t : List ℕ) → Bytes t → reading (kw l₁ f r n 0) w t ≡ p r t l₁ (tablesOf n w) k₁)
     → ((w : List ℕ) → Known (n .vars) w → (t : List ℕ) → Bytes t → reading (kw (l + n .maps) g 0 n 0) w t ≡ k t (l + n .maps) (tablesOf n w))
     → (w : List ℕ) → Known (n .vars) w → (t : List ℕ) → Bytes t → reading (kw l f 0 n 0) w t ≡ lines p (n .maps) 0 t l (tablesOf n w) k
 maps-many n fits low f g l p k h one done w q t a =
@@ -147,12 +147,12 @@ module _ (l r : ℕ) (n : Counts) (fits : Fits n) (hr : r < 8) (w : List ℕ) (g
       (λ i u. bare (num l 14 0 0 i r 0 1 n) u refl)
       (λ i u h p. (refl, omega arith))
       (λ i z v u h p q.
-          (share-kept n u (p .long) (sharePlace r i) v (omega arith) (omega (arith, within-both v 0 1000001 q)), known-put3 p (shareByte r i) v (omega arith)))
+      (share-kept n u (p .long) (sharePlace r i) v (omega arith) (omega (arith, within-both v 0 1000001 q)), known-put3 p (shareByte r i) v (omega arith)))
       (λ i z v b u h. let x : up i ≡ i + 1 = omega arith in rw (x, ne-eqb (i + 1) (n .ops) (λ q. omega arith)))
       (λ i z v u t₁ h x o a₁ p q.
-          let j : up i ≡ n .ops = omega arith in
-          then-mark (num l 14 0 0 i r 0 1 n) u z v lineEnd (afterRow l 14 15 r (n .maps) n) _ (λ u₁ m₁ U. k u₁ (m₁ + 1) U) (λ s. omega arith) x q
-          (λ b. rw (eq-eqb (up i) (n .ops) j)) (ok _ p) o a₁)
+      let j : up i ≡ n .ops = omega arith in
+      then-mark (num l 14 0 0 i r 0 1 n) u z v lineEnd (afterRow l 14 15 r (n .maps) n) _ (λ u₁ m₁ U. k u₁ (m₁ + 1) U) (λ s. omega arith) x q
+      (λ b. rw (eq-eqb (up i) (n .ops) j)) (ok _ p) o a₁)
       m 0 (omega arith) w g t a
 
   amounts-ok : (t : List ℕ) → Bytes t → reading (opened (kw l 14 r n 0)) w t ≡ amounts r (n .ops) t l (tablesOf n w) (eol k)

@@ -7,6 +7,7 @@ pub mod BridgeFacts
 pub mod BridgeOps
 pub mod BridgeMaps
 pub mod BridgeShares
+pub mod BridgeText
 pub mod Cases
 pub mod Filling
 pub mod Laws
