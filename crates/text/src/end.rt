@@ -6,11 +6,12 @@ ghost use Rattle.text.specs.Fields.{shareTotal, leaves};
 ghost use Rattle.text.specs.Machine.{mk, shareIn, over, ended, refusalOf, countsOf, done};
 use crate::Ctrl;
 use crate::Reading;
-use crate::area::wide;
 use crate::area::word_at;
 use crate::fields::fault_of;
 use crate::fill::fill_bytes;
 use crate::fill::fill_words;
+use crate::places::cost_byte;
+use crate::places::share_byte;
 use refusals::Refusal;
 use tables::Counts;
 
@@ -60,7 +61,7 @@ pub fn share_total(w: &[u8], maps: u32, o: u32) -> u32
     let mut total = 0;
     let mut m = 0;
     while m < maps {
-        total += word_at(w, 1816 + 3 * (wide(m) * 64 + wide(o)));
+        total += word_at(w, share_byte(m, o));
         m += 1;
     }
     total
@@ -74,7 +75,7 @@ pub fn over_line(c: Ctrl, w: &[u8]) -> u32
     let ops = at_most(c.ops, 64);
     let mut o = 0;
     while o < ops {
-        if word_at(w, 1624 + 3 * wide(o)) < share_total(w, maps, o) {
+        if word_at(w, cost_byte(o)) < share_total(w, maps, o) {
             return 7 + o;
         }
         o += 1;

@@ -31,6 +31,13 @@ use crate::mask::add_class;
 use crate::mask::multiply;
 use crate::mask::none_missing;
 use crate::mask::width_of;
+use crate::places::class_place;
+use crate::places::cost_byte;
+use crate::places::eff_place;
+use crate::places::goal_place;
+use crate::places::init_place;
+use crate::places::pre_place;
+use crate::places::share_byte;
 
 // The keyword of each field that begins a line, 8 bytes a field.
 const KEYS: [u8; 120] =
@@ -50,25 +57,29 @@ pub fn key_byte(f: u32, k: u32) -> u32
     if i < 120 { word(KEYS[i]) } else { 256 }
 }
 
+// A number of a table, 0 past its end.
+pub fn entry(t: &[u32], i: usize) -> u32
+    ensures { λ r. ⌜ r ≡ getD (now (t .entry)) i 0 ⌝ }
+{
+    if i < t.len() { t[i] } else { 0 }
+}
+
 pub fn least_of(f: u32) -> u32
     ensures { λ r. ⌜ r ≡ getD leasts f 0 ⌝ }
 {
-    let i = wide(f);
-    if i < 16 { LEASTS[i] } else { 0 }
+    entry(&LEASTS, wide(f))
 }
 
 pub fn bound_of(f: u32) -> u32
     ensures { λ r. ⌜ r ≡ getD limits f 0 ⌝ }
 {
-    let i = wide(f);
-    if i < 16 { LIMITS[i] } else { 0 }
+    entry(&LIMITS, wide(f))
 }
 
 pub fn kind_of(f: u32) -> u32
     ensures { λ r. ⌜ r ≡ kind f ⌝ }
 {
-    let i = wide(f);
-    if i < 16 { KINDS[i] } else { 0 }
+    entry(&KINDS, wide(f))
 }
 
 pub fn limit_of(c: Ctrl, w: &[u8]) -> u32
@@ -182,17 +193,13 @@ pub fn store(c: Ctrl, w: &mut [u8])
     let f = c.field;
     match f {
         2 => put_byte(w, wide(c.var), c.val),
-        3 => put_byte(w, 8 + wide(c.var), c.val),
-        5 => put_byte(w, 16 + wide(c.var), one_more(c.val)),
-        7 => put_word(w, 1624 + 3 * wide(c.row), c.val),
-        9 => put_byte(w, 24 + (wide(c.row) * 8 + wide(c.var)), one_more(c.val)),
-        11 => put_byte(w, 536 + (wide(c.row) * 8 + wide(c.var)), one_more(c.val)),
-        13 => put_byte(
-            w,
-            1048 + (wide(c.row) * 64 + (wide(c.var) * 8 + wide(c.item))),
-            c.val,
-        ),
-        14 => put_word(w, 1816 + 3 * (wide(c.row) * 64 + wide(c.item)), c.val),
+        3 => put_byte(w, init_place(c.var), c.val),
+        5 => put_byte(w, goal_place(c.var), one_more(c.val)),
+        7 => put_word(w, cost_byte(c.row), c.val),
+        9 => put_byte(w, pre_place(c.row, c.var), one_more(c.val)),
+        11 => put_byte(w, eff_place(c.row, c.var), one_more(c.val)),
+        13 => put_byte(w, class_place(c.row, c.var, c.item), c.val),
+        14 => put_word(w, share_byte(c.row, c.item), c.val),
         _ => (),
     }
 }

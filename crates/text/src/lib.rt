@@ -5,6 +5,7 @@ mod end;
 mod fields;
 mod fill;
 mod mask;
+mod places;
 mod step;
 mod whole;
 

@@ -26,17 +26,11 @@ at-most-requires-2 c κs = search needs
 loop-holds : tie.Need-loop-holds Inv-loop μ-loop
 loop-holds c = (omega arith, omega (arith, c .at-most2 .ensures), omega (arith, c .before .at-most .ensures), simp sub-zero)
 
-wide-requires : tie.Need-wide-requires Inv-loop μ-loop
-wide-requires c κs = search needs
-
-mul-word-at : tie.Need-mul-word-at Inv-loop μ-loop
-mul-word-at c = omega arith
-
-add-word-at : tie.Need-add-word-at Inv-loop μ-loop
-add-word-at c = omega arith
+cost-byte-requires : tie.Need-cost-byte-requires Inv-loop μ-loop
+cost-byte-requires c κs = search needs
 
 word-at-requires : tie.Need-word-at-requires Inv-loop μ-loop
-word-at-requires c κs = omega arith
+word-at-requires c κs = c .cost-byte .ensures .1
 
 share-total-requires : tie.Need-share-total-requires Inv-loop μ-loop
 share-total-requires c κs = c .before .before .before .loop .inv .2
@@ -46,7 +40,11 @@ add-result c = omega arith
 
 returns : tie.Need-returns Inv-loop μ-loop
 unfolding over
-returns c = sym (simp (← c .before .before .before .before .before .before .before .at-most .ensures, ← c .before .before .before .before .before .before .at-most2 .ensures) (c .before .before .before .before .before .loop .inv .3 ∙ over-told (costIn (c .before .before .before .before .before .before .before .before .before .args .w .now)) (shareIn (c .before .before .before .before .before .before .before .before .before .args .w .now)) (c .before .before .before .before .before .before .before .at-most .result) (c .before .before .before .before .before .before .at-most2 .result) (c .before .before .before .before .before .loop .o) (c .before .before .before .before .loop-test .taken) (simp (c .before .before .word-at .ensures .0, c .before .before .before .wide .ensures, c .before .share-total .ensures) at (c .if1 .taken))))
+returns c =
+    let run = c .before .before .before .before .before .loop in
+    sym
+    (simp (← c .before .before .before .before .before .before .before .at-most .ensures, ← c .before .before .before .before .before .before .at-most2 .ensures)
+    (run .inv .3 ∙ over-told (costIn (c .before .before .before .before .before .before .before .before .before .args .w .now)) (shareIn (c .before .before .before .before .before .before .before .before .before .args .w .now)) (c .before .before .before .before .before .before .before .at-most .result) (c .before .before .before .before .before .before .at-most2 .result) (run .o) (c .before .before .before .before .loop-test .taken) (simp (c .before .before .word-at .ensures .0, c .before .before .before .cost-byte .ensures .0, c .before .share-total .ensures) at (c .if1 .taken))))
 
 add-o : tie.Need-add-o Inv-loop μ-loop
 add-o c = omega arith
@@ -55,11 +53,15 @@ loop-less : tie.Need-loop-less Inv-loop μ-loop
 loop-less c = omega arith
 
 loop-again : tie.Need-loop-again Inv-loop μ-loop
-loop-again c = (omega arith, c .before .before .before .before .before .loop .inv .1, c .before .before .before .before .before .loop .inv .2, c .before .before .before .before .before .loop .inv .3 ∙ over-passed (costIn (c .before .before .before .before .before .before .before .before .before .args .w .now)) (shareIn (c .before .before .before .before .before .before .before .before .before .args .w .now)) (c .before .before .before .before .before .before .before .at-most .result) (c .before .before .before .before .before .before .at-most2 .result) (c .before .before .before .before .before .loop .o) (c .before .before .before .before .loop-test .taken) (simp (c .before .before .word-at .ensures .0, c .before .before .before .wide .ensures, c .before .share-total .ensures) at (c .if1 .left)))
+loop-again c =
+    let run = c .before .before .before .before .before .loop in
+    (omega arith, run .inv .1, run .inv .2, run .inv .3 ∙ over-passed (costIn (c .before .before .before .before .before .before .before .before .before .args .w .now)) (shareIn (c .before .before .before .before .before .before .before .before .before .args .w .now)) (c .before .before .before .before .before .before .before .at-most .result) (c .before .before .before .before .before .before .at-most2 .result) (run .o) (c .before .before .before .before .loop-test .taken) (simp (c .before .before .word-at .ensures .0, c .before .before .before .cost-byte .ensures .0, c .before .share-total .ensures) at (c .if1 .left)))
 
 returns-2 : tie.Need-returns-2 Inv-loop μ-loop
 unfolding over
-returns-2 c = sym (simp (← c .before .before .before .at-most .ensures, ← c .before .before .at-most2 .ensures) (c .before .loop .inv .3 ∙ over-none (costIn (c .before .before .before .before .before .args .w .now)) (shareIn (c .before .before .before .before .before .args .w .now)) (c .before .before .before .at-most .result) (c .before .before .at-most2 .result) (c .before .loop .o) (omega arith)))
+returns-2 c =
+    let run = c .before .loop in
+    sym (simp (← c .before .before .before .at-most .ensures, ← c .before .before .at-most2 .ensures) (run .inv .3 ∙ over-none (costIn (c .before .before .before .before .before .args .w .now)) (shareIn (c .before .before .before .before .before .args .w .now)) (c .before .before .before .at-most .result) (c .before .before .at-most2 .result) (run .o) (omega arith)))
 
 pub over-line-spec : {M : Type 1} → statement M
 over-line-spec =
@@ -70,9 +72,7 @@ over-line-spec =
     at-most-requires
     at-most-requires-2
     loop-holds
-    wide-requires
-    mul-word-at
-    add-word-at
+    cost-byte-requires
     word-at-requires
     share-total-requires
     add-result

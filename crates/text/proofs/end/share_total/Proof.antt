@@ -19,26 +19,11 @@ loop-holds : tie.Need-loop-holds Inv-loop μ-loop
 unfolding shareTotal
 loop-holds c = (omega arith, refl, omega arith)
 
-wide-requires : tie.Need-wide-requires Inv-loop μ-loop
-wide-requires c κs = search needs
-
-mul-word-at : tie.Need-mul-word-at Inv-loop μ-loop
-mul-word-at c = omega arith
-
-wide-requires-2 : tie.Need-wide-requires-2 Inv-loop μ-loop
-wide-requires-2 c κs = search needs
-
-add-word-at : tie.Need-add-word-at Inv-loop μ-loop
-add-word-at c = omega arith
-
-mul-word-at-2 : tie.Need-mul-word-at-2 Inv-loop μ-loop
-mul-word-at-2 c = omega arith
-
-add-word-at-2 : tie.Need-add-word-at-2 Inv-loop μ-loop
-add-word-at-2 c = omega arith
+share-byte-requires : tie.Need-share-byte-requires Inv-loop μ-loop
+share-byte-requires c κs = search needs
 
 word-at-requires : tie.Need-word-at-requires Inv-loop μ-loop
-word-at-requires c κs = omega arith
+word-at-requires c κs = c .share-byte .ensures .1
 
 add-total : tie.Need-add-total Inv-loop μ-loop
 add-total c = omega (arith, c .word-at .ensures .1)
@@ -50,7 +35,7 @@ loop-less : tie.Need-loop-less Inv-loop μ-loop
 loop-less c = omega arith
 
 loop-again : tie.Need-loop-again Inv-loop μ-loop
-loop-again c = (omega arith, simp (c .before .before .before .before .loop .inv .1, c .word-at .ensures .0, c .before .before .wide .ensures, c .before .wide2 .ensures) (sym (total-next (shareIn (c .before .before .before .before .before .before .args .w .now)) (c .before .before .before .before .loop .m) (c .before .before .before .before .before .before .args .o))), omega (arith, c .word-at .ensures .1))
+loop-again c = (omega arith, simp (c .before .before .before .loop .inv .1, c .word-at .ensures .0, c .before .share-byte .ensures .0) (sym (total-next (shareIn (c .before .before .before .before .before .args .w .now)) (c .before .before .before .loop .m) (c .before .before .before .before .before .args .o))), omega (arith, c .word-at .ensures .1))
 
 returns : tie.Need-returns Inv-loop μ-loop
 returns c = let e : c .before .loop .m ≡ c .before .before .before .args .maps = omega arith in c .before .loop .inv .1 ∙ ap (λ (n : ℕ). shareTotal (shareIn (c .before .before .before .args .w .now)) n (c .before .before .before .args .o)) e
@@ -62,12 +47,7 @@ share-total-spec =
     Inv-loop
     μ-loop
     loop-holds
-    wide-requires
-    mul-word-at
-    wide-requires-2
-    add-word-at
-    mul-word-at-2
-    add-word-at-2
+    share-byte-requires
     word-at-requires
     add-total
     add-m

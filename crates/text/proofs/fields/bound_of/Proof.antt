@@ -1,28 +1,23 @@
--- `text::fields::bound_of` meets its contract: a number of the table, and 0 past its end. Assumes nothing.
-use Rattle.text.specs.Fields.{pick}
+-- `text::fields::bound_of` meets its contract: a number of its table. Assumes nothing.
+use Prim.Native.Nat.{ℕ}
 use Rattle.text.specs.Machine.{limits}
 use borrow.Author.Needs.{needs}
-use lib.ListN.{List·getD-eq-default}
-use mathlib.Core.Path.{sym}
+use lib.ListN.{getD}
+use mathlib.Core.Path.{_∙_, ap}
 use Rattle.text.proofs.fields.bound_of.Statement.{statement}
 use Rattle.text.proofs.fields.bound_of.Tie as tie
+
+slice-aggregate-entry : tie.Need-slice-aggregate-entry
+slice-aggregate-entry c = search needs
 
 wide-requires : tie.Need-wide-requires
 wide-requires c κs = search needs
 
-mul-result : tie.Need-mul-result
-mul-result c = search needs
-
-array-read-result : tie.Need-array-read-result
-array-read-result c = search needs
+entry-requires : tie.Need-entry-requires
+entry-requires c κs = search needs
 
 returns : tie.Need-returns
-unfolding pick
-returns c = simp (c .before .wide .ensures)
-
-returns-2 : tie.Need-returns-2
-unfolding pick
-returns-2 c = sym (simp (← c .before .wide .ensures) (List·getD-eq-default limits 0 (c .if1 .left)))
+returns c = c .entry .ensures ∙ ap (λ (i : ℕ). getD limits i 0) (c .before .wide .ensures)
 
 pub bound-of-spec : {M : Type 1} → statement M
-bound-of-spec = tie.close (tie.spec wide-requires mul-result array-read-result returns returns-2)
+bound-of-spec = tie.close (tie.spec slice-aggregate-entry wide-requires entry-requires returns)

@@ -12,20 +12,14 @@ wide-requires c κs = search needs
 put-byte-requires : tie.Need-put-byte-requires
 put-byte-requires c κs = search needs
 
-wide-requires-2 : tie.Need-wide-requires-2
-wide-requires-2 c κs = search needs
-
-add-put-byte : tie.Need-add-put-byte
-add-put-byte c = search needs
+init-place-requires : tie.Need-init-place-requires
+init-place-requires c κs = search needs
 
 put-byte-requires-2 : tie.Need-put-byte-requires-2
 put-byte-requires-2 c κs = search needs
 
-wide-requires-3 : tie.Need-wide-requires-3
-wide-requires-3 c κs = search needs
-
-add-put-byte-2 : tie.Need-add-put-byte-2
-add-put-byte-2 c = search needs
+goal-place-requires : tie.Need-goal-place-requires
+goal-place-requires c κs = search needs
 
 one-more-requires : tie.Need-one-more-requires
 one-more-requires c κs = search needs
@@ -33,32 +27,14 @@ one-more-requires c κs = search needs
 put-byte-requires-3 : tie.Need-put-byte-requires-3
 put-byte-requires-3 c κs = search needs
 
-wide-requires-4 : tie.Need-wide-requires-4
-wide-requires-4 c κs = search needs
-
-mul-put-word : tie.Need-mul-put-word
-mul-put-word c = search needs
-
-add-put-word : tie.Need-add-put-word
-add-put-word c = search needs
+cost-byte-requires : tie.Need-cost-byte-requires
+cost-byte-requires c κs = search needs
 
 put-word-requires : tie.Need-put-word-requires
 put-word-requires c κs = search needs
 
-wide-requires-5 : tie.Need-wide-requires-5
-wide-requires-5 c κs = search needs
-
-mul-put-byte : tie.Need-mul-put-byte
-mul-put-byte c = search needs
-
-wide-requires-6 : tie.Need-wide-requires-6
-wide-requires-6 c κs = search needs
-
-add-put-byte-3 : tie.Need-add-put-byte-3
-add-put-byte-3 c = search needs
-
-add-put-byte-4 : tie.Need-add-put-byte-4
-add-put-byte-4 c = search needs
+pre-place-requires : tie.Need-pre-place-requires
+pre-place-requires c κs = search needs
 
 one-more-requires-2 : tie.Need-one-more-requires-2
 one-more-requires-2 c κs = search needs
@@ -66,20 +42,8 @@ one-more-requires-2 c κs = search needs
 put-byte-requires-4 : tie.Need-put-byte-requires-4
 put-byte-requires-4 c κs = search needs
 
-wide-requires-7 : tie.Need-wide-requires-7
-wide-requires-7 c κs = search needs
-
-mul-put-byte-2 : tie.Need-mul-put-byte-2
-mul-put-byte-2 c = search needs
-
-wide-requires-8 : tie.Need-wide-requires-8
-wide-requires-8 c κs = search needs
-
-add-put-byte-5 : tie.Need-add-put-byte-5
-add-put-byte-5 c = search needs
-
-add-put-byte-6 : tie.Need-add-put-byte-6
-add-put-byte-6 c = search needs
+eff-place-requires : tie.Need-eff-place-requires
+eff-place-requires c κs = search needs
 
 one-more-requires-3 : tie.Need-one-more-requires-3
 one-more-requires-3 c κs = search needs
@@ -87,50 +51,14 @@ one-more-requires-3 c κs = search needs
 put-byte-requires-5 : tie.Need-put-byte-requires-5
 put-byte-requires-5 c κs = search needs
 
-wide-requires-9 : tie.Need-wide-requires-9
-wide-requires-9 c κs = search needs
-
-mul-put-byte-3 : tie.Need-mul-put-byte-3
-mul-put-byte-3 c = search needs
-
-wide-requires-10 : tie.Need-wide-requires-10
-wide-requires-10 c κs = search needs
-
-mul-put-byte-4 : tie.Need-mul-put-byte-4
-mul-put-byte-4 c = search needs
-
-wide-requires-11 : tie.Need-wide-requires-11
-wide-requires-11 c κs = search needs
-
-add-put-byte-7 : tie.Need-add-put-byte-7
-add-put-byte-7 c = search needs
-
-add-put-byte-8 : tie.Need-add-put-byte-8
-add-put-byte-8 c = search needs
-
-add-put-byte-9 : tie.Need-add-put-byte-9
-add-put-byte-9 c = search needs
+class-place-requires : tie.Need-class-place-requires
+class-place-requires c κs = search needs
 
 put-byte-requires-6 : tie.Need-put-byte-requires-6
 put-byte-requires-6 c κs = search needs
 
-wide-requires-12 : tie.Need-wide-requires-12
-wide-requires-12 c κs = search needs
-
-mul-put-word-2 : tie.Need-mul-put-word-2
-mul-put-word-2 c = search needs
-
-wide-requires-13 : tie.Need-wide-requires-13
-wide-requires-13 c κs = search needs
-
-add-put-word-2 : tie.Need-add-put-word-2
-add-put-word-2 c = search needs
-
-mul-put-word-3 : tie.Need-mul-put-word-3
-mul-put-word-3 c = search needs
-
-add-put-word-3 : tie.Need-add-put-word-3
-add-put-word-3 c = search needs
+share-byte-requires : tie.Need-share-byte-requires
+share-byte-requires c κs = search needs
 
 put-word-requires-2 : tie.Need-put-word-requires-2
 put-word-requires-2 c κs = search needs
@@ -147,49 +75,49 @@ same-length-2 c = search needs
 
 returns-2 : tie.Need-returns-2
 unfolding stored pick
-returns-2 c = simp (c .before .before .before .before .before .match .keys2, ← c .before .before .before .wide2 .ensures) (c .before .before .put-byte2 .ensures)
+returns-2 c = simp (c .before .before .before .before .before .match .keys2, ← c .before .before .before .init-place .ensures) (c .before .before .put-byte2 .ensures)
 
 same-length-3 : tie.Need-same-length-3
 same-length-3 c = search needs
 
 returns-3 : tie.Need-returns-3
 unfolding stored pick
-returns-3 c = simp (c .before .before .before .before .before .before .match .keys3, ← c .before .before .before .before .wide3 .ensures, ← c .before .before .before .one-more .ensures) (c .before .before .put-byte3 .ensures)
+returns-3 c = simp (c .before .before .before .before .before .before .match .keys3, ← c .before .before .before .before .goal-place .ensures, ← c .before .before .before .one-more .ensures) (c .before .before .put-byte3 .ensures)
 
 same-length-4 : tie.Need-same-length-4
 same-length-4 c = search needs
 
 returns-4 : tie.Need-returns-4
 unfolding stored pick
-returns-4 c = simp (c .before .before .before .before .before .match .keys4, ← c .before .before .before .wide4 .ensures) (c .before .before .put-word .ensures)
+returns-4 c = simp (c .before .before .before .before .before .match .keys4, ← c .before .before .before .cost-byte .ensures .0) (c .before .before .put-word .ensures)
 
 same-length-5 : tie.Need-same-length-5
 same-length-5 c = search needs
 
 returns-5 : tie.Need-returns-5
 unfolding stored pick
-returns-5 c = simp (c .before .before .before .before .before .before .before .match .keys5, ← c .before .before .before .before .before .wide5 .ensures, ← c .before .before .before .before .wide6 .ensures, ← c .before .before .before .one-more2 .ensures) (c .before .before .put-byte4 .ensures)
+returns-5 c = simp (c .before .before .before .before .before .before .match .keys5, ← c .before .before .before .before .pre-place .ensures, ← c .before .before .before .one-more2 .ensures) (c .before .before .put-byte4 .ensures)
 
 same-length-6 : tie.Need-same-length-6
 same-length-6 c = search needs
 
 returns-6 : tie.Need-returns-6
 unfolding stored pick
-returns-6 c = simp (c .before .before .before .before .before .before .before .match .keys6, ← c .before .before .before .before .before .wide7 .ensures, ← c .before .before .before .before .wide8 .ensures, ← c .before .before .before .one-more3 .ensures) (c .before .before .put-byte5 .ensures)
+returns-6 c = simp (c .before .before .before .before .before .before .match .keys6, ← c .before .before .before .before .eff-place .ensures, ← c .before .before .before .one-more3 .ensures) (c .before .before .put-byte5 .ensures)
 
 same-length-7 : tie.Need-same-length-7
 same-length-7 c = search needs
 
 returns-7 : tie.Need-returns-7
 unfolding stored pick
-returns-7 c = simp (c .before .before .before .before .before .before .before .match .keys7, ← c .before .before .before .before .before .wide9 .ensures, ← c .before .before .before .before .wide10 .ensures, ← c .before .before .before .wide11 .ensures) (c .before .before .put-byte6 .ensures)
+returns-7 c = simp (c .before .before .before .before .before .match .keys7, ← c .before .before .before .class-place .ensures) (c .before .before .put-byte6 .ensures)
 
 same-length-8 : tie.Need-same-length-8
 same-length-8 c = search needs
 
 returns-8 : tie.Need-returns-8
 unfolding stored pick
-returns-8 c = simp (c .before .before .before .before .before .before .match .keys8, ← c .before .before .before .before .wide12 .ensures, ← c .before .before .before .wide13 .ensures) (c .before .before .put-word2 .ensures)
+returns-8 c = simp (c .before .before .before .before .before .match .keys8, ← c .before .before .before .share-byte .ensures .0) (c .before .before .put-word2 .ensures)
 
 returns-9 : tie.Need-returns-9
 unfolding stored pick
@@ -201,46 +129,22 @@ store-spec =
     (tie.spec
     wide-requires
     put-byte-requires
-    wide-requires-2
-    add-put-byte
+    init-place-requires
     put-byte-requires-2
-    wide-requires-3
-    add-put-byte-2
+    goal-place-requires
     one-more-requires
     put-byte-requires-3
-    wide-requires-4
-    mul-put-word
-    add-put-word
+    cost-byte-requires
     put-word-requires
-    wide-requires-5
-    mul-put-byte
-    wide-requires-6
-    add-put-byte-3
-    add-put-byte-4
+    pre-place-requires
     one-more-requires-2
     put-byte-requires-4
-    wide-requires-7
-    mul-put-byte-2
-    wide-requires-8
-    add-put-byte-5
-    add-put-byte-6
+    eff-place-requires
     one-more-requires-3
     put-byte-requires-5
-    wide-requires-9
-    mul-put-byte-3
-    wide-requires-10
-    mul-put-byte-4
-    wide-requires-11
-    add-put-byte-7
-    add-put-byte-8
-    add-put-byte-9
+    class-place-requires
     put-byte-requires-6
-    wide-requires-12
-    mul-put-word-2
-    wide-requires-13
-    add-put-word-2
-    mul-put-word-3
-    add-put-word-3
+    share-byte-requires
     put-word-requires-2
     same-length
     returns
