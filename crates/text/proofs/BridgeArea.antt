@@ -1,18 +1,16 @@
 -- The work area against the grammar's tables: a fact, a cost and a share stored in the area are stored in the tables that it stands for. Assumes nothing.
-use Prim.Native.Nat.{ℕ, zero, suc, _+_, _-_, _*_, _/_, _%_, _≤_, _<_, min}
+use Prim.Native.Nat.{ℕ, zero, suc, _+_, _*_, _/_, _%_, _≤_, _<_, min}
 use native.Mathlib.Omega.{arith}
-use mathlib.Core.Path.{_≡_, refl, sym, ap, _∙_}
-use mathlib.Core.List.{List, [], _∷_}
-use mathlib.Core.Bool.{Bool, true, false}
+use mathlib.Core.Path.{_≡_, refl, sym, _∙_}
+use mathlib.Core.List.{List}
 use lib.ListN.{length, getD, set, take, length-set}
 use lib.Seq.{getD-set-same, getD-set-other, take-set-le, take-set-lt, getD-take}
-use lib.Dec.{leb}
 use Rattle.tables.specs.declared.Counts.{Counts}
-use Rattle.tables.specs.Layout.{Tables, factsRoom, sharePlace, costAt, shareAt, domAt}
+use Rattle.tables.specs.Layout.{factsRoom, sharePlace, costAt, shareAt, domAt}
 use Rattle.text.specs.declared.Ctrl.{Ctrl}
-use Rattle.text.specs.Fields.{pick, shareTotal, overLine}
+use Rattle.text.specs.Fields.{shareTotal, overLine}
 use Rattle.text.specs.Grammar.{putFact, putCost, putShare}
-use Rattle.text.specs.Machine.{St, mk, put, get3, put3, costByte, shareByte, costIn, shareIn, threes, over, dom}
+use Rattle.text.specs.Machine.{mk, put, get3, put3, costByte, shareByte, costIn, shareIn, threes, over, dom}
 use Rattle.text.proofs.BridgeReading.{tablesOf}
 
 -- ---- numbers of 3 bytes

@@ -1,19 +1,19 @@
 -- Lists of facts, and the dash that stands for an empty one, read as the grammar says. Assumes nothing.
-use Prim.Native.Nat.{ℕ, zero, suc, _+_, _-_, _*_, _≤_, _<_, min, zero-le}
+use Prim.Native.Nat.{ℕ, zero, suc, _+_, _≤_, _<_, zero-le}
 use native.Mathlib.Omega.{arith}
 use mathlib.Core.Path.{_≡_, refl, sym, ap, _∙_}
 use mathlib.Core.List.{List, [], _∷_}
 use mathlib.Core.Bool.{Bool, true, false}
-use lib.ListN.{length, getD}
-use lib.Dec.{ltb, leb, eqb}
-use borrow.Author.Tests.{eq-eqb, ne-eqb, eqb-true, eqb-false, leb-true, leb-false, lt-leb, le-leb}
-use Rattle.refusals.specs.declared.Refusal.the-variants.{OffForm, NotRising}
+use lib.ListN.{getD}
+use lib.Dec.{leb, eqb}
+use borrow.Author.Tests.{ne-eqb, eqb-true, leb-true, leb-false, lt-leb}
+use Rattle.refusals.specs.declared.Refusal.the-variants.{NotRising}
 use Rattle.tables.specs.declared.Counts.{Counts}
 use Rattle.tables.specs.Layout.{Tables, domAt}
 use Rattle.text.specs.declared.Ctrl.{Ctrl}
 use Rattle.text.specs.Fields.{pick, isDigit, comma, dash, colon}
 use Rattle.text.specs.Grammar.{Verdict, refused, Next, Part, _▸_, nothing, ask, keep, demand, lit, choice, within, number, putFact, facts, factList}
-use Rattle.text.specs.Machine.{mk, up, put, dom, withDigit, leasts, limit, noted, fault, stored, mark, listEnd, kind, after, dashHere, fresh, dashed, atNumber, live, step, refusalOf}
+use Rattle.text.specs.Machine.{mk, up, put, dom, withDigit, leasts, limit, noted, fault, stored, mark, listEnd, after, dashHere, fresh, dashed, atNumber, live, step, refusalOf}
 use Rattle.text.proofs.BridgeReading.{tablesOf, reading, Bytes, byte, cut-short, moves, marked}
 use Rattle.text.proofs.BridgeNumbers.{Stop, nil, other, beginsDash, pick-same, within-both, faulty, sound-end, sound-byte, number-ok}
 use Rattle.text.proofs.BridgeArea.{fact-kept, dom-of}

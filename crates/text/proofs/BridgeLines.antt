@@ -1,20 +1,18 @@
 -- The lines of one number and those with a number for each variable, read as the grammar says. Assumes nothing.
-use Prim.Native.Nat.{ℕ, zero, suc, _+_, _-_, _*_, _≤_, _<_, min, zero-le}
+use Prim.Native.Nat.{ℕ, suc, _+_, _-_, _≤_, _<_, zero-le}
 use native.Mathlib.Omega.{arith}
 use mathlib.Core.Path.{_≡_, refl, sym, ap, _∙_}
 use mathlib.Core.List.{List, [], _∷_}
-use mathlib.Core.Bool.{Bool, true, false}
-use lib.ListN.{length, getD}
-use lib.Dec.{ltb, leb, eqb}
+use mathlib.Core.Bool.{true, false}
+use lib.ListN.{getD}
+use lib.Dec.{eqb}
 use borrow.Author.Tests.{eq-eqb, ne-eqb}
 use Rattle.tables.specs.declared.Counts.{Counts}
 use Rattle.tables.specs.Layout.{Tables, domPlace, initPlace, domAt}
 use Rattle.text.specs.declared.Ctrl.{Ctrl}
 use Rattle.text.specs.Fields.{pick, comma, lineEnd, bytes}
 use Rattle.text.specs.Grammar.{
-  Verdict,
   Next,
-  Part,
   _▸_,
   nothing,
   ask,
@@ -34,7 +32,6 @@ use Rattle.text.specs.Grammar.{
 }
 use Rattle.text.specs.Machine.{
   up,
-  put,
   dom,
   keyByte,
   fresh,
@@ -56,7 +53,7 @@ use Rattle.text.specs.Machine.{
   dashHere,
 }
 use Rattle.text.proofs.BridgeReading.{tablesOf, reading, Bytes, kw, spelled, key-ok}
-use Rattle.text.proofs.BridgeNumbers.{Stop, beginsDash, pick-same, within-both, number-ok}
+use Rattle.text.proofs.BridgeNumbers.{beginsDash, pick-same, within-both, number-ok}
 use Rattle.text.proofs.BridgeArea.{fact-kept, dom-of}
 use Rattle.text.proofs.BridgeRows.{num, then-mark, no-fault, Fits, Known, known-put, known-dom, row-ok}
 

@@ -4,7 +4,6 @@ use native.Mathlib.Omega.{arith}
 use mathlib.Core.Path.{_≡_, refl, sym, ap, _∙_}
 use mathlib.Core.List.{List, [], _∷_}
 use mathlib.Core.Bool.{Bool, true, false}
-use lib.ListN.{length, getD}
 use lib.Dec.{ltb, leb, eqb}
 use borrow.Author.Tests.{eq-eqb, ne-eqb, lt-ltb, le-ltb, ltb-true, ltb-false, le-leb, leb-true, leb-false}
 use Rattle.refusals.specs.declared.Refusal.the-variants.{ClassMissing, TooManyStates}
@@ -12,16 +11,14 @@ use Rattle.tables.specs.declared.Counts.{Counts}
 use Rattle.tables.specs.Layout.{Tables, classPlace, domAt}
 use Rattle.text.specs.declared.Ctrl.{Ctrl}
 use Rattle.text.specs.Fields.{pick, comma, slash, lineEnd, mostStates}
-use Rattle.text.specs.Grammar.{Verdict, refused, Next, Part, _▸_, keep, demand, lit, within, number, parted, putFact, has, topOf, classCount, noneMissing, classes, variables}
+use Rattle.text.specs.Grammar.{refused, Next, Part, _▸_, keep, demand, lit, within, parted, has, topOf, classCount, noneMissing, classes, variables}
 use Rattle.text.specs.Machine.{
   up,
   put,
   dom,
   due,
   withDigit,
-  leasts,
   limit,
-  judged,
   withClass,
   width,
   gapless,

@@ -1,5 +1,5 @@
 -- Every number of the text, whatever its field: the machine reads it as the grammar's `number` does. Assumes nothing.
-use Prim.Native.Nat.{ℕ, zero, suc, _+_, _-_, _*_, _≤_, _<_, min}
+use Prim.Native.Nat.{ℕ, suc, _+_, _-_, _*_, _≤_, _<_, min}
 use native.Mathlib.Omega.{arith}
 use mathlib.Core.Path.{_≡_, refl, sym, ap, _∙_}
 use mathlib.Core.List.{List, [], _∷_}
@@ -13,7 +13,6 @@ use Rattle.text.specs.declared.Ctrl.{Ctrl}
 use Rattle.text.specs.Fields.{pick, isDigit}
 use Rattle.text.specs.Grammar.{Verdict, refused, Next, Part, _▸_, demand, runLen, value, formed, within, number}
 use Rattle.text.specs.Machine.{
-  St,
   mk,
   stopped,
   more,
@@ -29,7 +28,6 @@ use Rattle.text.specs.Machine.{
   after,
   closed,
   dashHere,
-  dashed,
   atNumber,
   live,
   step,
@@ -37,7 +35,7 @@ use Rattle.text.specs.Machine.{
   ended,
   refusalOf,
 }
-use Rattle.text.proofs.BridgeReading.{told, reading, Bytes, none, byte, bytes-drop, never, both-true, stops, stops-2, moves, cut-short, two≠0}
+use Rattle.text.proofs.BridgeReading.{told, reading, Bytes, byte, bytes-drop, both-true, stops, stops-2, moves, cut-short}
 
 -- ---- a run's value, capped
 value-min : (t : List ℕ) (v : ℕ) → min (value (min v 4294967295) t) 4294967295 ≡ min (value v t) 4294967295

@@ -1,31 +1,26 @@
 -- The goal, the operators and lines of the same kind, read as the grammar says. Assumes nothing.
-use Prim.Native.Nat.{ℕ, zero, suc, _+_, _-_, _*_, _≤_, _<_, min, zero-le}
+use Prim.Native.Nat.{ℕ, zero, suc, _+_, _≤_, _<_, zero-le}
 use native.Mathlib.Omega.{arith}
 use mathlib.Core.Path.{_≡_, refl, sym, ap, _∙_}
 use mathlib.Core.List.{List, [], _∷_}
 use mathlib.Core.Bool.{Bool, true, false}
-use lib.ListN.{length, getD}
-use lib.Dec.{ltb, leb, eqb}
+use lib.Dec.{ltb, eqb}
 use borrow.Author.Tests.{eq-eqb, ne-eqb, lt-ltb, le-ltb}
 use Rattle.tables.specs.declared.Counts.{Counts}
 use Rattle.tables.specs.Layout.{Tables, goalPlace, prePlace, effPlace}
 use Rattle.text.specs.declared.Ctrl.{Ctrl}
-use Rattle.text.specs.Fields.{pick, comma, lineEnd, semicolon, bytes}
+use Rattle.text.specs.Fields.{pick, lineEnd, semicolon, bytes}
 use Rattle.text.specs.Grammar.{
-  Verdict,
   Next,
   Part,
   _▸_,
   ask,
   keep,
   lit,
-  within,
-  number,
   endOfLine,
   line,
   lines,
   withCounts,
-  putCost,
   factList,
   goalLine,
   opsLine,
@@ -34,16 +29,13 @@ use Rattle.text.specs.Grammar.{
 }
 use Rattle.text.specs.Machine.{
   up,
-  put,
   put3,
-  dom,
   costByte,
   keyByte,
   fresh,
   due,
   opened,
   withDigit,
-  leasts,
   limit,
   noted,
   stored,
@@ -51,7 +43,6 @@ use Rattle.text.specs.Machine.{
   toLine,
   rowOr,
   nextLine,
-  mark,
   listEnd,
   kind,
   afterValue,
@@ -60,7 +51,7 @@ use Rattle.text.specs.Machine.{
   dashed,
 }
 use Rattle.text.proofs.BridgeReading.{tablesOf, reading, Bytes, kw, spelled, key-ok}
-use Rattle.text.proofs.BridgeNumbers.{Stop, beginsDash, pick-same, within-both}
+use Rattle.text.proofs.BridgeNumbers.{within-both}
 use Rattle.text.proofs.BridgeArea.{cost-kept}
 use Rattle.text.proofs.BridgeRows.{num, then-mark, no-fault, Fits, Known, known-put3}
 use Rattle.text.proofs.BridgeLines.{eol, bare, single-ok}
@@ -168,7 +159,7 @@ ops-ok n w k ok =
     0 (bytes "ops=") refl
 
 -- op=
-pub operator-ok : (l r : ℕ) (n : Counts) → Fits n → r < 64 → (w : List ℕ) → Known (n .vars) w → (k : Next)
+operator-ok : (l r : ℕ) (n : Counts) → Fits n → r < 64 → (w : List ℕ) → Known (n .vars) w → (k : Next)
     → ((u : List ℕ) → Known (n .vars) u → (t : List ℕ) → Bytes t → reading (afterRow l 7 12 r (n .ops) n) u t ≡ k t (l + 1) (tablesOf n u))
     → (t : List ℕ) → Bytes t → reading (kw l 7 r n 0) w t ≡ line "op=" (operator r) t l (tablesOf n w) k
 unfolding line operator endOfLine _▸_ keep opened fresh pick limit stored withDigit noted after kind due spelled keyByte

@@ -1,12 +1,12 @@
 -- What the end of the text says of a state as the grammar's verdict, and the machine's way over marks and keywords. Assumes nothing.
-use Prim.Native.Nat.{ℕ, zero, suc, _+_, _<_}
+use Prim.Native.Nat.{ℕ, zero, suc, _<_}
 use native.Mathlib.Omega.{arith}
-use mathlib.Core.Path.{_≡_, refl, sym, ap, _∙_}
+use mathlib.Core.Path.{_≡_, refl, ap, _∙_}
 use mathlib.Core.List.{List, [], _∷_}
 use mathlib.Core.Bool.{Bool, true, false}
 use lib.ListN.{take, drop}
 use lib.Dec.{eqb}
-use borrow.Author.Tests.{eq-eqb, ne-eqb, eqb-true, eqb-false}
+use borrow.Author.Tests.{eq-eqb, ne-eqb, eqb-true}
 use Rattle.refusals.specs.declared.Refusal.the-variants.{OffForm}
 use Rattle.tables.specs.declared.Counts.{Counts}
 use Rattle.tables.specs.Layout.{Tables, factsRoom, costsRoom, sharesRoom}
@@ -59,7 +59,7 @@ bytes-drop zero a = a
 bytes-drop (suc n) none = none
 bytes-drop (suc n) (byte h a) = bytes-drop n a
 
-pub never {ℓ} : {A : Type ℓ} → false ≡ true → A
+never {ℓ} : {A : Type ℓ} → false ≡ true → A
 never e = let z : _≡_ {A = ℕ} 0 1 = cc in let n : ⊥ = omega arith in absurd n
 
 -- two tests at once
@@ -68,12 +68,12 @@ unfolding pick
 both-true true q e = (refl, e)
 both-true false q e = never e
 
-pub then-true : (p q : Bool) → pick p false q ≡ true → (p ≡ false) × (q ≡ true)
+then-true : (p q : Bool) → pick p false q ≡ true → (p ≡ false) × (q ≡ true)
 unfolding pick
 then-true true q e = never e
 then-true false q e = (refl, e)
 
-pub two≠0 : _≡_ {A = ℕ} 2 0 → ⊥
+two≠0 : _≡_ {A = ℕ} 2 0 → ⊥
 two≠0 e = omega arith
 
 -- a refusal stays
@@ -85,10 +85,6 @@ pub stops : (c : Ctrl) (k : ℕ) (w t : List ℕ) → (k ≡ 0 → ⊥) → read
 unfolding reading told feed ended stopped pick
 stops c k w [] h = simp (ne-eqb k 0 h)
 stops c k w (b ∷ t) h = ap (λ (s : St). told (feed s t)) (stay c k w b h) ∙ stops c k w t h
-
-pub off-form : (l : ℕ) → refusalOf 2 l ≡ OffForm l
-unfolding refusalOf pick
-off-form l = refl
 
 pub stops-2 : (c : Ctrl) (w t : List ℕ) → reading (stopped c 2) w t ≡ refused (OffForm (c .line))
 unfolding refusalOf pick

@@ -1,19 +1,18 @@
 -- After a number: the mark that must follow it, and rows of numbers parted by commas, read as the grammar says. Assumes nothing.
-use Prim.Native.Nat.{ℕ, zero, suc, _+_, _-_, _*_, _≤_, _<_, min, zero-le}
+use Prim.Native.Nat.{ℕ, zero, suc, _+_, _≤_, _<_, zero-le}
 use native.Mathlib.Omega.{arith}
-use mathlib.Core.Path.{_≡_, refl, sym, ap, _∙_}
+use mathlib.Core.Path.{_≡_, refl, ap, _∙_}
 use mathlib.Core.List.{List, [], _∷_}
 use mathlib.Core.Bool.{Bool, true, false}
 use lib.ListN.{length, getD}
-use lib.Dec.{ltb, leb, eqb}
-use borrow.Author.Tests.{eq-eqb, ne-eqb, eqb-true, eqb-false, le-leb}
-use Rattle.refusals.specs.declared.Refusal.the-variants.{OffForm}
+use lib.Dec.{leb, eqb}
+use borrow.Author.Tests.{ne-eqb, eqb-true, eqb-false, le-leb}
 use Rattle.tables.specs.declared.Counts.{Counts}
 use Rattle.tables.specs.Layout.{Tables}
 use Rattle.text.specs.declared.Ctrl.{Ctrl}
-use Rattle.text.specs.Fields.{pick, comma, lineEnd}
-use Rattle.text.specs.Grammar.{Verdict, refused, Next, Part, _▸_, keep, lit, within, number, parted, row}
-use Rattle.text.specs.Machine.{mk, up, put, put3, dom, stopped, withDigit, leasts, limit, inRange, judged, noted, lastClass, before, fault, stored, mark, after}
+use Rattle.text.specs.Fields.{pick, comma}
+use Rattle.text.specs.Grammar.{Next, _▸_, keep, lit, within, number, parted, row}
+use Rattle.text.specs.Machine.{put, put3, dom, withDigit, leasts, limit, judged, noted, lastClass, before, fault, stored, mark, after}
 use Rattle.text.proofs.BridgeReading.{tablesOf, reading, Bytes, byte, marked}
 use Rattle.text.proofs.BridgeNumbers.{Stop, nil, other, beginsDash, sound-end, sound-byte, in-range, run-of, number-ok}
 use Rattle.text.proofs.BridgeArea.{put-getD, put-same, put-length, put3-length, put3-getD}

@@ -1,26 +1,21 @@
 -- The maps, one line each, and the shares of each map, read as the grammar says. Assumes nothing.
-use Prim.Native.Nat.{ℕ, zero, suc, _+_, _-_, _*_, _≤_, _<_, min, zero-le}
+use Prim.Native.Nat.{ℕ, zero, suc, _+_, _-_, _≤_, _<_}
 use native.Mathlib.Omega.{arith}
 use mathlib.Core.Path.{_≡_, refl, sym, ap, _∙_}
 use mathlib.Core.List.{List, [], _∷_}
-use mathlib.Core.Bool.{Bool, true, false}
-use lib.ListN.{length, getD}
-use lib.Dec.{ltb, leb, eqb}
+use lib.Dec.{eqb}
 use borrow.Author.Tests.{eq-eqb, ne-eqb}
 use Rattle.tables.specs.declared.Counts.{Counts}
-use Rattle.tables.specs.Layout.{Tables, sharePlace}
+use Rattle.tables.specs.Layout.{sharePlace}
 use Rattle.text.specs.declared.Ctrl.{Ctrl}
-use Rattle.text.specs.Fields.{pick, comma, dash, lineEnd, bytes}
+use Rattle.text.specs.Fields.{pick, dash, lineEnd, bytes}
 use Rattle.text.specs.Grammar.{
-  Verdict,
   Next,
   Part,
   _▸_,
   ask,
   keep,
   lit,
-  within,
-  number,
   row,
   endOfLine,
   line,
@@ -34,16 +29,13 @@ use Rattle.text.specs.Grammar.{
   shareLines,
 }
 use Rattle.text.specs.Machine.{
-  mk,
   up,
-  put3,
   shareByte,
   keyByte,
   fresh,
   due,
   opened,
   withDigit,
-  leasts,
   limit,
   noted,
   stored,

@@ -1,17 +1,16 @@
 -- The machine reads every text as the grammar says: verdict, answer and lent tables. Assumes nothing.
-use Prim.Native.Nat.{ℕ, zero, suc, _+_, _-_, _*_, _≤_, _<_, min, zero-le}
+use Prim.Native.Nat.{ℕ, zero, suc, _+_, _≤_, _<_, zero-le}
 use native.Mathlib.Omega.{arith}
-use mathlib.Core.Path.{_≡_, refl, sym, ap, _∙_}
+use mathlib.Core.Path.{_≡_, refl, ap, _∙_}
 use mathlib.Core.List.{List, [], _∷_}
 use mathlib.Core.Bool.{Bool, true, false}
 use lib.ListN.{length, getD, take, replicate, length-replicate}
-use lib.Dec.{ltb, leb, eqb}
-use borrow.Author.Tests.{eq-eqb, ne-eqb}
+use lib.Dec.{eqb}
+use borrow.Author.Tests.{ne-eqb}
 use Rattle.tables.specs.declared.Counts.{Counts}
 use Rattle.tables.specs.Layout.{Tables}
-use Rattle.text.specs.declared.Ctrl.{Ctrl}
 use Rattle.text.specs.Fields.{pick, Outcome, admitted}
-use Rattle.text.specs.Grammar.{Verdict, Next, _▸_, domLine, initLine, goalLine, opsLine, opLines, mapsLine, mapLines, shareLines, taskLines, settled, theEnd, noTask, verdict, outcome, readText}
+use Rattle.text.specs.Grammar.{Verdict, _▸_, domLine, initLine, goalLine, opsLine, opLines, mapsLine, mapLines, shareLines, taskLines, settled, theEnd, noTask, verdict, outcome, readText}
 use Rattle.text.specs.Machine.{St, mk, get3, threes, keyByte, stopped, inKey, live, step, feed, start, ended, over, countsOf, written, done, areaRoom, readAll}
 use Rattle.text.proofs.BridgeReading.{tablesOf, told, reading, Bytes, none, byte, stops-2, moves, kw}
 use Rattle.text.proofs.BridgeArea.{over-of}
