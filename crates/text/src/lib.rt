@@ -1,4 +1,8 @@
 // The reader of the task text: a byte at a time, into a work area; the lent tables are written at the end, on acceptance only.
+ghost use mathlib.Core.Path.{_≡_};
+ghost use Rattle.text.specs.Fields.{leaves};
+ghost use Rattle.text.specs.Grammar.{readText};
+
 mod area;
 mod control;
 mod end;
@@ -11,6 +15,7 @@ mod whole;
 
 use refusals::Refusal;
 use tables::Counts;
+use whole::read_by_machine;
 
 // What the reader answers: the task's counts, or why not.
 pub enum Reading {
@@ -38,4 +43,11 @@ pub struct Ctrl {
     pub vars: u32,
     pub ops: u32,
     pub maps: u32,
+}
+
+// Reads a task text into the lent tables: the task's counts, or why not. What is left behind is what the grammar says.
+pub fn read(text: &[u8], facts: &mut [u8], costs: &mut [u32], shares: &mut [u32]) -> Reading
+    ensures { λ r. ⌜ leaves r (now (facts .exit)) (now (costs .exit)) (now (shares .exit)) ≡ readText (now (text .entry)) (now (facts .entry)) (now (costs .entry)) (now (shares .entry)) ⌝ }
+{
+    read_by_machine(text, facts, costs, shares)
 }
