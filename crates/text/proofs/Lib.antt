@@ -1,0 +1,15 @@
+pub mod Admission
+pub mod BridgeReading
+pub mod BridgeNumbers
+pub mod BridgeArea
+pub mod BridgeRows
+pub mod BridgeLines
+pub mod BridgeFacts
+pub mod BridgeOps
+pub mod BridgeMaps
+pub mod BridgeShares
+pub mod BridgeText
+pub mod Cases
+pub mod Filling
+pub mod Laws
+pub mod Masks
