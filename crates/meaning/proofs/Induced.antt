@@ -93,20 +93,6 @@ module _ (S : Sas) (W : View) (P : Proper S) (C : Onto S W) where
   inhabit-α a l s h = number-same (W .classes) (image W s) (digit (W .classes) a) (S .vars) h ∙ number-digits (W .classes) a (S .vars) (space-positive (classTask S W) classTask-proper) l
 
   -- ---- the computed step and goal are the induced ones
-  pub step-only : (o a b : ℕ) → AbstractStep S W o a b → viewGraph S W .succ o a ≡ to b
-  step-only o a b A =
-      let s = A .0 in
-      let t = A .3 .0 in
-      let move = A .3 .3 in
-      let e : viewGraph S W .succ o (α S W s) ≡ toIf (complies (classTask S W) (classTask S W .pre o) (image W s)) (number (W .classes) (after (classTask S W) o (image W s)) (S .vars)) =
-      succ-number (classTask S W) o (image W s) (image-state s (A .1)) in
-      let u = true-complies (classTask S W) (classTask S W .pre o) (image W s) (image-complies (S .pre o) s (move .runs)) in
-      let x : number (W .classes) (after (classTask S W) o (image W s)) (S .vars) ≡ b =
-      ap (λ y. number (W .classes) y (S .vars)) (image-after o s)
-      ∙ number-same (W .classes) (image W (after S o s)) (image W t) (S .vars) (λ v l. ap (W .class v) (sym (only-after S s o t move v l)))
-      ∙ A .3 .2 in
-      subst (λ y. viewGraph S W .succ o y ≡ to b) (A .2) (e ∙ ap₂ toIf u x)
-
   pub step-is : (o a b : ℕ) → o < S .ops → a < viewGraph S W .states → viewGraph S W .succ o a ≡ to b → AbstractStep S W o a b
   step-is o a b lo l e =
       let D = digit (W .classes) a in
@@ -120,6 +106,20 @@ module _ (S : Sas) (W : View) (P : Proper S) (C : Onto S W) where
       (λ v g. sym (seen-put (W .class v) (S .eff o v) (s v)) ∙ ap (put (seen (W .class v) (S .eff o v))) (i .1 v g .2))
       ∙ u .1 in
       (s, h, inhabit-α a l s (λ v g. i .1 v g .2), (after S o s, move .into, there, move))
+
+  pub step-only : (o a b : ℕ) → AbstractStep S W o a b → viewGraph S W .succ o a ≡ to b
+  step-only o a b A =
+      let s = A .0 in
+      let t = A .3 .0 in
+      let move = A .3 .3 in
+      let e : viewGraph S W .succ o (α S W s) ≡ toIf (complies (classTask S W) (classTask S W .pre o) (image W s)) (number (W .classes) (after (classTask S W) o (image W s)) (S .vars)) =
+      succ-number (classTask S W) o (image W s) (image-state s (A .1)) in
+      let u = true-complies (classTask S W) (classTask S W .pre o) (image W s) (image-complies (S .pre o) s (move .runs)) in
+      let x : number (W .classes) (after (classTask S W) o (image W s)) (S .vars) ≡ b =
+      ap (λ y. number (W .classes) y (S .vars)) (image-after o s)
+      ∙ number-same (W .classes) (image W (after S o s)) (image W t) (S .vars) (λ v l. ap (W .class v) (sym (only-after S s o t move v l)))
+      ∙ A .3 .2 in
+      subst (λ y. viewGraph S W .succ o y ≡ to b) (A .2) (e ∙ ap₂ toIf u x)
 
   pub goal-only : (a : ℕ) → AbstractGoal S W a → viewGraph S W .goal a ≡ true
   goal-only a A =

@@ -5,3 +5,4 @@ pub mod Induced
 pub mod Distances
 pub mod Sums
 pub mod Bounds
+pub mod Theorems

@@ -1,5 +1,5 @@
 -- Laws of sums, and of the summed bound's sum: it is below what its terms are below, and says none exactly if every term does. Assumes nothing.
-use mathlib.Core.Path.{_≡_, refl, sym, subst}
+use mathlib.Core.Path.{_≡_, refl, sym, ap, _∙_, subst}
 use mathlib.Core.Logic.{⊎-elim}
 use Prim.Native.Nat.{ℕ, zero, suc, _+_, _≤_, _<_}
 use native.Mathlib.Nat.{le-refl, le-of-suc-le-suc, not-suc-le-zero, eq-or-lt-of-le}
@@ -45,7 +45,10 @@ summed-below d c (suc k) h = join-below (summed d (suc k)) (d (suc k)) (sum c (s
 -- the words of document 01: the sum is none exactly if every map says none, and is else the sum of what the maps say
 join-none : (v w : Cost) → join v w ≡ none → (v ≡ none) × (w ≡ none)
 join-none none w h = (refl, h)
-join-none (fin a) none h = (h, refl)
+join-none (fin a) none h =
+    absurd
+    (let z : _≡_ {A = ℕ} 0 1 = cc in
+    omega arith)
 join-none (fin a) (fin b) h = absurd (let z : _≡_ {A = ℕ} 0 1 = cc in omega arith)
 
 pub summed-none : (d : ℕ → Cost) (k : ℕ) → summed d k ≡ none → (m : ℕ) → m < k → d m ≡ none
@@ -66,3 +69,6 @@ join-worth (fin a) (fin b) = refl
 pub summed-worth : (d : ℕ → Cost) (k : ℕ) → worth (summed d k) ≡ sum (λ m. worth (d m)) k
 summed-worth d zero = refl
 summed-worth d (suc k) = omega (arith, join-worth (summed d k) (d k), summed-worth d k)
+
+pub summed-fin : (d : ℕ → Cost) (k x : ℕ) → summed d k ≡ fin x → x ≡ sum (λ m. worth (d m)) k
+summed-fin d k x e = sym (ap worth e) ∙ summed-worth d k

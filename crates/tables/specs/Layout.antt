@@ -12,7 +12,31 @@ pub record Tables : Type 0 where
   pub costs : List ℕ
   pub shares : List ℕ
 
--- the room for the largest task: 8 variables of 8 values, 64 operators, 8 maps; the last 64 bytes are spare
+-- the facts stand in rows of 8 places: a place for each variable, or in a row of classes for each value
+abbrev pub place : ℕ → ℕ → ℕ
+place row v = row * 8 + v
+
+-- how many values the variables have, the initial state, the goal
+abbrev pub domRow : ℕ
+domRow = 0
+
+abbrev pub initRow : ℕ
+initRow = 1
+
+abbrev pub goalRow : ℕ
+goalRow = 2
+
+-- operator o's preconditions and effects; the classes of variable v in map m; the 8 rows after them are spare
+abbrev pub preRow : ℕ → ℕ
+preRow o = 3 + o
+
+abbrev pub effRow : ℕ → ℕ
+effRow o = 67 + o
+
+abbrev pub classRow : ℕ → ℕ → ℕ
+classRow m v = 131 + (m * 8 + v)
+
+-- the room for the largest task: 8 variables of 8 values, 64 operators, 8 maps
 abbrev pub factsRoom : ℕ
 factsRoom = 1624
 
@@ -22,49 +46,50 @@ costsRoom = 64
 abbrev pub sharesRoom : ℕ
 sharesRoom = 512
 
--- in the facts: how many values variable v has, its initial value, what the goal says of it
+-- the places of the facts, one by one
 abbrev pub domPlace : ℕ → ℕ
-domPlace v = v
+domPlace v = place domRow v
 
 abbrev pub initPlace : ℕ → ℕ
-initPlace v = 8 + v
+initPlace v = place initRow v
 
 abbrev pub goalPlace : ℕ → ℕ
-goalPlace v = 16 + v
+goalPlace v = place goalRow v
 
--- what operator o's preconditions and effects say of variable v
 abbrev pub prePlace : ℕ → ℕ → ℕ
-prePlace o v = 24 + (o * 8 + v)
+prePlace o v = place (preRow o) v
 
 abbrev pub effPlace : ℕ → ℕ → ℕ
-effPlace o v = 536 + (o * 8 + v)
+effPlace o v = place (effRow o) v
 
--- the class of the value x of variable v in map m
 abbrev pub classPlace : ℕ → ℕ → ℕ → ℕ
-classPlace m v x = 1048 + (m * 64 + (v * 8 + x))
+classPlace m v x = place (classRow m v) x
 
 -- in the shares: what operator o costs in map m
 abbrev pub sharePlace : ℕ → ℕ → ℕ
 sharePlace m o = m * 64 + o
 
--- what stands there
+-- what stands in a row
+abbrev pub rowAt : List ℕ → ℕ → ℕ → ℕ
+rowAt f row v = getD f (place row v) 0
+
 abbrev pub domAt : List ℕ → ℕ → ℕ
-domAt f v = getD f (domPlace v) 0
+domAt f v = rowAt f domRow v
 
 abbrev pub initAt : List ℕ → ℕ → ℕ
-initAt f v = getD f (initPlace v) 0
+initAt f v = rowAt f initRow v
 
 abbrev pub goalAt : List ℕ → ℕ → ℕ
-goalAt f v = getD f (goalPlace v) 0
+goalAt f v = rowAt f goalRow v
 
 abbrev pub preAt : List ℕ → ℕ → ℕ → ℕ
-preAt f o v = getD f (prePlace o v) 0
+preAt f o v = rowAt f (preRow o) v
 
 abbrev pub effAt : List ℕ → ℕ → ℕ → ℕ
-effAt f o v = getD f (effPlace o v) 0
+effAt f o v = rowAt f (effRow o) v
 
 abbrev pub classAt : List ℕ → ℕ → ℕ → ℕ → ℕ
-classAt f m v x = getD f (classPlace m v x) 0
+classAt f m v x = rowAt f (classRow m v) x
 
 abbrev pub costAt : List ℕ → ℕ → ℕ
 costAt c o = getD c o 0

@@ -1,1 +1,4 @@
 pub mod Layout
+pub mod Task
+pub mod Steps
+pub mod Scan

@@ -1,0 +1,133 @@
+-- What holds of every valid task and split, every state and every sequence of any length, each with its statement alone;
+-- the roads are the files that this one uses. Assumes nothing.
+use mathlib.Core.Path.{_≡_, sym, _∙_}
+use mathlib.Core.Logic.{_↔_}
+use mathlib.Core.Bool.{true}
+use mathlib.Core.List.{List}
+use Prim.Native.Nat.{ℕ, suc, _+_, _≤_, _<_}
+use Rattle.graph.specs.Cost.{Cost, none, fin, _⊑_}
+use Rattle.graph.specs.Graph.{to, Leads}
+use Rattle.graph.specs.Least.{least, Rounds}
+use Rattle.graph.proofs.Theorems as graphs
+use Rattle.meaning.specs.Numbering.{size, number, digit, Positive, Digits}
+use Rattle.meaning.specs.Sas.{State, Sas, IsState, MayRun, Transition, after, Runs, Passes, paid, Proper}
+use Rattle.meaning.specs.Views.{α, abstractStates, AbstractStep, AbstractGoal, AbstractlyLeads, IsDistanceAt, space, viewGraph}
+use Rattle.meaning.specs.Split.{Task, sum, view, Valid}
+use Rattle.meaning.specs.Bound.{distance, away, summed, bound}
+use Rattle.meaning.proofs.Numbers as numbers
+use Rattle.meaning.proofs.Space as spaces
+use Rattle.meaning.proofs.Induced as induced
+use Rattle.meaning.proofs.Distances as distances
+use Rattle.meaning.proofs.Sums as sums
+use Rattle.meaning.proofs.Bounds as bounds
+
+-- ---- numbering, for any list of radices
+
+-- a number with k digits is below the product of the radices
+pub number-is-below : (r d : ℕ → ℕ) (k : ℕ) → Digits r d k → number r d k < size r k
+number-is-below r d k h = numbers.number-below r d k h
+
+-- the digits of the number with the digits d are d
+pub digits-of-number : (r d : ℕ → ℕ) (k : ℕ) → Digits r d k → (v : ℕ) → v < k → digit r (number r d k) v ≡ d v
+digits-of-number r d k h v l = numbers.digit-number r d k h v l
+
+-- the number with the digits of a is a
+pub number-of-digits : (r : ℕ → ℕ) (a k : ℕ) → Positive r k → a < size r k → number r (digit r a) k ≡ a
+number-of-digits r a k p l = numbers.number-digits r a k p l
+
+-- ---- steps
+
+-- from a state an operator that may run has exactly one transition, to the state after it
+pub transition-to-after : (S : Sas) → Proper S → (s : State) (o : ℕ) → IsState S s → o < S .ops → MayRun S o s → Transition S s o (after S o s)
+transition-to-after S P s o h l r = spaces.to-after S P s o h l r
+
+pub transition-only-to-after : (S : Sas) (s : State) (o : ℕ) (t : State) → Transition S s o t → (v : ℕ) → v < S .vars → t v ≡ after S o s v
+transition-only-to-after S s o t h v l = spaces.only-after S s o t h v l
+
+-- a sequence passes exactly if it leads to a goal among the numbered states
+pub passes-exactly-leads : (S : Sas) → Proper S → (os : List ℕ) (s : State) → IsState S s
+    → Passes S os s ↔ Leads (space S) os (number (S .dom) s (S .vars))
+passes-exactly-leads S P os s h = (spaces.passes-leads S P os s h, spaces.leads-passes S P os s h)
+
+-- ---- views of a valid task
+
+module _ (T : Task) (ok : Valid T) (m : ℕ) (lm : m < T .maps) where
+  -- the successor computed from classes is the induced abstraction's step
+  pub computed-step-exactly-induced : (o a b : ℕ) → o < T .sas .ops → a < abstractStates (T .sas) (view T m)
+      → (viewGraph (T .sas) (view T m) .succ o a ≡ to b) ↔ AbstractStep (T .sas) (view T m) o a b
+  computed-step-exactly-induced o a b lo la = (
+    induced.step-is (T .sas) (view T m) (ok .proper) (bounds.view-onto T ok m lm) o a b lo la,
+    induced.step-only (T .sas) (view T m) (ok .proper) (bounds.view-onto T ok m lm) o a b,
+  )
+
+  -- the goal computed from classes is the induced abstraction's goal
+  pub computed-goal-exactly-induced : (a : ℕ) → a < abstractStates (T .sas) (view T m)
+      → (viewGraph (T .sas) (view T m) .goal a ≡ true) ↔ AbstractGoal (T .sas) (view T m) a
+  computed-goal-exactly-induced a la = (
+    induced.goal-is (T .sas) (view T m) (ok .proper) (bounds.view-onto T ok m lm) a la,
+    induced.goal-only (T .sas) (view T m) (ok .proper) (bounds.view-onto T ok m lm) a,
+  )
+
+  -- an operator has at most one abstract step from an abstract state
+  pub abstract-step-unique : (o a b c : ℕ) → AbstractStep (T .sas) (view T m) o a b → AbstractStep (T .sas) (view T m) o a c → b ≡ c
+  abstract-step-unique o a b c = induced.one-step (T .sas) (view T m) (ok .proper) (bounds.view-onto T ok m lm) o a b c
+
+  -- the distance is the share cost of some sequence, and no sequence of any length is cheaper
+  pub distance-is-least : (a : ℕ) → a < abstractStates (T .sas) (view T m) → IsDistanceAt (T .sas) (view T m) a (distance (T .sas) (view T m) a)
+  distance-is-least a l = distances.distance-is (T .sas) (view T m) (ok .proper) (bounds.view-onto T ok m lm) a l
+
+  -- there is no second distance
+  pub distance-unique : (a : ℕ) (v w : Cost) → a < abstractStates (T .sas) (view T m)
+      → IsDistanceAt (T .sas) (view T m) a v → IsDistanceAt (T .sas) (view T m) a w → v ≡ w
+  distance-unique a v w l = distances.distance-only (T .sas) (view T m) (ok .proper) (bounds.view-onto T ok m lm) a v w l
+
+  -- none exactly if no sequence leads to a goal of the view
+  pub none-exactly-if-no-sequence : (a : ℕ) (v : Cost) → a < abstractStates (T .sas) (view T m) → IsDistanceAt (T .sas) (view T m) a v
+      → (v ≡ none) ↔ ((os : List ℕ) → AbstractlyLeads (T .sas) (view T m) os a → ⊥)
+  none-exactly-if-no-sequence a v l = distances.distance-none (T .sas) (view T m) (ok .proper) (bounds.view-onto T ok m lm) a v l
+
+  -- the table of the counted round holds the distances, and the rounds never pass the number of abstract states
+  pub round-holds-distances : (r : ℕ) → Rounds (viewGraph (T .sas) (view T m)) r → (a : ℕ) → a < abstractStates (T .sas) (view T m)
+      → least (viewGraph (T .sas) (view T m)) r a ≡ distance (T .sas) (view T m) a
+  round-holds-distances r R a l = distances.round-distance (T .sas) (view T m) (ok .proper) (bounds.view-onto T ok m lm) r R a l
+
+  pub rounds-at-most-states : (r : ℕ) → Rounds (viewGraph (T .sas) (view T m)) r → r ≤ abstractStates (T .sas) (view T m)
+  rounds-at-most-states r R =
+      graphs.rounds-never-pass-states (viewGraph (T .sas) (view T m))
+      (induced.view-closed (T .sas) (view T m) (ok .proper) (bounds.view-onto T ok m lm))
+      (induced.some-state (T .sas) (view T m) (ok .proper) (bounds.view-onto T ok m lm))
+      r R
+
+  -- the longest distance
+  pub distance-at-most : (a d : ℕ) → a < abstractStates (T .sas) (view T m) → distance (T .sas) (view T m) a ≡ fin d → d ≤ 4095000000
+  distance-at-most a d l e = bounds.away-most T ok m lm a d l e
+
+  -- a concrete sequence is one in every view, with the same operators
+  pub passes-in-every-view : (os : List ℕ) (s : State) → IsState (T .sas) s → Passes (T .sas) os s
+      → AbstractlyLeads (T .sas) (view T m) os (α (T .sas) (view T m) s)
+  passes-in-every-view os s h p = distances.passes-abstractly (T .sas) (view T m) (ok .proper) (bounds.view-onto T ok m lm) os s h p
+
+  -- one-step consistency: a step lowers the view's distance by at most its share
+  pub step-lowers-by-share : (o : ℕ) (s : State) (c : ℕ) → IsState (T .sas) s → o < T .sas .ops → MayRun (T .sas) o s
+      → away T (after (T .sas) o s) m ⊑ c → away T s m ⊑ T .share m o + c
+  step-lowers-by-share o s c h lo r d = distances.step-falls (T .sas) (view T m) (ok .proper) (bounds.view-onto T ok m lm) o s c h lo r d
+
+-- ---- the summed bound
+
+-- the sum is none exactly if every map says none
+pub sum-none-exactly-if-all : (d : ℕ → Cost) (k : ℕ) → (summed d k ≡ none) ↔ ((m : ℕ) → m < k → d m ≡ none)
+sum-none-exactly-if-all d k = (sums.summed-none d k, sums.none-summed d k)
+
+-- else it is the sum of what the maps say, a map with none adding 0
+pub sum-is-sum : (d : ℕ → Cost) (k x : ℕ) → summed d k ≡ fin x → x ≡ sum (λ m. sums.worth (d m)) k
+sum-is-sum d k x e = sums.summed-fin d k x e
+
+-- for a valid task and split the bound is at most the cost of every sequence to the goal
+pub bound-at-most-cost : (T : Task) → Valid T → (os : List ℕ) (s : State) → IsState (T .sas) s → Passes (T .sas) os s
+    → bound T s ⊑ paid (T .sas .cost) os
+bound-at-most-cost T ok os s h p = bounds.admissible T ok os s h p
+
+-- where the sum says none there is no sequence
+pub none-so-no-sequence : (T : Task) → Valid T → (s : State) → IsState (T .sas) s → bound T s ≡ none
+    → (os : List ℕ) → Passes (T .sas) os s → ⊥
+none-so-no-sequence T ok s h e os p = bounds.none-so-none T ok s h e os p

@@ -1,0 +1,92 @@
+-- Laws of tests at every number below n, of lists filled place by place, and of facts: what a counting loop asks, one turn more and the end.
+-- Assumes nothing.
+use Prim.Native.Nat.{ℕ, zero, suc, _+_, _-_, _≤_, _<_}
+use mathlib.Core.Path.{_≡_, refl, ap, sym, _∙_, subst}
+use mathlib.Core.List.{List}
+use mathlib.Core.Bool.{Bool, true, false, _&&_, and-false}
+use native.Mathlib.Numerals.{add-one}
+use native.Mathlib.Omega.{arith}
+use lib.Dec.{ltb, eqb}
+use lib.ListN.{length, getD, set, length-set}
+use lib.Seq.{getD-set-same, getD-set-other}
+use borrow.Author.Tests.{ltb-true, ltb-false, eqb-true, eqb-false}
+use Rattle.meaning.specs.Sas.{put}
+use Rattle.meaning.specs.Views.{holds, every}
+use Rattle.tables.specs.Steps.{filled}
+
+-- by cases on a test, with the equation
+pub by-cases : {A : Type 0} (b : Bool) → (b ≡ true → A) → (b ≡ false → A) → A
+by-cases true t e = t refl
+by-cases false t e = e refl
+
+-- ---- a test at every number below n
+
+pub every-more : (f : ℕ → Bool) (n : ℕ) → every f n ≡ true → f n ≡ true → every f (n + 1) ≡ true
+every-more f n p q = rw add-one (rw p q)
+
+pub every-end : (f : ℕ → Bool) (n k : ℕ) → every f k ≡ true → k ≤ n → n ≤ k → true ≡ every f n
+every-end f n k p h g =
+    let q : k ≡ n = omega arith in
+    sym p ∙ ap (every f) q
+
+pub every-false : (f : ℕ → Bool) (n k : ℕ) → k < n → f k ≡ false → every f n ≡ false
+every-false f zero k h p = absurd (let z : ⊥ = omega arith in z)
+every-false f (suc n) k h p =
+    by-cases (ltb k n) (λ e. rw (every-false f n k (ltb-true k n e) p) refl)
+    (λ e.
+    let q : k ≡ n = omega (arith, ltb-false k n e) in
+    rw (sym (ap f q) ∙ p) (and-false (every f n)))
+
+-- ---- a list filled place by place
+
+pub filled-next : (f : ℕ → ℕ) (l t : List ℕ) (m x : ℕ) → t ≡ filled f l m → x ≡ f m → set t m x ≡ filled f l (m + 1)
+unfolding filled
+filled-next f l t m x p q = rw (add-one, p, q) refl
+
+pub filled-end : (f : ℕ → ℕ) (l t : List ℕ) (n k : ℕ) → t ≡ filled f l k → k ≤ n → n ≤ k → t ≡ filled f l n
+filled-end f l t n k p h g =
+    let q : k ≡ n = omega arith in
+    p ∙ ap (filled f l) q
+
+pub length-filled : (f : ℕ → ℕ) (l : List ℕ) (n : ℕ) → length (filled f l n) ≡ length l
+unfolding filled
+length-filled f l zero = refl
+length-filled f l (suc n) = length-set (filled f l n) n (f n) ∙ length-filled f l n
+
+pub filled-later : (f : ℕ → ℕ) (l : List ℕ) (n k : ℕ) → n ≤ k → getD (filled f l n) k 0 ≡ getD l k 0
+unfolding filled
+filled-later f l zero k h = refl
+filled-later f l (suc n) k h =
+    getD-set-other (filled f l n) n k (f n) 0 (λ e. omega arith) ∙ filled-later f l n k (omega arith)
+
+-- what stands at the place of the next turn is still the old value
+pub filled-still : (f : ℕ → ℕ) (l t : List ℕ) (m : ℕ) → t ≡ filled f l m → getD t m 0 ≡ getD l m 0
+filled-still f l t m p = ap (λ (x : List ℕ). getD x m 0) p ∙ filled-later f l m m (omega arith)
+
+pub filled-at : (f : ℕ → ℕ) (l : List ℕ) (n k : ℕ) → k < n → k < length l → getD (filled f l n) k 0 ≡ f k
+unfolding filled
+filled-at f l zero k h b = omega arith
+filled-at f l (suc n) k h b =
+    by-cases (eqb k n)
+    (λ e.
+    let q : k ≡ n = eqb-true k n e in
+    rw q (getD-set-same (filled f l n) n (f n) 0 (omega (arith, length-filled f l n))))
+    (λ e.
+    getD-set-other (filled f l n) n k (f n) 0 (eqb-false k n e)
+    ∙ filled-at f l n k (omega (arith, eqb-false k n e)) b)
+
+-- ---- a fact that says something: one more than its value
+
+pub holds-said : (f x : ℕ) → (f ≡ 0 → ⊥) → eqb x (f - 1) ≡ holds f x
+holds-said zero x h = absurd (h refl)
+holds-said (suc k) x h = let q : suc k - 1 ≡ k = omega arith in ap (eqb x) q
+
+pub put-said : (f x : ℕ) → (f ≡ 0 → ⊥) → f - 1 ≡ put f x
+put-said zero x h = absurd (h refl)
+put-said (suc k) x h = omega arith
+
+pub put-none : (f x : ℕ) → f ≡ 0 → x ≡ put f x
+put-none f x h = subst (λ (g : ℕ). x ≡ put g x) (sym h) refl
+
+pub holds-none : (f x : ℕ) → f ≡ 0 → true ≡ holds f x
+holds-none f x h = subst (λ (g : ℕ). true ≡ holds g x) (sym h) refl

@@ -1,0 +1,38 @@
+-- Steps over the lent tables are the steps of the task that the tables spell. Assumes nothing.
+use Prim.Native.Nat.{ℕ, _≤_, _<_}
+use mathlib.Core.Path.{_≡_, refl}
+use mathlib.Core.List.{List}
+use native.Mathlib.Omega.{arith}
+use lib.ListN.{length, getD}
+use Rattle.meaning.specs.Sas.{after}
+use Rattle.meaning.specs.Views.{complies}
+use Rattle.tables.specs.declared.Counts.{Counts}
+use Rattle.tables.specs.Layout.{Tables, effRow}
+use Rattle.tables.specs.Task.{sasOf, stateOf}
+use Rattle.tables.specs.Steps.{rowHolds, mayRun, meetsGoal, filled, valueAfter, stepped}
+use Rattle.tables.proofs.Laws.{filled-at, filled-later, length-filled}
+
+module _ (t : Tables) (s : List ℕ) where
+  -- the test of an operator is the task's
+  pub may-run-is : (o : ℕ) → mayRun (t .counts) (t .facts) s o ≡ complies (sasOf t) (sasOf t .pre o) (stateOf s)
+  unfolding mayRun rowHolds
+  may-run-is o = refl
+
+  -- so is that of the goal
+  pub meets-goal-is : meetsGoal (t .counts) (t .facts) s ≡ complies (sasOf t) (sasOf t .goal) (stateOf s)
+  unfolding meetsGoal rowHolds
+  meets-goal-is = refl
+
+  -- the state after a step has the task's values; the places beyond the variables stay
+  pub stepped-is : (o v : ℕ) → t .counts .vars ≤ length s → v < t .counts .vars
+      → stateOf (stepped (t .counts) (t .facts) s o) v ≡ after (sasOf t) o (stateOf s) v
+  unfolding stepped
+  stepped-is o v l h = filled-at (valueAfter (t .facts) (effRow o) s) s (t .counts .vars) v h (omega arith)
+
+  pub stepped-beyond : (o v : ℕ) → t .counts .vars ≤ v → getD (stepped (t .counts) (t .facts) s o) v 0 ≡ getD s v 0
+  unfolding stepped
+  stepped-beyond o v h = filled-later (valueAfter (t .facts) (effRow o) s) s (t .counts .vars) v h
+
+  pub stepped-length : (o : ℕ) → length (stepped (t .counts) (t .facts) s o) ≡ length s
+  unfolding stepped
+  stepped-length o = length-filled (valueAfter (t .facts) (effRow o) s) s (t .counts .vars)

@@ -1,0 +1,74 @@
+-- `steps::state_after` meets its contract. Assumes nothing.
+use Prim.Native.Nat.{ℕ, _≤_, _-_}
+use mathlib.Core.Path.{_≡_, refl, sym, _∙_, ap, ap₂}
+use native.Mathlib.Omega.{arith}
+use lib.ListN.{getD}
+use borrow.Author.Needs.{needs}
+use Rattle.meaning.specs.Sas.{put}
+use Rattle.tables.specs.Steps.{filled, valueAfter, stepped}
+use Rattle.tables.proofs.Laws.{filled-next, filled-end, filled-still}
+use Rattle.tables.proofs.steps.state_after.Statement.{statement}
+use Rattle.tables.proofs.steps.state_after.Tie as tie
+
+abbrev Inv-loop : tie.InvT-loop
+Inv-loop facts vars row t₀ v₀ t v = (v ≤ vars) × (t ≡ filled (valueAfter facts row t₀) t₀ v)
+
+abbrev μ-loop : tie.MeasureT-loop
+μ-loop facts vars row t₀ v₀ t v = vars - v
+
+cast-vars : tie.Need-cast-vars Inv-loop μ-loop
+cast-vars c = search needs
+
+eff-row-requires : tie.Need-eff-row-requires Inv-loop μ-loop
+eff-row-requires c κs = search needs
+
+loop-holds : tie.Need-loop-holds Inv-loop μ-loop
+unfolding filled
+loop-holds c = (omega arith, refl)
+
+cast-row-at : tie.Need-cast-row-at Inv-loop μ-loop
+cast-row-at c = search needs
+
+row-at-requires : tie.Need-row-at-requires Inv-loop μ-loop
+row-at-requires c κs = search needs
+
+array-read-value-after : tie.Need-array-read-value-after Inv-loop μ-loop
+array-read-value-after c = search needs
+
+value-after-requires : tie.Need-value-after-requires Inv-loop μ-loop
+value-after-requires c κs = search needs
+
+array-write-t : tie.Need-array-write-t Inv-loop μ-loop
+array-write-t c = search needs
+
+add-v : tie.Need-add-v Inv-loop μ-loop
+add-v c = search needs
+
+loop-less : tie.Need-loop-less Inv-loop μ-loop
+loop-less c = search needs
+
+loop-again : tie.Need-loop-again Inv-loop μ-loop
+loop-again c = (omega arith, filled-next (valueAfter (c .before .before .before .before .before .before .before .args .facts .now) (c .before .before .before .before .eff-row .result) (c .before .before .before .before .before .before .before .args .s)) (c .before .before .before .before .before .before .before .args .s) (c .before .before .before .loop .t) (c .before .before .before .loop .v) (c .value-after .result) (c .before .before .before .loop .inv .1) (c .value-after .ensures ∙ ap₂ put (c .before .row-at .ensures) (filled-still (valueAfter (c .before .before .before .before .before .before .before .args .facts .now) (c .before .before .before .before .eff-row .result) (c .before .before .before .before .before .before .before .args .s)) (c .before .before .before .before .before .before .before .args .s) (c .before .before .before .loop .t) (c .before .before .before .loop .v) (c .before .before .before .loop .inv .1))))
+
+returns : tie.Need-returns Inv-loop μ-loop
+unfolding stepped
+returns c = filled-end (valueAfter (c .before .before .before .before .before .args .facts .now) (c .before .before .eff-row .result) (c .before .before .before .before .before .args .s)) (c .before .before .before .before .before .args .s) (c .before .loop .t) (c .before .before .before .before .before .args .c .vars) (c .before .loop .v) (c .before .loop .inv .1) (omega arith) (omega arith) ∙ ap (λ (r : ℕ). filled (valueAfter (c .before .before .before .before .before .args .facts .now) r (c .before .before .before .before .before .args .s)) (c .before .before .before .before .before .args .s) (c .before .before .before .before .before .args .c .vars)) (c .before .before .eff-row .ensures)
+
+pub state-after-spec : {M : Type 1} → statement M
+state-after-spec =
+    tie.close
+    (tie.spec
+    Inv-loop
+    μ-loop
+    cast-vars
+    eff-row-requires
+    loop-holds
+    cast-row-at
+    row-at-requires
+    array-read-value-after
+    value-after-requires
+    array-write-t
+    add-v
+    loop-less
+    loop-again
+    returns)

@@ -1,0 +1,17 @@
+-- `steps::value_after` meets its contract. Assumes nothing.
+use Rattle.tables.proofs.Laws.{put-said}
+use borrow.Author.Needs.{needs}
+use Rattle.tables.proofs.steps.value_after.Statement.{statement}
+use Rattle.tables.proofs.steps.value_after.Tie as tie
+
+sub-result : tie.Need-sub-result
+sub-result c = search needs
+
+returns : tie.Need-returns
+returns c = search needs
+
+returns-2 : tie.Need-returns-2
+returns-2 c = put-said (c .before .args .fact) (c .before .args .x) (c .if1 .left)
+
+pub value-after-spec : {M : Type 1} → statement M
+value-after-spec = tie.close (tie.spec sub-result returns returns-2)

@@ -1,0 +1,37 @@
+-- Steps over the lent tables: may run, meets the goal, and the state after, as lists. `proofs/Meant.antt` shows that they are those of the task.
+use mathlib.Core.Bool.{Bool}
+use mathlib.Core.List.{List}
+use Prim.Native.Nat.{ℕ, zero, suc}
+use lib.ListN.{getD, set}
+use Rattle.meaning.specs.Sas.{put}
+use Rattle.meaning.specs.Views.{holds, every}
+use Rattle.tables.specs.declared.Counts.{Counts}
+use Rattle.tables.specs.Layout.{rowAt, goalRow, preRow, effRow}
+
+-- what a row of facts says of variable v holds in the state; of the first n variables
+abbrev pub saysOf : List ℕ → ℕ → List ℕ → ℕ → Bool
+saysOf facts row s v = holds (rowAt facts row v) (getD s v 0)
+
+unfoldable pub rowHolds : ℕ → List ℕ → ℕ → List ℕ → Bool
+rowHolds n facts row s = every (saysOf facts row s) n
+
+-- each precondition of operator o holds in the state
+unfoldable pub mayRun : Counts → List ℕ → List ℕ → ℕ → Bool
+mayRun c facts s o = rowHolds (c .vars) facts (preRow o) s
+
+-- the state meets the goal
+unfoldable pub meetsGoal : Counts → List ℕ → List ℕ → Bool
+meetsGoal c facts s = rowHolds (c .vars) facts goalRow s
+
+-- the list with f k at each place k below n
+unfoldable pub filled : (ℕ → ℕ) → List ℕ → ℕ → List ℕ
+filled f l zero = l
+filled f l (suc n) = set (filled f l n) n (f n)
+
+-- the value of variable v after what a row of facts says of it
+abbrev pub valueAfter : List ℕ → ℕ → List ℕ → ℕ → ℕ
+valueAfter facts row s v = put (rowAt facts row v) (getD s v 0)
+
+-- the state after operator o: each effect holds and all else stays
+unfoldable pub stepped : Counts → List ℕ → List ℕ → ℕ → List ℕ
+stepped c facts s o = filled (valueAfter facts (effRow o) s) s (c .vars)

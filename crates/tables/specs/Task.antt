@@ -1,0 +1,31 @@
+-- The task that the lent tables spell, and the state that a lent list spells.
+use mathlib.Core.List.{List}
+use Prim.Native.Nat.{ℕ}
+use lib.ListN.{getD}
+use Rattle.meaning.specs.Sas.{State, Sas}
+use Rattle.meaning.specs.Split.{Task}
+use Rattle.tables.specs.declared.Counts.{Counts}
+use Rattle.tables.specs.Layout.{Tables, domAt, initAt, goalAt, preAt, effAt, classAt, costAt, shareAt}
+
+abbrev pub sasOf : Tables → Sas
+sasOf t =
+    record {
+      vars = t .counts .vars;
+      dom = domAt (t .facts);
+      init = initAt (t .facts);
+      goal = goalAt (t .facts);
+      ops = t .counts .ops;
+      cost = costAt (t .costs);
+      pre = preAt (t .facts);
+      eff = effAt (t .facts);
+    }
+
+abbrev pub taskOf : Tables → Task
+taskOf t = record { sas = sasOf t; maps = t .counts .maps; class = classAt (t .facts); share = shareAt (t .shares) }
+
+abbrev pub tables : Counts → List ℕ → List ℕ → List ℕ → Tables
+tables c facts costs shares = record { counts = c; facts = facts; costs = costs; shares = shares }
+
+-- a value for each variable, from place 0 on
+abbrev pub stateOf : List ℕ → State
+stateOf s = λ v. getD s v 0

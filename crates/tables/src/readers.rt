@@ -1,0 +1,72 @@
+// The readers: the only code that knows the layout. A place past a table's end reads as 0, so a reading asks nothing of its caller.
+ghost use mathlib.Core.Path.{_≡_};
+ghost use Prim.Native.Nat.{_<_};
+ghost use lib.ListN.{getD};
+ghost use Rattle.tables.specs.Layout.{rowAt, domRow, initRow, goalRow, preRow, effRow, classRow, costAt, shareAt};
+use meaning::OpNo;
+
+// The row of the variables' numbers of values, of the initial state, of the goal.
+pub const DOM_ROW: u32 = 0;
+
+pub const INIT_ROW: u32 = 1;
+
+pub const GOAL_ROW: u32 = 2;
+
+// The row of an operator's preconditions.
+pub fn pre_row(o: OpNo) -> u32
+    requires { ⌜ o .0 < 64 ⌝ }
+    ensures { λ r. ⌜ r ≡ preRow (o .0) ⌝ }
+{
+    3 + o.0
+}
+
+// The row of an operator's effects.
+pub fn eff_row(o: OpNo) -> u32
+    requires { ⌜ o .0 < 64 ⌝ }
+    ensures { λ r. ⌜ r ≡ effRow (o .0) ⌝ }
+{
+    67 + o.0
+}
+
+// The row of a variable's classes in a map.
+pub fn class_row(m: u32, v: u32) -> u32
+    requires { ⌜ (m < 8) × (v < 8) ⌝ }
+    ensures { λ r. ⌜ r ≡ classRow m v ⌝ }
+{
+    131 + (m * 8 + v)
+}
+
+// The byte at a place.
+pub fn byte_at(table: &[u8], at: usize) -> u8
+    ensures { λ r. ⌜ r ≡ getD (now (table .entry)) at 0 ⌝ }
+{
+    if at < table.len() { table[at] } else { 0 }
+}
+
+// The word at a place.
+pub fn word_at(table: &[u32], at: usize) -> u32
+    ensures { λ r. ⌜ r ≡ getD (now (table .entry)) at 0 ⌝ }
+{
+    if at < table.len() { table[at] } else { 0 }
+}
+
+// What a row of the facts says at a variable, or in a row of classes at a value.
+pub fn row_at(facts: &[u8], row: u32, v: u32) -> u8
+    ensures { λ r. ⌜ r ≡ rowAt (now (facts .entry)) row v ⌝ }
+{
+    byte_at(facts, row as usize * 8 + v as usize)
+}
+
+// What an operator costs.
+pub fn cost_at(costs: &[u32], o: OpNo) -> u32
+    ensures { λ r. ⌜ r ≡ costAt (now (costs .entry)) (o .0) ⌝ }
+{
+    word_at(costs, o.0 as usize)
+}
+
+// What an operator costs in a map.
+pub fn share_at(shares: &[u32], m: u32, o: OpNo) -> u32
+    ensures { λ r. ⌜ r ≡ shareAt (now (shares .entry)) m (o .0) ⌝ }
+{
+    word_at(shares, m as usize * 64 + o.0 as usize)
+}

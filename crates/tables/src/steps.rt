@@ -1,0 +1,72 @@
+// Whether an operator may run in a state, whether a state meets the goal, and the state after a step.
+ghost use mathlib.Core.Path.{_≡_};
+ghost use Prim.Native.Nat.{_≤_, _<_};
+ghost use Rattle.meaning.specs.Sas.{put};
+ghost use Rattle.meaning.specs.Views.{holds};
+ghost use Rattle.tables.specs.Steps.{rowHolds, mayRun, meetsGoal, stepped};
+use crate::Counts;
+use crate::readers::GOAL_ROW;
+use crate::readers::byte_at;
+use crate::readers::eff_row;
+use crate::readers::pre_row;
+use crate::readers::row_at;
+use meaning::OpNo;
+
+// What is said of a variable holds of the value x.
+pub fn fact_holds(fact: u8, x: u8) -> bool
+    ensures { λ r. ⌜ r ≡ holds fact x ⌝ }
+{
+    if fact == 0 { true } else { x == fact - 1 }
+}
+
+// The value of a variable after an effect on it.
+pub fn value_after(fact: u8, x: u8) -> u8
+    ensures { λ r. ⌜ r ≡ put fact x ⌝ }
+{
+    if fact == 0 { x } else { fact - 1 }
+}
+
+// What a row of facts says of the first variables holds in the state.
+pub fn row_holds(vars: u32, facts: &[u8], row: u32, s: &[u8]) -> bool
+    ensures { λ r. ⌜ r ≡ rowHolds vars (now (facts .entry)) row (now (s .entry)) ⌝ }
+{
+    let mut v = 0;
+    while v < vars {
+        if !fact_holds(row_at(facts, row, v), byte_at(s, v as usize)) {
+            return false;
+        }
+        v += 1;
+    }
+    true
+}
+
+// Each precondition of the operator holds in the state.
+pub fn may_run(c: Counts, facts: &[u8], s: &[u8], o: OpNo) -> bool
+    requires { ⌜ o .0 < 64 ⌝ }
+    ensures { λ r. ⌜ r ≡ mayRun c (now (facts .entry)) (now (s .entry)) (o .0) ⌝ }
+{
+    row_holds(c.vars, facts, pre_row(o), s)
+}
+
+// The state meets the goal.
+pub fn meets_goal(c: Counts, facts: &[u8], s: &[u8]) -> bool
+    ensures { λ r. ⌜ r ≡ meetsGoal c (now (facts .entry)) (now (s .entry)) ⌝ }
+{
+    row_holds(c.vars, facts, GOAL_ROW, s)
+}
+
+// The state after the operator: each effect holds and all else stays.
+pub fn state_after(c: Counts, facts: &[u8], s: [u8; 8], o: OpNo) -> [u8; 8]
+    requires { ⌜ (c .vars ≤ 8) × (o .0 < 64) ⌝ }
+    ensures { λ r. ⌜ r ≡ stepped c (now (facts .entry)) s (o .0) ⌝ }
+{
+    let vars = c.vars as usize;
+    let row = eff_row(o);
+    let mut t = s;
+    let mut v = 0usize;
+    while v < vars {
+        t[v] = value_after(row_at(facts, row, v as u32), t[v]);
+        v += 1;
+    }
+    t
+}
