@@ -228,6 +228,18 @@ digits-read v u s =
       rest = drop-at (digits v) u _ (sym n)
     }
 
+-- a number's text begins with a digit
+pub data Head : List ℕ → Type 0 where
+  head : {b : ℕ} {t : List ℕ} → 48 ≤ b → b ≤ 57 → Head (b ∷ t)
+
+head-of : {t : List ℕ} → Digits t → formed (t ++ []) ≡ true → Head t
+unfolding formed runLen pick
+head-of none e = clash e refl
+head-of (more p q d) e = head p q
+
+pub digits-head : (v : ℕ) → Head (digits v)
+digits-head v = head-of (are-digits v) (formed-digits v [] nil)
+
 -- ---- a well-formed run is the digits of its value
 
 are-run : (t : List ℕ) → Digits (take (runLen t) t)

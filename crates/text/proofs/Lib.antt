@@ -1,3 +1,4 @@
 pub mod Cases
 pub mod Decimal
 pub mod SpellParts
+pub mod SpellFacts
