@@ -2,3 +2,4 @@ pub mod Cases
 pub mod Decimal
 pub mod SpellParts
 pub mod SpellFacts
+pub mod SpellClasses
