@@ -3,3 +3,4 @@ pub mod Decimal
 pub mod SpellParts
 pub mod SpellFacts
 pub mod SpellClasses
+pub mod SpellMaps
