@@ -4,3 +4,4 @@ pub mod SpellParts
 pub mod SpellFacts
 pub mod SpellClasses
 pub mod SpellMaps
+pub mod SpellTables
