@@ -5,3 +5,4 @@ pub mod SpellFacts
 pub mod SpellClasses
 pub mod SpellMaps
 pub mod SpellTables
+pub mod SpellOwn
