@@ -34,7 +34,7 @@ use Rattle.text.specs.Grammar.{
   facts,
   factList,
 }
-use Rattle.text.specs.Spelling.{digits, fact, another, moreFacts, first, someFacts, changed, said, factRow}
+use Rattle.text.specs.Spelling.{digits, fact, another, moreFacts, first, someFacts, changed, row, said, factRow}
 use Rattle.text.proofs.Decimal.{clash, Stop, other, Head, head, digits-head}
 use Rattle.text.proofs.SpellParts.{judged, judged-on, next, Told, demand-told, lit-told, number-told}
 
@@ -83,6 +83,21 @@ pub knows-said : {n : ℕ} {dom : ℕ → ℕ} (T : Tables) (k i : ℕ) → 8 �
 unfolding said
 knows-said T zero i h q = q
 knows-said T (suc k) i h q = knows-set T i (suc k) h q
+
+module _ {n : ℕ} {dom : ℕ → ℕ} where
+  pub knows-changed : (g : ℕ → List ℕ → List ℕ) → ((j : ℕ) (T : Tables) → Knows n dom T → Knows n dom (on (g j) T)) → (k i : ℕ) (T : Tables) → Knows n dom T
+      → Knows n dom (on (changed g k i) T)
+  unfolding changed
+  knows-changed g h zero i T w = w
+  knows-changed g h (suc k) i T w = knows-changed g h k (suc i) (on (g i) T) (h i T w)
+
+  pub knows-row : (place f : ℕ → ℕ) → ((j : ℕ) → 8 ≤ place j) → (k : ℕ) (T : Tables) → Knows n dom T → Knows n dom (on (row place f k) T)
+  unfolding row
+  knows-row place f high k T w = knows-changed (λ i x. set x (place i) (f i)) (λ j U. knows-set U (place j) (f j) (high j)) k 0 T w
+
+  pub knows-facts : (place : ℕ → ℕ) (F : Facts) → ((j : ℕ) → 8 ≤ place j) → (k : ℕ) (T : Tables) → Knows n dom T → Knows n dom (on (factRow place F k) T)
+  unfolding factRow
+  knows-facts place F high k T w = knows-changed (λ v. said (F v) (place v)) (λ j U. knows-said U (F j) (place j) (high j)) k 0 T w
 
 -- what may follow a list of facts
 pub record Ends (b : ℕ) : Type 0 where

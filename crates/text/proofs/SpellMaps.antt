@@ -38,7 +38,7 @@ use Rattle.text.specs.Grammar.{
 use Rattle.text.specs.Spelling.{digits, gap, joined, numbers, changed, row}
 use Rattle.text.proofs.Decimal.{Stop, other}
 use Rattle.text.proofs.SpellParts.{judged, judged-on, judged-then, next, Told, demand-told, number-told, parted-told, stop-gap, joined-none, joined-front}
-use Rattle.text.proofs.SpellFacts.{within-below, on, Knows, knows-set}
+use Rattle.text.proofs.SpellFacts.{within-below, on, Knows, knows-set, knows-row}
 use Rattle.text.proofs.SpellClasses.{clean-first, clean-rule, clean-each, listed, count-is, missing-is}
 
 slash-no-digit : isDigit slash ≡ false
@@ -95,15 +95,6 @@ module _ (τ : Task) (m l : ℕ) where
   unfolding classesFault
   low-all v b q = low-classes v b (clean-first (each (classRule v) (τ .sas .dom v) 0) _ q)
 
-  knows-changed : (v n x : ℕ) (T : Tables) → Knows (τ .sas .vars) (τ .sas .dom) T → Knows (τ .sas .vars) (τ .sas .dom) (on (changed (classSet v) n x) T)
-  unfolding changed
-  knows-changed v zero x T w = w
-  knows-changed v (suc n) x T w = knows-changed v n (suc x) (on (classSet v x) T) (knows-set T (classPlace m v x) (τ .class m v x) (omega arith) w)
-
-  knows-row : (v : ℕ) → v < τ .sas .vars → (T : Tables) → Knows (τ .sas .vars) (τ .sas .dom) T → Knows (τ .sas .vars) (τ .sas .dom) (on (row (classPlace m v) (τ .class m v) (τ .sas .dom v)) T)
-  unfolding row
-  knows-row v a T w = knows-changed v (τ .sas .dom v) 0 T w
-
   -- a variable's classes, each in its range, and at their end none missing
   variable-told : (v : ℕ) (p : List ℕ → Part) (rest : List ℕ) → Stop rest → v < τ .sas .vars → τ .sas .dom v ≤ 8 → (T : Tables) → Knows (τ .sas .vars) (τ .sas .dom) T
       → (k : Next)
@@ -150,5 +141,5 @@ module _ (τ : Task) (m l : ℕ) where
         ∙ variable-told v _ (gap slash n ++ (tail ++ rest)) (stop-slash n tail rest s (joined-none slash text n (suc v))) a (small v a) T w k)
         (λ q. parted-told n slash (tail ++ rest) l U _
         ∙ ap (λ (y : ℕ). variables m n y (states * classCount cs) (tail ++ rest) l U k) (add-one v)
-        ∙ variables-told n (suc v) (states * classCount cs) (omega arith) (count q) U (knows-row v a T w) k)
+        ∙ variables-told n (suc v) (states * classCount cs) (omega arith) (count q) U (knows-row (classPlace m v) (τ .class m v) (λ j. omega arith) (τ .sas .dom v) T w) k)
         ∙ sym (ap (λ (f : Found). judged f (k rest l (on (changed mapSet n (suc v)) U))) (then-then (classesFault τ m l v) (each (classesFault τ m l) n (suc v)) statesRule))
