@@ -6,3 +6,4 @@ pub mod SpellClasses
 pub mod SpellMaps
 pub mod SpellTables
 pub mod SpellOwn
+pub mod SpellLines
