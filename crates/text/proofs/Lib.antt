@@ -7,3 +7,4 @@ pub mod SpellMaps
 pub mod SpellTables
 pub mod SpellOwn
 pub mod SpellLines
+pub mod SpellTask

@@ -1,0 +1,200 @@
+-- THE SCAN IS THE GRAMMAR: the text that spells a task gets the refusal that the scan finds in the task, or is accepted with the task's tables.
+-- Assumes nothing.
+use Prim.Native.Nat.{ℕ, zero, suc, _+_, _≤_, _<_}
+use native.Mathlib.Omega.{arith}
+use native.Mathlib.Numerals.{add-one}
+use mathlib.Core.Path.{_≡_, refl, sym, ap, ap₂, _∙_}
+use mathlib.Core.List.{List, [], _∷_, _++_, append-assoc, append-nil}
+use mathlib.Core.Bool.{Bool, true, false, _&&_}
+use lib.Dec.{leb}
+use lib.ListN.{length, getD, set, replicate, length-replicate}
+use borrow.Author.Tests.{leb-true}
+use Rattle.refusals.specs.declared.Refusal.{Refusal}
+use Rattle.refusals.specs.declared.Refusal.the-variants.{OutOfRange, SharesAboveCost}
+use Rattle.meaning.specs.Split.{Task, sum}
+use Rattle.tables.specs.declared.scan.Found.{Found}
+use Rattle.tables.specs.declared.scan.Found.the-variants.{Clean, Fault}
+use Rattle.tables.specs.Layout.{Tables, factsRoom, costsRoom, sharesRoom, domPlace, initPlace, goalPlace, prePlace, effPlace, classPlace, sharePlace, costAt, shareAt}
+use Rattle.tables.specs.Task.{taskOf}
+use Rattle.tables.specs.Scan.{unless, _then_, each, factsFault, operatorFault, mapFault, sharesFault, splitFault, taskFault, within as scanWithin}
+use Rattle.text.specs.Fields.{pick, shareTotal, opLine, overLine}
+use Rattle.text.specs.Grammar.{
+  Verdict,
+  accepted,
+  refused,
+  Next,
+  Part,
+  _▸_,
+  ask,
+  line,
+  lines,
+  operator,
+  opLines,
+  variables,
+  mapLines,
+  amounts,
+  shareLines,
+  taskLines,
+  settled,
+  theEnd,
+  noTask,
+  verdict,
+  putCost,
+}
+use Rattle.text.specs.Spelling.{
+  digits,
+  numbers,
+  someFacts,
+  keyed,
+  stacked,
+  opText,
+  mapText,
+  shareText,
+  spelled,
+  textOf,
+  changed,
+  row,
+  factRow,
+  opRows,
+  mapRows,
+  headRows,
+  tablesOf,
+  canon,
+}
+use Rattle.text.proofs.SpellParts.{judged, judged-on, judged-then, next, lines-told}
+use Rattle.text.proofs.SpellFacts.{on, on-changed, Knows, knows-row, knows-facts, knows-changed}
+use Rattle.text.proofs.SpellClasses.{clean-rule, clean-each}
+use Rattle.text.proofs.SpellTables.{zeros}
+use Rattle.text.proofs.SpellOwn.{Small, row-dom, costs-own, shares-own}
+use Rattle.text.proofs.SpellLines.{
+  edition-told,
+  vars-told,
+  dom-told,
+  init-told,
+  goal-told,
+  ops-told,
+  opChange,
+  op-told,
+  maps-told,
+  map-told,
+  onShares,
+  shares-changed,
+  share-told,
+}
+
+-- ---- after all else: shares against costs
+
+totals : (τ : Task) (share : ℕ → ℕ → ℕ) (o n : ℕ) → ((m : ℕ) → m < n → share m o ≡ τ .share m o) → shareTotal share n o ≡ sum (λ m. τ .share m o) n
+unfolding shareTotal
+totals τ share o zero h = refl
+totals τ share o (suc n) h = ap₂ (λ (a b : ℕ). a + b) (totals τ share o n (λ m l. h m (omega arith))) (h n (omega arith))
+
+settled-over : (o : ℕ) (T : Tables) → settled (opLine o) T ≡ refused (SharesAboveCost (7 + o))
+unfolding settled
+settled-over o T =
+    let e : 7 + o ≡ suc (6 + o) = omega arith in
+    ap (λ (l : ℕ). settled l T) e ∙ ap (λ (l : ℕ). refused (SharesAboveCost l)) (sym e)
+
+module _ (τ : Task) (T : Tables) (cost : ℕ → ℕ) (share : ℕ → ℕ → ℕ) (costs : (o : ℕ) → o < τ .sas .ops → cost o ≡ τ .sas .cost o)
+    (shares : (m o : ℕ) → m < τ .maps → o < τ .sas .ops → share m o ≡ τ .share m o) where
+  over-told : (n o : ℕ) → o + n ≡ τ .sas .ops → settled (overLine cost share (τ .maps) n o) T ≡ judged (each (splitFault τ) n o) (accepted T)
+  unfolding overLine each splitFault settled pick
+  over-told zero o e = refl
+  over-told (suc n) o e =
+      let h : o < τ .sas .ops = omega arith in
+      let a : shareTotal share (τ .maps) o ≡ sum (λ m. τ .share m o) (τ .maps) = totals τ share o (τ .maps) (λ m l. shares m o l h) in
+      ap₂ (λ (x y : ℕ). settled (pick (leb x y) (overLine cost share (τ .maps) n (o + 1)) (opLine o)) T) a (costs o h)
+      ∙ go (leb (sum (λ m. τ .share m o) (τ .maps)) (τ .sas .cost o)) (ap (λ (x : ℕ). settled (overLine cost share (τ .maps) n x) T) (add-one o) ∙ over-told n (suc o) (omega arith))
+    where
+      go : (b : Bool) → settled (overLine cost share (τ .maps) n (o + 1)) T ≡ judged (each (splitFault τ) n (suc o)) (accepted T)
+          → settled (pick b (overLine cost share (τ .maps) n (o + 1)) (opLine o)) T
+            ≡ judged (unless b (SharesAboveCost (7 + o)) then each (splitFault τ) n (suc o)) (accepted T)
+      go true h = h
+      go false h = settled-over o T
+
+-- ---- the lines of one kind
+
+abbrev made : ℕ → ℕ → ℕ → List ℕ → List ℕ → List ℕ → Tables
+made v o m f c h = record { counts = record { vars = v; ops = o; maps = m }; facts = f; costs = c; shares = h }
+
+module _ (τ : Task) where
+  abbrev Known : Tables → Type 0
+  Known = Knows (τ .sas .vars) (τ .sas .dom)
+
+  abbrev opsText : List ℕ
+  opsText = stacked (λ o. keyed "op=" (opText τ o)) (τ .sas .ops) 0
+
+  abbrev mapsText : List ℕ
+  mapsText = stacked (λ m. keyed "map=" (mapText τ m)) (τ .maps) 0
+
+  abbrev sharesText : List ℕ
+  sharesText = stacked (λ m. keyed "share=" (shareText (τ .share m) (τ .sas .ops))) (τ .maps) 0
+
+  abbrev opsDone : List ℕ → List ℕ
+  opsDone = changed (opRows τ) (τ .sas .ops) 0
+
+  abbrev mapsDone : List ℕ → List ℕ
+  mapsDone = changed (mapRows τ) (τ .maps) 0
+
+  abbrev costsDone : List ℕ → List ℕ
+  costsDone = row (λ o. o) (τ .sas .cost) (τ .sas .ops)
+
+  abbrev sharesDone : List ℕ → List ℕ
+  sharesDone = changed (λ m. row (sharePlace m) (τ .share m) (τ .sas .ops)) (τ .maps) 0
+
+  ops-changed : (n i : ℕ) (T : Tables)
+      → changed (opChange τ) n i T
+        ≡ record { counts = T .counts; facts = changed (opRows τ) n i (T .facts); costs = changed (λ o x. set x o (τ .sas .cost o)) n i (T .costs); shares = T .shares }
+  unfolding changed
+  ops-changed zero i T = refl
+  ops-changed (suc n) i T = ops-changed n (suc i) (opChange τ i T)
+
+  knows-op : (o : ℕ) (T : Tables) → Known T → Known (opChange τ o T)
+  unfolding opRows
+  knows-op o T w =
+      knows-facts (effPlace o) (τ .sas .eff o) (λ v. omega arith) (τ .sas .vars) _
+      (knows-facts (prePlace o) (τ .sas .pre o) (λ v. omega arith) (τ .sas .vars) (putCost o (τ .sas .cost o) T) (record { vars = w .vars; few = w .few; doms = w .doms }))
+
+  knows-map : (m : ℕ) (T : Tables) → Known T → Known (on (mapRows τ m) T)
+  unfolding mapRows
+  knows-map m T w =
+      knows-changed (λ v. row (classPlace m v) (τ .class m v) (τ .sas .dom v)) (λ v U. knows-row (classPlace m v) (τ .class m v) (λ j. omega arith) (τ .sas .dom v) U) (τ .sas .vars) 0 T w
+
+  all-ops : (m : ℕ) (f c h rest : List ℕ) (k : Next) → Known (made (τ .sas .vars) (τ .sas .ops) m f c h)
+      → opLines (opsText ++ rest) 7 (made (τ .sas .vars) (τ .sas .ops) m f c h) k
+        ≡ judged (each (operatorFault τ) (τ .sas .ops) 0) (k rest (7 + τ .sas .ops) (made (τ .sas .vars) (τ .sas .ops) m (opsDone f) (costsDone c) h))
+  unfolding opLines ask row
+  all-ops m f c h rest k w =
+      let T = made (τ .sas .vars) (τ .sas .ops) m f c h in
+      lines-told (λ o. line "op=" (operator o)) (λ o. keyed "op=" (opText τ o)) (operatorFault τ) (opChange τ) Known (τ .sas .ops) 7
+      (λ o U l. knows-op o U) (λ o U u l v. op-told τ o U v u) (τ .sas .ops) 0 (omega arith) rest T w k
+      ∙ ap (λ (U : Tables). judged (each (operatorFault τ) (τ .sas .ops) 0) (k rest (7 + τ .sas .ops) U)) (ops-changed (τ .sas .ops) 0 T)
+
+  all-maps : (f c h rest : List ℕ) (k : Next) → ((v : ℕ) → v < τ .sas .vars → τ .sas .dom v ≤ 8) → Known (made (τ .sas .vars) (τ .sas .ops) (τ .maps) f c h)
+      → mapLines (mapsText ++ rest) (8 + τ .sas .ops) (made (τ .sas .vars) (τ .sas .ops) (τ .maps) f c h) k
+        ≡ judged (each (mapFault τ) (τ .maps) 0) (k rest (8 + τ .sas .ops + τ .maps) (made (τ .sas .vars) (τ .sas .ops) (τ .maps) (mapsDone f) c h))
+  unfolding mapLines ask
+  all-maps f c h rest k small w =
+      let T = made (τ .sas .vars) (τ .sas .ops) (τ .maps) f c h in
+      let z : 8 + τ .sas .ops ≡ 8 + τ .sas .ops + 0 = omega arith in
+      let p : ℕ → Part = λ m. line "map=" (variables m (τ .sas .vars) 0 1) in
+      ap (λ (l : ℕ). lines p (τ .maps) 0 (mapsText ++ rest) l T k) z
+      ∙ lines-told p (λ m. keyed "map=" (mapText τ m)) (mapFault τ) (λ m. on (mapRows τ m)) Known (τ .maps) (8 + τ .sas .ops)
+      (λ m U l. knows-map m U) (λ m U u l v. map-told τ m U v small u) (τ .maps) 0 (omega arith) rest T w k
+      ∙ ap (λ (l : ℕ). judged (each (mapFault τ) (τ .maps) 0) (k rest (l + τ .maps) (changed (λ m. on (mapRows τ m)) (τ .maps) 0 T))) (sym z)
+      ∙ ap (λ (U : Tables). judged (each (mapFault τ) (τ .maps) 0) (k rest (8 + τ .sas .ops + τ .maps) U)) (on-changed (mapRows τ) (τ .maps) 0 T)
+
+  all-shares : (f c h rest : List ℕ) (k : Next)
+      → shareLines (sharesText ++ rest) (8 + τ .sas .ops + τ .maps) (made (τ .sas .vars) (τ .sas .ops) (τ .maps) f c h) k
+        ≡ judged (each (sharesFault τ) (τ .maps) 0) (k rest (8 + τ .sas .ops + τ .maps + τ .maps) (made (τ .sas .vars) (τ .sas .ops) (τ .maps) f c (sharesDone h)))
+  unfolding shareLines ask
+  all-shares f c h rest k =
+      let T = made (τ .sas .vars) (τ .sas .ops) (τ .maps) f c h in
+      let z : 8 + τ .sas .ops + τ .maps ≡ 8 + τ .sas .ops + τ .maps + 0 = omega arith in
+      let p : ℕ → Part = λ m. line "share=" (amounts m (τ .sas .ops)) in
+      let g : ℕ → List ℕ → List ℕ = λ m. row (sharePlace m) (τ .share m) (τ .sas .ops) in
+      ap (λ (l : ℕ). lines p (τ .maps) 0 (sharesText ++ rest) l T k) z
+      ∙ lines-told p (λ m. keyed "share=" (shareText (τ .share m) (τ .sas .ops))) (sharesFault τ) (λ m. onShares (g m)) (λ U. Unit {0}) (τ .maps) (8 + τ .sas .ops + τ .maps)
+      (λ m U l u. tt) (λ m U u l v. share-told τ m U u) (τ .maps) 0 (omega arith) rest T tt k
+      ∙ ap (λ (l : ℕ). judged (each (sharesFault τ) (τ .maps) 0) (k rest (l + τ .maps) (changed (λ m. onShares (g m)) (τ .maps) 0 T))) (sym z)
+      ∙ ap (λ (U : Tables). judged (each (sharesFault τ) (τ .maps) 0) (k rest (8 + τ .sas .ops + τ .maps + τ .maps) U)) (shares-changed g (τ .maps) 0 T)
