@@ -6,7 +6,7 @@ use native.Mathlib.Numerals.{add-one}
 use mathlib.Core.Path.{_≡_, refl, sym, ap, ap₂, _∙_}
 use mathlib.Core.List.{List, [], _∷_, _++_, append-assoc, append-nil}
 use mathlib.Core.Bool.{Bool, true, false, _&&_}
-use lib.Dec.{leb}
+use lib.Dec.{leb, ltb}
 use lib.ListN.{length, getD, set, replicate, length-replicate}
 use borrow.Author.Tests.{leb-true}
 use Rattle.refusals.specs.declared.Refusal.{Refusal}
@@ -28,8 +28,12 @@ use Rattle.text.specs.Grammar.{
   ask,
   line,
   lines,
+  initLine,
+  goalLine,
   operator,
+  opsLine,
   opLines,
+  mapsLine,
   variables,
   mapLines,
   amounts,
@@ -61,11 +65,12 @@ use Rattle.text.specs.Spelling.{
   tablesOf,
   canon,
 }
+use Rattle.text.proofs.Decimal.{clash}
 use Rattle.text.proofs.SpellParts.{judged, judged-on, judged-then, next, lines-told}
 use Rattle.text.proofs.SpellFacts.{on, on-changed, Knows, knows-row, knows-facts, knows-changed}
 use Rattle.text.proofs.SpellClasses.{clean-rule, clean-each}
-use Rattle.text.proofs.SpellTables.{zeros}
-use Rattle.text.proofs.SpellOwn.{Small, row-dom, costs-own, shares-own}
+use Rattle.text.proofs.SpellTables.{zeros, writes-row}
+use Rattle.text.proofs.SpellOwn.{Small, costs-own, shares-own}
 use Rattle.text.proofs.SpellLines.{
   edition-told,
   vars-told,
@@ -149,11 +154,13 @@ module _ (τ : Task) where
   ops-changed zero i T = refl
   ops-changed (suc n) i T = ops-changed n (suc i) (opChange τ i T)
 
-  knows-op : (o : ℕ) (T : Tables) → Known T → Known (opChange τ o T)
+  knows-rows : (o : ℕ) (T : Tables) → Known T → Known (on (opRows τ o) T)
   unfolding opRows
-  knows-op o T w =
-      knows-facts (effPlace o) (τ .sas .eff o) (λ v. omega arith) (τ .sas .vars) _
-      (knows-facts (prePlace o) (τ .sas .pre o) (λ v. omega arith) (τ .sas .vars) (putCost o (τ .sas .cost o) T) (record { vars = w .vars; few = w .few; doms = w .doms }))
+  knows-rows o T w =
+      knows-facts (effPlace o) (τ .sas .eff o) (λ v. omega arith) (τ .sas .vars) _ (knows-facts (prePlace o) (τ .sas .pre o) (λ v. omega arith) (τ .sas .vars) T w)
+
+  knows-op : (o : ℕ) (T : Tables) → Known T → Known (opChange τ o T)
+  knows-op o T w = knows-rows o (putCost o (τ .sas .cost o) T) (record { vars = w .vars; few = w .few; doms = w .doms })
 
   knows-map : (m : ℕ) (T : Tables) → Known T → Known (on (mapRows τ m) T)
   unfolding mapRows
@@ -198,3 +205,154 @@ module _ (τ : Task) where
       (λ m U l u. tt) (λ m U u l v. share-told τ m U u) (τ .maps) 0 (omega arith) rest T tt k
       ∙ ap (λ (l : ℕ). judged (each (sharesFault τ) (τ .maps) 0) (k rest (l + τ .maps) (changed (λ m. onShares (g m)) (τ .maps) 0 T))) (sym z)
       ∙ ap (λ (U : Tables). judged (each (sharesFault τ) (τ .maps) 0) (k rest (8 + τ .sas .ops + τ .maps + τ .maps) U)) (shares-changed g (τ .maps) 0 T)
+
+-- ---- the whole text
+
+and-second : (a b : Bool) → (a && b) ≡ true → b ≡ true
+and-second true b p = p
+and-second false b p = clash p refl
+
+at-most : (least most x : ℕ) (r : Refusal) → unless (scanWithin least most x) r ≡ Clean → x ≤ most
+at-most least most x r q = leb-true x most (and-second (leb least x) (leb x most) (clean-rule (scanWithin least most x) r q))
+
+module _ (τ : Task) (f c h : List ℕ) (lf : length f ≡ 1624) (zf : (p : ℕ) → getD f p 0 ≡ 0) (lc : length c ≡ 64) (zc : (p : ℕ) → getD c p 0 ≡ 0)
+    (lh : length h ≡ 512) (zh : (p : ℕ) → getD h p 0 ≡ 0) where
+  abbrev mapsFrom : List ℕ
+  mapsFrom = mapsText τ ++ (sharesText τ ++ [])
+
+  abbrev opsFrom : List ℕ
+  opsFrom = opsText τ ++ (keyed "maps=" (digits (τ .maps)) ++ mapsFrom)
+
+  abbrev finished : List ℕ → Tables
+  finished g = made (τ .sas .vars) (τ .sas .ops) (τ .maps) (mapsDone τ g) (costsDone τ c) (sharesDone τ h)
+
+  abbrev tailRules : Found
+  tailRules = each (mapFault τ) (τ .maps) 0 then each (sharesFault τ) (τ .maps) 0 then each (splitFault τ) (τ .sas .ops) 0
+
+  end-told : (g : List ℕ) (l : ℕ) → Small τ → theEnd [] l (finished g) ≡ judged (each (splitFault τ) (τ .sas .ops) 0) (accepted (finished g))
+  unfolding theEnd
+  end-told g l s =
+      over-told τ (finished g) (costAt (costsDone τ c)) (shareAt (sharesDone τ h)) (costs-own τ s c lc zc) (shares-own τ s h lh zh) (τ .sas .ops) 0 (omega arith)
+
+  tail-told : (g : List ℕ) → Small τ → Known τ (made (τ .sas .vars) (τ .sas .ops) (τ .maps) g (costsDone τ c) h)
+      → (mapLines ▸ shareLines) mapsFrom (8 + τ .sas .ops) (made (τ .sas .vars) (τ .sas .ops) (τ .maps) g (costsDone τ c) h) theEnd ≡ judged tailRules (accepted (finished g))
+  unfolding _▸_
+  tail-told g s w =
+      next (each (mapFault τ) (τ .maps) 0) (each (sharesFault τ) (τ .maps) 0 then each (splitFault τ) (τ .sas .ops) 0) _
+      (all-maps τ g (costsDone τ c) h (sharesText τ ++ []) _ (s .doms) w)
+      (λ q. next (each (sharesFault τ) (τ .maps) 0) (each (splitFault τ) (τ .sas .ops) 0) _
+      (all-shares τ (mapsDone τ g) (costsDone τ c) h [] theEnd)
+      (λ r. end-told g _ s))
+
+  maps-from : (g : List ℕ) (m : ℕ) → τ .sas .vars ≤ 8 → ((v : ℕ) → v < τ .sas .vars → τ .sas .dom v ≤ 8) → τ .sas .ops ≤ 64 → Known τ (made (τ .sas .vars) (τ .sas .ops) m g (costsDone τ c) h)
+      → (mapsLine ▸ mapLines ▸ shareLines) (keyed "maps=" (digits (τ .maps)) ++ mapsFrom) (7 + τ .sas .ops) (made (τ .sas .vars) (τ .sas .ops) m g (costsDone τ c) h) theEnd
+        ≡ judged (unless (scanWithin 1 8 (τ .maps)) (OutOfRange (7 + τ .sas .ops)) then tailRules) (accepted (finished g))
+  unfolding _▸_
+  maps-from g m a d b w =
+      let z : 7 + τ .sas .ops + 1 ≡ 8 + τ .sas .ops = omega arith in
+      next (unless (scanWithin 1 8 (τ .maps)) (OutOfRange (7 + τ .sas .ops))) tailRules _
+      (maps-told mapsFrom (7 + τ .sas .ops) (made (τ .sas .vars) (τ .sas .ops) m g (costsDone τ c) h) (τ .maps) _)
+      (λ q.
+      ap (λ (l : ℕ). (mapLines ▸ shareLines) mapsFrom l (made (τ .sas .vars) (τ .sas .ops) (τ .maps) g (costsDone τ c) h) theEnd) z
+      ∙ tail-told g (record { vars = a; doms = d; ops = b; maps = at-most 1 8 (τ .maps) (OutOfRange (7 + τ .sas .ops)) q }) (record { vars = refl; few = w .few; doms = w .doms }))
+
+  abbrev opsRules : Found
+  opsRules = each (operatorFault τ) (τ .sas .ops) 0 then unless (scanWithin 1 8 (τ .maps)) (OutOfRange (7 + τ .sas .ops)) then tailRules
+
+  ops-from : (g : List ℕ) (m o : ℕ) → τ .sas .vars ≤ 8 → ((v : ℕ) → v < τ .sas .vars → τ .sas .dom v ≤ 8) → Known τ (made (τ .sas .vars) o m g c h)
+      → (opsLine ▸ opLines ▸ mapsLine ▸ mapLines ▸ shareLines) (keyed "ops=" (digits (τ .sas .ops)) ++ opsFrom) 6 (made (τ .sas .vars) o m g c h) theEnd
+        ≡ judged (unless (leb (τ .sas .ops) 64) (OutOfRange 6) then opsRules) (accepted (finished (opsDone τ g)))
+  unfolding _▸_
+  ops-from g m o a d w =
+      next (unless (leb (τ .sas .ops) 64) (OutOfRange 6)) opsRules _
+      (ops-told opsFrom 6 (made (τ .sas .vars) o m g c h) (τ .sas .ops) _)
+      (λ q. next (each (operatorFault τ) (τ .sas .ops) 0) (unless (scanWithin 1 8 (τ .maps)) (OutOfRange (7 + τ .sas .ops)) then tailRules) _
+      (all-ops τ m g c h (keyed "maps=" (digits (τ .maps)) ++ mapsFrom) _ (record { vars = refl; few = w .few; doms = w .doms }))
+      (λ r. maps-from (opsDone τ g) m a d (leb-true (τ .sas .ops) 64 (clean-rule (leb (τ .sas .ops) 64) (OutOfRange 6) q))
+      (known g m w)))
+    where
+      known : (g : List ℕ) (m : ℕ) → Known τ (made (τ .sas .vars) o m g c h) → Known τ (made (τ .sas .vars) (τ .sas .ops) m (opsDone τ g) (costsDone τ c) h)
+      known g m w =
+          knows-changed (opRows τ) (knows-rows τ) (τ .sas .ops) 0 (made (τ .sas .vars) (τ .sas .ops) m g (costsDone τ c) h) (record { vars = refl; few = w .few; doms = w .doms })
+
+  -- the facts once dom= is read
+  abbrev domDone : List ℕ
+  domDone = row domPlace (τ .sas .dom) (τ .sas .vars) f
+
+  abbrev initDone : List ℕ
+  initDone = row initPlace (τ .sas .init) (τ .sas .vars) domDone
+
+  abbrev goalFrom : List ℕ
+  goalFrom = keyed "goal=" (someFacts (τ .sas .goal) (τ .sas .vars) 0) ++ (keyed "ops=" (digits (τ .sas .ops)) ++ opsFrom)
+
+  abbrev goalRules : Found
+  goalRules = factsFault τ (τ .sas .goal) 5 then unless (leb (τ .sas .ops) 64) (OutOfRange 6) then opsRules
+
+  goal-from : (m o : ℕ) → τ .sas .vars ≤ 8 → ((v : ℕ) → v < τ .sas .vars → τ .sas .dom v ≤ 8) → Known τ (made (τ .sas .vars) o m initDone c h)
+      → (goalLine ▸ opsLine ▸ opLines ▸ mapsLine ▸ mapLines ▸ shareLines) goalFrom 5 (made (τ .sas .vars) o m initDone c h) theEnd
+        ≡ judged goalRules (accepted (finished (opsDone τ (headRows τ f))))
+  unfolding _▸_ headRows
+  goal-from m o a d w =
+      next (factsFault τ (τ .sas .goal) 5) (unless (leb (τ .sas .ops) 64) (OutOfRange 6) then opsRules) _
+      (goal-told τ (keyed "ops=" (digits (τ .sas .ops)) ++ opsFrom) 5 (made (τ .sas .vars) o m initDone c h) w _)
+      (λ q. ops-from (headRows τ f) m o a d (knows-facts goalPlace (τ .sas .goal) (λ v. omega arith) (τ .sas .vars) (made (τ .sas .vars) o m initDone c h) w))
+
+  known-doms : (m o : ℕ) → τ .sas .vars ≤ 8 → Known τ (made (τ .sas .vars) o m domDone c h)
+  known-doms m o a =
+      record {
+        vars = refl;
+        few = a;
+        doms = λ v b. writes-row domPlace (τ .sas .dom) (τ .sas .vars) v b (λ k e. omega arith) f (omega arith) (zf (domPlace v))
+      }
+
+  init-from : (m o : ℕ) → τ .sas .vars ≤ 8 → ((v : ℕ) → v < τ .sas .vars → τ .sas .dom v ≤ 8)
+      → (initLine ▸ goalLine ▸ opsLine ▸ opLines ▸ mapsLine ▸ mapLines ▸ shareLines) (keyed "init=" (numbers (τ .sas .init) (τ .sas .vars)) ++ goalFrom) 4 (made (τ .sas .vars) o m domDone c h) theEnd
+        ≡ judged (each (λ v. unless (ltb (τ .sas .init v) (τ .sas .dom v)) (OutOfRange 4)) (τ .sas .vars) 0 then goalRules) (accepted (finished (opsDone τ (headRows τ f))))
+  unfolding _▸_
+  init-from m o a d =
+      let T = made (τ .sas .vars) o m domDone c h in
+      next (each (λ v. unless (ltb (τ .sas .init v) (τ .sas .dom v)) (OutOfRange 4)) (τ .sas .vars) 0) goalRules _
+      (init-told τ goalFrom 4 T (known-doms m o a) _)
+      (λ q. goal-from m o a d (knows-row initPlace (τ .sas .init) (λ v. omega arith) (τ .sas .vars) T (known-doms m o a)))
+
+  abbrev linesText : List ℕ
+  linesText =
+      keyed "edition=" (digits 1)
+      ++ (keyed "vars=" (digits (τ .sas .vars))
+      ++ (keyed "dom=" (numbers (τ .sas .dom) (τ .sas .vars)) ++ (keyed "init=" (numbers (τ .sas .init) (τ .sas .vars)) ++ goalFrom)))
+
+  spelled-lines : spelled τ ≡ linesText
+  unfolding spelled
+  spelled-lines = simp (append-assoc, append-nil)
+
+  lines-from : (v o m : ℕ) → taskLines (spelled τ) 1 (made v o m f c h) theEnd ≡ judged (taskFault τ) (accepted (finished (opsDone τ (headRows τ f))))
+  unfolding taskLines taskFault _▸_
+  lines-from v o m =
+      let doms : ℕ → Found = λ u. unless (scanWithin 1 8 (τ .sas .dom u)) (OutOfRange 3) in
+      let inits : ℕ → Found = λ u. unless (ltb (τ .sas .init u) (τ .sas .dom u)) (OutOfRange 4) in
+      ap (λ (t : List ℕ). taskLines t 1 (made v o m f c h) theEnd) spelled-lines
+      ∙ edition-told _ 1 (made v o m f c h) _
+      ∙ next (unless (scanWithin 1 8 (τ .sas .vars)) (OutOfRange 2)) (each doms (τ .sas .vars) 0 then each inits (τ .sas .vars) 0 then goalRules) _
+      (vars-told _ 2 (made v o m f c h) (τ .sas .vars) _)
+      (λ q.
+      let a = at-most 1 8 (τ .sas .vars) (OutOfRange 2) q in
+      next (each doms (τ .sas .vars) 0) (each inits (τ .sas .vars) 0 then goalRules) _
+      (dom-told τ _ 3 (made (τ .sas .vars) o m f c h) refl _)
+      (λ r. init-from m o a (λ u b. at-most 1 8 (τ .sas .dom u) (OutOfRange 3) (clean-each doms (τ .sas .vars) 0 u r (omega arith) (omega arith)))))
+
+-- THE SCAN IS THE GRAMMAR, for a task
+pub spelled-judged : (τ : Task) → verdict (spelled τ) ≡ judged (taskFault τ) (accepted (tablesOf τ))
+unfolding verdict noTask tablesOf
+spelled-judged τ =
+    lines-from τ (replicate factsRoom 0) (replicate costsRoom 0) (replicate sharesRoom 0) (length-replicate {A = ℕ} factsRoom 0) (zeros factsRoom) (length-replicate {A = ℕ} costsRoom 0) (zeros costsRoom)
+    (length-replicate {A = ℕ} sharesRoom 0) (zeros sharesRoom) 0 0 0
+
+-- and for tables with any content: they get the line that the same task's text would have
+pub scan-is-grammar : (t : Tables) → verdict (textOf t) ≡ judged (taskFault (taskOf t)) (accepted (canon t))
+scan-is-grammar t = spelled-judged (taskOf t)
+
+pub fault-refused : (t : Tables) (r : Refusal) → taskFault (taskOf t) ≡ Fault r → verdict (textOf t) ≡ refused r
+fault-refused t r p = scan-is-grammar t ∙ ap (λ (f : Found). judged f (accepted (canon t))) p
+
+pub clean-accepted : (t : Tables) → taskFault (taskOf t) ≡ Clean → verdict (textOf t) ≡ accepted (canon t)
+clean-accepted t p = scan-is-grammar t ∙ ap (λ (f : Found). judged f (accepted (canon t))) p
