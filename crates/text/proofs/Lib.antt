@@ -8,3 +8,4 @@ pub mod SpellTables
 pub mod SpellOwn
 pub mod SpellLines
 pub mod SpellTask
+pub mod SpellBack
