@@ -9,3 +9,4 @@ pub mod SpellOwn
 pub mod SpellLines
 pub mod SpellTask
 pub mod SpellBack
+pub mod SpellBackFacts
