@@ -10,3 +10,4 @@ pub mod SpellLines
 pub mod SpellTask
 pub mod SpellBack
 pub mod SpellBackFacts
+pub mod SpellBackLines
