@@ -11,3 +11,4 @@ pub mod SpellTask
 pub mod SpellBack
 pub mod SpellBackFacts
 pub mod SpellBackLines
+pub mod SpellBackTask
