@@ -12,3 +12,4 @@ pub mod SpellBack
 pub mod SpellBackFacts
 pub mod SpellBackLines
 pub mod SpellBackTask
+pub mod SpellAccepted

@@ -44,7 +44,7 @@ module _ (τ : Task) (s : Small τ) where
 
   -- ---- the head
 
-  spares-head : (p : ℕ) → 24 ≤ p → Spares (headRows τ) p
+  pub spares-head : (p : ℕ) → 24 ≤ p → Spares (headRows τ) p
   unfolding headRows
   spares-head p h w =
       let a = s .vars in

@@ -212,7 +212,7 @@ and-second : (a b : Bool) → (a && b) ≡ true → b ≡ true
 and-second true b p = p
 and-second false b p = clash p refl
 
-at-most : (least most x : ℕ) (r : Refusal) → unless (scanWithin least most x) r ≡ Clean → x ≤ most
+pub at-most : (least most x : ℕ) (r : Refusal) → unless (scanWithin least most x) r ≡ Clean → x ≤ most
 at-most least most x r q = leb-true x most (and-second (leb least x) (leb x most) (clean-rule (scanWithin least most x) r q))
 
 module _ (τ : Task) (f c h : List ℕ) (lf : length f ≡ 1624) (zf : (p : ℕ) → getD f p 0 ≡ 0) (lc : length c ≡ 64) (zc : (p : ℕ) → getD c p 0 ≡ 0)
