@@ -225,7 +225,7 @@ digits-read v u s =
     record {
       form = formed-digits v u s;
       says = ap (λ (x : List ℕ). value 0 x) (take-at (digits v) u _ (sym n)) ∙ value-digits v;
-      rest = drop-at (digits v) u _ (sym n)
+      rest = drop-at (digits v) u _ (sym n);
     }
 
 -- a number's text begins with a digit

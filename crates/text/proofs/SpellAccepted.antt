@@ -96,14 +96,14 @@ unfolding taskFault
 clean-small τ p =
     let doms : ℕ → Found = λ v. unless (scanWithin 1 8 (τ .sas .dom v)) (OutOfRange 3) in
     let q = limits-hold (unless (scanWithin 1 8 (τ .sas .vars)) (OutOfRange 2)) (each doms (τ .sas .vars) 0)
-        (each (λ v. unless (ltb (τ .sas .init v) (τ .sas .dom v)) (OutOfRange 4)) (τ .sas .vars) 0) (factsFault τ (τ .sas .goal) 5) (unless (leb (τ .sas .ops) 64) (OutOfRange 6))
-        (each (operatorFault τ) (τ .sas .ops) 0) (unless (scanWithin 1 8 (τ .maps)) (OutOfRange (7 + τ .sas .ops)))
-        (each (mapFault τ) (τ .maps) 0 then each (sharesFault τ) (τ .maps) 0 then each (splitFault τ) (τ .sas .ops) 0) p in
+    (each (λ v. unless (ltb (τ .sas .init v) (τ .sas .dom v)) (OutOfRange 4)) (τ .sas .vars) 0) (factsFault τ (τ .sas .goal) 5) (unless (leb (τ .sas .ops) 64) (OutOfRange 6))
+    (each (operatorFault τ) (τ .sas .ops) 0) (unless (scanWithin 1 8 (τ .maps)) (OutOfRange (7 + τ .sas .ops)))
+    (each (mapFault τ) (τ .maps) 0 then each (sharesFault τ) (τ .maps) 0 then each (splitFault τ) (τ .sas .ops) 0) p in
     record {
       vars = at-most 1 8 (τ .sas .vars) (OutOfRange 2) (q .0);
       doms = λ v h. at-most 1 8 (τ .sas .dom v) (OutOfRange 3) (clean-each doms (τ .sas .vars) 0 v (q .1) (omega arith) (omega arith));
       ops = leb-true (τ .sas .ops) 64 (clean-rule (leb (τ .sas .ops) 64) (OutOfRange 6) (q .2));
-      maps = at-most 1 8 (τ .maps) (OutOfRange (7 + τ .sas .ops)) (q .3)
+      maps = at-most 1 8 (τ .maps) (OutOfRange (7 + τ .sas .ops)) (q .3);
     }
 
 -- ---- the tables of a small task spell the same text
@@ -183,7 +183,7 @@ own-numbers τ s =
       pre = pre-in τ s _ l z;
       eff = eff-in τ s _ l z;
       class = class-in τ s _ l z;
-      share = shares-own τ s _ (length-replicate {A = ℕ} sharesRoom 0) (zeros sharesRoom)
+      share = shares-own τ s _ (length-replicate {A = ℕ} sharesRoom 0) (zeros sharesRoom);
     }
 
 same-lines : (a b c c′ d d′ e e′ f g g′ h i i′ j j′ : List ℕ) → c ≡ c′ → d ≡ d′ → e ≡ e′ → g ≡ g′ → i ≡ i′ → j ≡ j′

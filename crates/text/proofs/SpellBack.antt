@@ -158,7 +158,7 @@ module _ (least : ℕ) (limit : ℕ → Tables → ℕ) (put : ℕ → ℕ → T
         what = at i v (r .what);
         rest = r .rest;
         says = joined-at i v (r .what) n comma (λ j. digits) t (a .rest) (b .rest) (r .rest) (a .says) (b .says) (r .says);
-        then = ap (k (r .rest) l) (sym (changed-at i v (r .what) n put T)) ∙ r .then
+        then = ap (k (r .rest) l) (sym (changed-at i v (r .what) n put T)) ∙ r .then;
       }
 
 -- A LINE
@@ -177,7 +177,7 @@ line-back A key p l T text change back t k W h =
       what = b .what;
       rest = c .rest;
       says = ended (bytes key) (text (b .what)) t (a .rest) (b .rest) (c .rest) (a .says) (b .says) (c .says);
-      then = c .then
+      then = c .then;
     }
   where
     ended : (x y t u v w : List ℕ) → t ≡ x ++ u → u ≡ y ++ v → v ≡ lineEnd ∷ w → t ≡ ((x ++ y) ++ lineEnd ∷ []) ++ w
@@ -200,5 +200,5 @@ module _ (A : Type 0) (none : A) (p : ℕ → Part) (text : ℕ → A → List �
         rest = r .rest;
         says = stacked-at i (a .what) (r .what) n text t (a .rest) (r .rest) (a .says) (r .says);
         then = ap (λ (m : ℕ). k (r .rest) m (changed (λ j. change j (at i (a .what) (r .what) j)) (suc n) i T)) z
-            ∙ ap (k (r .rest) (l + 1 + n)) (sym (changed-at i (a .what) (r .what) n change T)) ∙ r .then
+            ∙ ap (k (r .rest) (l + 1 + n)) (sym (changed-at i (a .what) (r .what) n change T)) ∙ r .then;
       }

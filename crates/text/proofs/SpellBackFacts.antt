@@ -187,7 +187,7 @@ module _ (place : ℕ → ℕ) (N l : ℕ) (k : Next) (W : Tables) where
         then =
             ap (λ (y : ℕ). choice comma (facts place n y) nothing (x .rest) l (putFact (place v) (suc (x .what)) T) k) (sym (add-one v))
             ∙ ap (λ (y : ℕ). choice comma (facts place n (v + 1)) nothing (x .rest) l (putFact (place v) y T) k) (sym (add-one (x .what)))
-            ∙ x .then .1
+            ∙ x .then .1;
       }
     where
       told : (y z t u v w : List ℕ) → t ≡ y ++ u → u ≡ colon ∷ v → v ≡ z ++ w → t ≡ (y ++ colon ∷ z) ++ w
@@ -243,7 +243,7 @@ module _ (place : ℕ → ℕ) (N l : ℕ) (k : Next) (W : Tables) where
                 p
                 ∙ ap (λ (x : List ℕ). comma ∷ x) (o .says ∙ ap (λ (x : List ℕ). fact (o .var) (o .val) ++ x) (q .says) ∙ sym (append-assoc (fact (o .var) (o .val)) _ (q .rest)))
                 ∙ ap (λ (x : List ℕ). x ++ q .rest) (sym (more-from place i (o .var - i) (o .val) left (o .var) r (q .what) skipped counted));
-            then = all-put
+            then = all-put;
           }
 
       some-joined : Read r i (λ F. someFacts F r i) u T
@@ -256,7 +256,7 @@ module _ (place : ℕ → ℕ) (N l : ℕ) (k : Next) (W : Tables) where
                 ∙ ap (λ (x : List ℕ). fact (o .var) (o .val) ++ x) (q .says)
                 ∙ sym (append-assoc (fact (o .var) (o .val)) _ (q .rest))
                 ∙ ap (λ (x : List ℕ). x ++ q .rest) (sym (some-from place i (o .var - i) (o .val) left (o .var) r (q .what) skipped counted));
-            then = all-put
+            then = all-put;
           }
 
   more-nothing : (least r : ℕ) (t : List ℕ) (T : Tables) → k t l T ≡ accepted W → Read r least (λ F. moreFacts F r least) t T
@@ -265,7 +265,7 @@ module _ (place : ℕ → ℕ) (N l : ℕ) (k : Next) (W : Tables) where
         what = λ j. 0;
         rest = t;
         says = ap (λ (x : List ℕ). x ++ t) (sym (more-none r least));
-        then = ap (λ (w : List ℕ). k t l (on (λ x. w) T)) (put-none r least (T .facts)) ∙ q
+        then = ap (λ (w : List ℕ). k t l (on (λ x. w) T)) (put-none r least (T .facts)) ∙ q;
       }
 
   more-back : (n least r : ℕ) → least + r ≡ N → (t : List ℕ) (T : Tables) → T .counts .vars ≡ N → choice comma (facts place n least) nothing t l T k ≡ accepted W

@@ -67,7 +67,7 @@ module _ (m : ℕ) where
         what = at x c (r .what);
         rest = r .rest;
         says = joined-at x c (r .what) n comma (λ j. digits) t (a .rest) (b .rest) (r .rest) (a .says) (b .says) (r .says);
-        then = (r .then .0, ap (λ (w : List ℕ). p (r .then .0) (r .rest) l (on (λ y. w) T) k) (sym (changed-at x c (r .what) n (classPut v) (T .facts))) ∙ r .then .1)
+        then = (r .then .0, ap (λ (w : List ℕ). p (r .then .0) (r .rest) l (on (λ y. w) T) k) (sym (changed-at x c (r .what) n (classPut v) (T .facts))) ∙ r .then .1);
       }
 
   module _ (N : ℕ) (dom : ℕ → ℕ) where
@@ -88,12 +88,12 @@ module _ (m : ℕ) where
         let z = states * classCount (a .then .0) in
         let b = parted-back n slash l U (a .rest) _ W (a .then .1) in
         let r = variables-back n (suc v) z (omega arith) l U (knows-row (classPlace m v) c (λ j. omega arith) (dom v) T w) (b .rest) k W
-            (ap (λ (y : ℕ). variables m n y z (b .rest) l U k) (sym (add-one v)) ∙ b .then) in
+        (ap (λ (y : ℕ). variables m n y z (b .rest) l U k) (sym (add-one v)) ∙ b .then) in
         record {
           what = at v c (r .what);
           rest = r .rest;
           says = joined-at v c (r .what) n slash (λ u c. numbers c (dom u)) t (a .rest) (b .rest) (r .rest) (a .says) (b .says) (r .says);
-          then = ap (λ (x : List ℕ). k (r .rest) l (on (λ y. x) T)) (sym (changed-at v c (r .what) n rowPut (T .facts))) ∙ r .then
+          then = ap (λ (x : List ℕ). k (r .rest) l (on (λ y. x) T)) (sym (changed-at v c (r .what) n rowPut (T .facts))) ∙ r .then;
         }
 
 -- ---- an operator
@@ -131,7 +131,7 @@ operator-back N o l T e t k W h =
       says =
           pieces (digits (a .what)) (someFacts (c .what) N 0) (someFacts (f .what) N 0) t (a .rest) (b .rest) (c .rest) (d .rest) (f .rest) (a .says) (b .says) (c .says) (d .says)
           (f .says);
-      then = f .then
+      then = f .then;
     }
 
 -- ---- shares
@@ -147,7 +147,7 @@ amounts-back m (suc n) l T t k W h =
       what = a .what;
       rest = a .rest;
       says = a .says;
-      then = ap (k (a .rest) l) (sym (shares-changed (λ o x. set x (sharePlace m o) (a .what o)) (suc n) 0 T)) ∙ a .then
+      then = ap (k (a .rest) l) (sym (shares-changed (λ o x. set x (sharePlace m o) (a .what o)) (suc n) 0 T)) ∙ a .then;
     }
 
 -- ---- a row over the variables
@@ -161,5 +161,5 @@ varRow-back least limit place N l T e t k W h =
       what = a .what;
       rest = a .rest;
       says = a .says;
-      then = ap (k (a .rest) l) (sym (on-changed (λ v w. set w (place v) (a .what v)) N 0 T)) ∙ a .then
+      then = ap (k (a .rest) l) (sym (on-changed (λ v w. set w (place v) (a .what v)) N 0 T)) ∙ a .then;
     }

@@ -108,8 +108,8 @@ unfolding shareLines ask
 shares-back O M l T W t a b h =
     let p : ℕ → Part = λ m. line "share=" (amounts m O) in
     let r = lines-back (ℕ → ℕ) (λ o. 0) p (λ m f. keyed "share=" (shareText f O)) (λ m f. onShares (row (sharePlace m) f O)) (λ U. Unit {0}) (λ i f U u. tt)
-        (λ m i U u. line-back (ℕ → ℕ) "share=" (amounts m O) i U (λ f. shareText f O) (λ f. onShares (row (sharePlace m) f O) U) (amounts-back m O i U)) M 0 l T tt t theEnd W
-        (ap₂ (λ (x y : ℕ). lines (λ m. line "share=" (amounts m x)) y 0 t l T theEnd) (sym a) (sym b) ∙ h) in
+    (λ m i U u. line-back (ℕ → ℕ) "share=" (amounts m O) i U (λ f. shareText f O) (λ f. onShares (row (sharePlace m) f O) U) (amounts-back m O i U)) M 0 l T tt t theEnd W
+    (ap₂ (λ (x y : ℕ). lines (λ m. line "share=" (amounts m x)) y 0 t l T theEnd) (sym a) (sym b) ∙ h) in
     (r .what, r .says ∙ ap (λ (u : List ℕ). sharesSpelled O M (r .what) ++ u) (end-back (r .rest) _ _ W (r .then)) ∙ append-nil _)
 
 module _ (N : ℕ) (dom : ℕ → ℕ) (O : ℕ) where
@@ -123,10 +123,10 @@ module _ (N : ℕ) (dom : ℕ → ℕ) (O : ℕ) where
       let k : Next = λ u i U. shareLines u i U theEnd in
       let P : Tables → Type 0 = λ U. Knows N dom U × (U .counts .ops ≡ O) × (U .counts .maps ≡ M) in
       let keeps : (m : ℕ) (f : ℕ → ℕ → ℕ) (U : Tables) → P U → P (mapStored m f U) =
-          λ m f U u. (knows-changed (λ v. row (classPlace m v) (f v) (dom v)) (λ v X. knows-row (classPlace m v) (f v) (λ j. omega arith) (dom v) X) N 0 U (u .0), u .1, u .2) in
+      λ m f U u. (knows-changed (λ v. row (classPlace m v) (f v) (dom v)) (λ v X. knows-row (classPlace m v) (f v) (λ j. omega arith) (dom v) X) N 0 U (u .0), u .1, u .2) in
       let c = lines-back (ℕ → ℕ → ℕ) (λ v x. 0) (λ m. line "map=" (variables m N 0 1)) (λ m f. keyed "map=" (mapSpelled N dom f)) mapStored P keeps
-          (λ m i U u. line-back (ℕ → ℕ → ℕ) "map=" (variables m N 0 1) i U (mapSpelled N dom) (λ f. mapStored m f U) (variables-back m N dom N 0 1 (omega arith) i U (u .0))) M 0 l T
-          (w, a, b) t k W (ap₂ (λ (x y : ℕ). lines (λ m. line "map=" (variables m x 0 1)) y 0 t l T k) (sym (w .vars)) (sym b) ∙ h) in
+      (λ m i U u. line-back (ℕ → ℕ → ℕ) "map=" (variables m N 0 1) i U (mapSpelled N dom) (λ f. mapStored m f U) (variables-back m N dom N 0 1 (omega arith) i U (u .0))) M 0 l T
+      (w, a, b) t k W (ap₂ (λ (x y : ℕ). lines (λ m. line "map=" (variables m x 0 1)) y 0 t l T k) (sym (w .vars)) (sym b) ∙ h) in
       let q = kept P (λ m. mapStored m (c .what m)) (λ m U. keeps m (c .what m) U) M 0 T (w, a, b) in
       let d = shares-back O M (l + M) _ W (c .rest) (q .1) (q .2) (c .then) in
       (c .what, d .0, c .says ∙ ap (λ (u : List ℕ). mapsSpelled N dom M (c .what) ++ u) (d .1))
@@ -135,7 +135,7 @@ module _ (N : ℕ) (dom : ℕ → ℕ) (O : ℕ) where
   unfolding mapsLine _▸_ keep
   maps-back l T W t w a h =
       let b = line-back (Ranged 1 (mostMaps + 1)) "maps=" _ l T (λ x. digits (x .0)) _
-          (counted-back 1 (mostMaps + 1) (λ n. keep (λ U. withCounts (U .counts .vars) (U .counts .ops) n U)) l T (λ n. withCounts (T .counts .vars) (T .counts .ops) n T) (λ v u k. refl)) t _ W h in
+      (counted-back 1 (mostMaps + 1) (λ n. keep (λ U. withCounts (U .counts .vars) (U .counts .ops) n U)) l T (λ n. withCounts (T .counts .vars) (T .counts .ops) n T) (λ v u k. refl)) t _ W h in
       let M = b .what .0 in
       let c = mapRows-back M (l + 1) (withCounts (T .counts .vars) (T .counts .ops) M T) W (b .rest) (record { vars = w .vars; few = w .few; doms = w .doms }) a refl (b .then) in
       record { maps = M; class = c .0; share = c .1; says = b .says ∙ ap (λ (u : List ℕ). keyed "maps=" (digits M) ++ u) (c .2) }
@@ -166,8 +166,8 @@ module _ (N : ℕ) (dom : ℕ → ℕ) where
       let P : Tables → Type 0 = λ U. Knows N dom U × (U .counts .ops ≡ O) in
       let keeps : (o : ℕ) (b : Op) (U : Tables) → P U → P (opStored N o b U) = λ o b U u. (knows-stored o b U (u .0), u .1) in
       let c = lines-back Op (record { cost = 0; pre = λ v. 0; eff = λ v. 0 }) (λ o. line "op=" (operator o)) (λ o b. keyed "op=" (opSpelled N b)) (opStored N) P keeps
-          (λ o i U u. line-back Op "op=" (operator o) i U (opSpelled N) (λ b. opStored N o b U) (operator-back N o i U (u .0 .vars))) O 0 l T
-          (w, a) t k W (ap (λ (x : ℕ). lines (λ o. line "op=" (operator o)) x 0 t l T k) (sym a) ∙ h) in
+      (λ o i U u. line-back Op "op=" (operator o) i U (opSpelled N) (λ b. opStored N o b U) (operator-back N o i U (u .0 .vars))) O 0 l T
+      (w, a) t k W (ap (λ (x : ℕ). lines (λ o. line "op=" (operator o)) x 0 t l T k) (sym a) ∙ h) in
       let q = kept P (λ o. opStored N o (c .what o)) (λ o U. keeps o (c .what o) U) O 0 T (w, a) in
       (c .what, c .rest, maps-back N dom O (l + O) _ W (c .rest) (q .0) (q .1) (c .then), c .says)
 
@@ -175,7 +175,7 @@ module _ (N : ℕ) (dom : ℕ → ℕ) where
   unfolding opsLine _▸_ keep
   ops-back l T W t w h =
       let b = line-back (Ranged 0 (mostOps + 1)) "ops=" _ l T (λ x. digits (x .0)) _
-          (counted-back 0 (mostOps + 1) (λ n. keep (λ U. withCounts (U .counts .vars) n (U .counts .maps) U)) l T (λ n. withCounts (T .counts .vars) n (T .counts .maps) T) (λ v u k. refl)) t _ W h in
+      (counted-back 0 (mostOps + 1) (λ n. keep (λ U. withCounts (U .counts .vars) n (U .counts .maps) U)) l T (λ n. withCounts (T .counts .vars) n (T .counts .maps) T) (λ v u k. refl)) t _ W h in
       let O = b .what .0 in
       let c = opRows-back O (l + 1) (withCounts (T .counts .vars) O (T .counts .maps) T) W (b .rest) (record { vars = w .vars; few = w .few; doms = w .doms }) refl (b .then) in
       record { ops = O; op = c .0; rest = c .1; later = c .2; says = b .says ∙ ap (λ (u : List ℕ). keyed "ops=" (digits O) ++ u) (c .3) }
@@ -197,7 +197,7 @@ module _ (f : List ℕ) (lf : length f ≡ 1624) (zf : (p : ℕ) → getD f p 0 
       record {
         vars = c;
         few = h;
-        doms = λ v l. ap (λ (w : List ℕ). getD (row domPlace dom N w) (domPlace v) 0) e ∙ writes-row domPlace dom N v l (λ k q. omega arith) f (omega arith) (zf (domPlace v))
+        doms = λ v l. ap (λ (w : List ℕ). getD (row domPlace dom N w) (domPlace v) 0) e ∙ writes-row domPlace dom N v l (λ k q. omega arith) f (omega arith) (zf (domPlace v));
       }
 
   -- from goal= on, and from dom= on
@@ -216,7 +216,7 @@ module _ (f : List ℕ) (lf : length f ≡ 1624) (zf : (p : ℕ) → getD f p 0 
         goal = a .what;
         rest = a .rest;
         later = ops-back N dom (l + 1) _ W (a .rest) (knows-facts goalPlace (a .what) (λ v. omega arith) N T w) (a .then);
-        says = a .says
+        says = a .says;
       }
 
   record DomBack (N : ℕ) (t : List ℕ) : Type 0 where
@@ -243,7 +243,7 @@ module _ (f : List ℕ) (lf : length f ≡ 1624) (zf : (p : ℕ) → getD f p 0 
         rest = b .rest;
         later = goal-back N (a .what) (l + 1 + 1) _ W (b .rest) (knows-row initPlace (b .what) (λ v. omega arith) N T₁ w) (b .then);
         first = a .says;
-        second = b .says
+        second = b .says;
       }
 
   -- a task put together from what was read
@@ -260,11 +260,11 @@ module _ (f : List ℕ) (lf : length f ≡ 1624) (zf : (p : ℕ) → getD f p 0 
               ops = o .ops;
               cost = λ i. o .op i .cost;
               pre = λ i. o .op i .pre;
-              eff = λ i. o .op i .eff
+              eff = λ i. o .op i .eff;
             };
         maps = o .later .maps;
         class = o .later .class;
-        share = o .later .share
+        share = o .later .share;
       }
 
   one : (v : ℕ) → within v 1 2 ≡ true → v ≡ 1
@@ -275,19 +275,20 @@ module _ (f : List ℕ) (lf : length f ≡ 1624) (zf : (p : ℕ) → getD f p 0 
   lines-back-all T W x e h =
       let a = line-back (Ranged 1 2) "edition=" (number 1 2 (λ v. nothing)) 1 T (λ y. digits (y .0)) (λ y. T) (counted-back 1 2 (λ v. nothing) 1 T (λ v. T) (λ v u k. refl)) x _ W h in
       let b = line-back (Ranged 1 (mostVars + 1)) "vars=" _ 2 T (λ y. digits (y .0)) _
-          (counted-back 1 (mostVars + 1) (λ n. keep (λ U. withCounts n (U .counts .ops) (U .counts .maps) U)) 2 T (λ n. withCounts n (T .counts .ops) (T .counts .maps) T) (λ v u k. refl)) (a .rest) _ W (a .then) in
+      (counted-back 1 (mostVars + 1) (λ n. keep (λ U. withCounts n (U .counts .ops) (U .counts .maps) U)) 2 T (λ n. withCounts n (T .counts .ops) (T .counts .maps) T) (λ v u k. refl)) (a .rest) _ W (a .then) in
       let N = b .what .0 in
       let n : N ≤ 8 = let r = in-range N 1 (mostVars + 1) (b .what .1) in omega arith in
       let d = dom-back N 3 (withCounts N (T .counts .ops) (T .counts .maps) T) W (b .rest) e refl n (b .then) in
       let g = d .later in
       let o = g .later in
-      let m = o .later in
-      (task N (b .rest) d,
-      chain (keyed "edition=" (digits 1)) (keyed "vars=" (digits N)) (keyed "dom=" (numbers (d .dom) N)) (keyed "init=" (numbers (d .init) N)) (keyed "goal=" (someFacts (g .goal) N 0))
-      (keyed "ops=" (digits (o .ops))) (opsSpelled N (o .ops) (o .op)) (keyed "maps=" (digits (m .maps))) (mapsSpelled N (d .dom) (m .maps) (m .class)) (sharesSpelled (o .ops) (m .maps) (m .share))
-      x (a .rest) (b .rest) (d .mid) (d .rest) (g .rest) (o .rest)
-      (a .says ∙ ap (λ (v : ℕ). keyed "edition=" (digits v) ++ a .rest) (one (a .what .0) (a .what .1)))
-      (b .says) (d .first) (d .second) (g .says) (o .says) (m .says))
+      let m = o .later in (
+        task N (b .rest) d,
+        chain (keyed "edition=" (digits 1)) (keyed "vars=" (digits N)) (keyed "dom=" (numbers (d .dom) N)) (keyed "init=" (numbers (d .init) N)) (keyed "goal=" (someFacts (g .goal) N 0))
+            (keyed "ops=" (digits (o .ops))) (opsSpelled N (o .ops) (o .op)) (keyed "maps=" (digits (m .maps))) (mapsSpelled N (d .dom) (m .maps) (m .class)) (sharesSpelled (o .ops) (m .maps) (m .share))
+            x (a .rest) (b .rest) (d .mid) (d .rest) (g .rest) (o .rest)
+            (a .says ∙ ap (λ (v : ℕ). keyed "edition=" (digits v) ++ a .rest) (one (a .what .0) (a .what .1)))
+            (b .says) (d .first) (d .second) (g .says) (o .says) (m .says),
+      )
 
 -- AN ACCEPTED TEXT SPELLS A TASK
 pub accepted-task : (x : List ℕ) (W : Tables) → verdict x ≡ accepted W → (τ : Task) × (x ≡ spelled τ)

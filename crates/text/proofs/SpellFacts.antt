@@ -112,12 +112,12 @@ module _ (place : ℕ → ℕ) (high : (v : ℕ) → 8 ≤ place v) (F : Facts) 
   -- one fact
   fact-told : (m least v k : ℕ) (u : List ℕ) (T : Tables) (go : Next) → Stop u → least ≤ v → v < N → Knows N dom T
       → facts place (suc m) least (fact v k ++ u) l T go
-        ≡ judged (unless (leb (suc k) (dom v)) (OutOfRange l)) (choice comma (facts place m (suc v)) nothing u l (on (said (suc k) (place v)) T) go)
+      ≡ judged (unless (leb (suc k) (dom v)) (OutOfRange l)) (choice comma (facts place m (suc v)) nothing u l (on (said (suc k) (place v)) T) go)
   unfolding facts fact said _▸_ keep
   fact-told m least v k u T go s p q w =
       let inner : (x : ℕ) → Part = λ x. keep (putFact (place v) (x + 1)) ▸ choice comma (facts place m (v + 1)) nothing in
       let outer : (x : ℕ) → Part = λ x. demand (leb least x) NotRising ▸ lit (colon ∷ [])
-          ▸ number 0 (domAt (T .facts) x) (λ y. keep (putFact (place x) (y + 1)) ▸ choice comma (facts place m (x + 1)) nothing) in
+      ▸ number 0 (domAt (T .facts) x) (λ y. keep (putFact (place x) (y + 1)) ▸ choice comma (facts place m (x + 1)) nothing) in
       ap (λ (xs : List ℕ). facts place (suc m) least xs l T go) (append-assoc (digits v) (colon ∷ digits k) u)
       ∙ number-told 0 (T .counts .vars) v outer (colon ∷ (digits k ++ u)) l T go (other colon-no-digit)
       ∙ passed _ _ (within-below v (T .counts .vars) ∙ lt-ltb v (T .counts .vars) (omega (arith, w .vars)))
@@ -146,7 +146,7 @@ module _ (place : ℕ → ℕ) (high : (v : ℕ) → 8 ≤ place v) (F : Facts) 
 
   more-next : (n v : ℕ) → MoreTold n (suc v) → v + suc n ≡ N → (x m least : ℕ) → suc n ≤ m → least ≤ v → (T : Tables) → Knows N dom T → (k : Next)
       → choice comma (facts place m least) nothing ((another x v ++ moreFacts F n (suc v)) ++ b ∷ t) l T k
-        ≡ judged (unless (leb x (dom v)) (OutOfRange l) then each (factRule dom F l) n (suc v)) (k (b ∷ t) l (on (changed (λ v. said (F v) (place v)) n (suc v)) (on (said x (place v)) T)))
+      ≡ judged (unless (leb x (dom v)) (OutOfRange l) then each (factRule dom F l) n (suc v)) (k (b ∷ t) l (on (changed (λ v. said (F v) (place v)) n (suc v)) (on (said x (place v)) T)))
   unfolding choice another pick said
   more-next n v ih r zero m least p q T w k =
       ih m least (omega arith) (omega arith) T w k
@@ -178,7 +178,7 @@ module _ (place : ℕ → ℕ) (high : (v : ℕ) → 8 ≤ place v) (F : Facts) 
 
   some-next : (n v : ℕ) → SomeTold n (suc v) → v + suc n ≡ N → (x : ℕ) (T : Tables) → Knows N dom T → (k : Next)
       → factList place (first x v (moreFacts F n (suc v)) (someFacts F n (suc v)) ++ b ∷ t) l T k
-        ≡ judged (unless (leb x (dom v)) (OutOfRange l) then each (factRule dom F l) n (suc v)) (k (b ∷ t) l (on (changed (λ v. said (F v) (place v)) n (suc v)) (on (said x (place v)) T)))
+      ≡ judged (unless (leb x (dom v)) (OutOfRange l) then each (factRule dom F l) n (suc v)) (k (b ∷ t) l (on (changed (λ v. said (F v) (place v)) n (suc v)) (on (said x (place v)) T)))
   unfolding first said
   some-next n v ih r zero T w k =
       ih T w k

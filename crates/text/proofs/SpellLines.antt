@@ -129,7 +129,7 @@ module _ (key : String) (least : ℕ) (limit : ℕ → Tables → ℕ) (place f 
 module _ (τ : Task) (rest : List ℕ) (l : ℕ) (T : Tables) where
   pub dom-told : T .counts .vars ≡ τ .sas .vars
       → ToldLine domLine (keyed "dom=" (numbers (τ .sas .dom) (τ .sas .vars))) rest l T (each (λ v. unless (scanWithin 1 8 (τ .sas .dom v)) (OutOfRange l)) (τ .sas .vars) 0)
-        (on (row domPlace (τ .sas .dom) (τ .sas .vars)) T)
+      (on (row domPlace (τ .sas .dom) (τ .sas .vars)) T)
   unfolding domLine
   dom-told e =
       row-line "dom=" 1 (λ v U. mostValues + 1) domPlace (τ .sas .dom) (λ v. scanWithin 1 8 (τ .sas .dom v)) (λ U. Unit {0}) (τ .sas .vars)
@@ -137,7 +137,7 @@ module _ (τ : Task) (rest : List ℕ) (l : ℕ) (T : Tables) where
 
   pub init-told : Knows (τ .sas .vars) (τ .sas .dom) T
       → ToldLine initLine (keyed "init=" (numbers (τ .sas .init) (τ .sas .vars))) rest l T (each (λ v. unless (ltb (τ .sas .init v) (τ .sas .dom v)) (OutOfRange l)) (τ .sas .vars) 0)
-        (on (row initPlace (τ .sas .init) (τ .sas .vars)) T)
+      (on (row initPlace (τ .sas .init) (τ .sas .vars)) T)
   unfolding initLine
   init-told w =
       row-line "init=" 0 (λ v U. domAt (U .facts) v) initPlace (τ .sas .init) (λ v. ltb (τ .sas .init v) (τ .sas .dom v)) (Knows (τ .sas .vars) (τ .sas .dom)) (τ .sas .vars)

@@ -69,7 +69,7 @@ module _ (τ : Task) (m l : ℕ) where
   classes-told : (v : ℕ) (p : List ℕ → Part) (rest : List ℕ) → Stop rest → v < τ .sas .vars → (n x : ℕ) (cs : List ℕ) (T : Tables) → Knows (τ .sas .vars) (τ .sas .dom) T
       → (k : Next)
       → classes m v p n x cs (joined comma (λ y. digits (τ .class m v y)) n x ++ rest) l T k
-        ≡ judged (each (classRule v) n x) (classes m v p 0 0 (listed (τ .class m v) n x cs) rest l (on (changed (classSet v) n x) T) k)
+      ≡ judged (each (classRule v) n x) (classes m v p 0 0 (listed (τ .class m v) n x cs) rest l (on (changed (classSet v) n x) T) k)
   unfolding classes each listed changed _▸_ keep
   classes-told v p rest s a zero x cs T w k = rw (joined-none comma (λ y. digits (τ .class m v y)) 0 x refl) refl
   classes-told v p rest s a (suc n) x cs T w k =
@@ -99,7 +99,7 @@ module _ (τ : Task) (m l : ℕ) where
   variable-told : (v : ℕ) (p : List ℕ → Part) (rest : List ℕ) → Stop rest → v < τ .sas .vars → τ .sas .dom v ≤ 8 → (T : Tables) → Knows (τ .sas .vars) (τ .sas .dom) T
       → (k : Next)
       → classes m v p (domAt (T .facts) v) 0 [] (numbers (τ .class m v) (τ .sas .dom v) ++ rest) l T k
-        ≡ judged (classesFault τ m l v) (p (listed (τ .class m v) (τ .sas .dom v) 0 []) rest l (on (row (classPlace m v) (τ .class m v) (τ .sas .dom v)) T) k)
+      ≡ judged (classesFault τ m l v) (p (listed (τ .class m v) (τ .sas .dom v) 0 []) rest l (on (row (classPlace m v) (τ .class m v) (τ .sas .dom v)) T) k)
   unfolding numbers classesFault row classes _▸_
   variable-told v p rest s a b T w k =
       let c = τ .class m v in
@@ -134,7 +134,7 @@ module _ (τ : Task) (m l : ℕ) where
         let U = on (mapSet v) T in
         let cs = listed (τ .class m v) (τ .sas .dom v) 0 [] in
         let count : classesFault τ m l v ≡ Clean → states * classCount cs ≡ size (view τ m .classes) (suc v) =
-            λ q. ap (λ (x : ℕ). states * x) (count-is (τ .class m v) (τ .sas .dom v) (low-all v (small v a) q)) ∙ ap (λ (x : ℕ). x * view τ m .classes v) z in
+        λ q. ap (λ (x : ℕ). states * x) (count-is (τ .class m v) (τ .sas .dom v) (low-all v (small v a) q)) ∙ ap (λ (x : ℕ). x * view τ m .classes v) z in
         next {B = parted n slash (gap slash n ++ (tail ++ rest)) l U (λ u i W. variables m n (v + 1) (states * classCount cs) u i W k)}
         (classesFault τ m l v) (each (classesFault τ m l) n (suc v) then statesRule) _
         (ap (λ (t : List ℕ). variables m (suc n) v states t l T k) (joined-front slash text n v rest)

@@ -113,7 +113,7 @@ module _ (τ : Task) (T : Tables) (cost : ℕ → ℕ) (share : ℕ → ℕ → 
     where
       go : (b : Bool) → settled (overLine cost share (τ .maps) n (o + 1)) T ≡ judged (each (splitFault τ) n (suc o)) (accepted T)
           → settled (pick b (overLine cost share (τ .maps) n (o + 1)) (opLine o)) T
-            ≡ judged (unless b (SharesAboveCost (7 + o)) then each (splitFault τ) n (suc o)) (accepted T)
+          ≡ judged (unless b (SharesAboveCost (7 + o)) then each (splitFault τ) n (suc o)) (accepted T)
       go true h = h
       go false h = settled-over o T
 
@@ -149,7 +149,7 @@ module _ (τ : Task) where
 
   ops-changed : (n i : ℕ) (T : Tables)
       → changed (opChange τ) n i T
-        ≡ record { counts = T .counts; facts = changed (opRows τ) n i (T .facts); costs = changed (λ o x. set x o (τ .sas .cost o)) n i (T .costs); shares = T .shares }
+      ≡ record { counts = T .counts; facts = changed (opRows τ) n i (T .facts); costs = changed (λ o x. set x o (τ .sas .cost o)) n i (T .costs); shares = T .shares }
   unfolding changed
   ops-changed zero i T = refl
   ops-changed (suc n) i T = ops-changed n (suc i) (opChange τ i T)
@@ -169,7 +169,7 @@ module _ (τ : Task) where
 
   all-ops : (m : ℕ) (f c h rest : List ℕ) (k : Next) → Known (made (τ .sas .vars) (τ .sas .ops) m f c h)
       → opLines (opsText ++ rest) 7 (made (τ .sas .vars) (τ .sas .ops) m f c h) k
-        ≡ judged (each (operatorFault τ) (τ .sas .ops) 0) (k rest (7 + τ .sas .ops) (made (τ .sas .vars) (τ .sas .ops) m (opsDone f) (costsDone c) h))
+      ≡ judged (each (operatorFault τ) (τ .sas .ops) 0) (k rest (7 + τ .sas .ops) (made (τ .sas .vars) (τ .sas .ops) m (opsDone f) (costsDone c) h))
   unfolding opLines ask row
   all-ops m f c h rest k w =
       let T = made (τ .sas .vars) (τ .sas .ops) m f c h in
@@ -179,7 +179,7 @@ module _ (τ : Task) where
 
   all-maps : (f c h rest : List ℕ) (k : Next) → ((v : ℕ) → v < τ .sas .vars → τ .sas .dom v ≤ 8) → Known (made (τ .sas .vars) (τ .sas .ops) (τ .maps) f c h)
       → mapLines (mapsText ++ rest) (8 + τ .sas .ops) (made (τ .sas .vars) (τ .sas .ops) (τ .maps) f c h) k
-        ≡ judged (each (mapFault τ) (τ .maps) 0) (k rest (8 + τ .sas .ops + τ .maps) (made (τ .sas .vars) (τ .sas .ops) (τ .maps) (mapsDone f) c h))
+      ≡ judged (each (mapFault τ) (τ .maps) 0) (k rest (8 + τ .sas .ops + τ .maps) (made (τ .sas .vars) (τ .sas .ops) (τ .maps) (mapsDone f) c h))
   unfolding mapLines ask
   all-maps f c h rest k small w =
       let T = made (τ .sas .vars) (τ .sas .ops) (τ .maps) f c h in
@@ -193,7 +193,7 @@ module _ (τ : Task) where
 
   all-shares : (f c h rest : List ℕ) (k : Next)
       → shareLines (sharesText ++ rest) (8 + τ .sas .ops + τ .maps) (made (τ .sas .vars) (τ .sas .ops) (τ .maps) f c h) k
-        ≡ judged (each (sharesFault τ) (τ .maps) 0) (k rest (8 + τ .sas .ops + τ .maps + τ .maps) (made (τ .sas .vars) (τ .sas .ops) (τ .maps) f c (sharesDone h)))
+      ≡ judged (each (sharesFault τ) (τ .maps) 0) (k rest (8 + τ .sas .ops + τ .maps + τ .maps) (made (τ .sas .vars) (τ .sas .ops) (τ .maps) f c (sharesDone h)))
   unfolding shareLines ask
   all-shares f c h rest k =
       let T = made (τ .sas .vars) (τ .sas .ops) (τ .maps) f c h in
@@ -246,7 +246,7 @@ module _ (τ : Task) (f c h : List ℕ) (lf : length f ≡ 1624) (zf : (p : ℕ)
 
   maps-from : (g : List ℕ) (m : ℕ) → τ .sas .vars ≤ 8 → ((v : ℕ) → v < τ .sas .vars → τ .sas .dom v ≤ 8) → τ .sas .ops ≤ 64 → Known τ (made (τ .sas .vars) (τ .sas .ops) m g (costsDone τ c) h)
       → (mapsLine ▸ mapLines ▸ shareLines) (keyed "maps=" (digits (τ .maps)) ++ mapsFrom) (7 + τ .sas .ops) (made (τ .sas .vars) (τ .sas .ops) m g (costsDone τ c) h) theEnd
-        ≡ judged (unless (scanWithin 1 8 (τ .maps)) (OutOfRange (7 + τ .sas .ops)) then tailRules) (accepted (finished g))
+      ≡ judged (unless (scanWithin 1 8 (τ .maps)) (OutOfRange (7 + τ .sas .ops)) then tailRules) (accepted (finished g))
   unfolding _▸_
   maps-from g m a d b w =
       let z : 7 + τ .sas .ops + 1 ≡ 8 + τ .sas .ops = omega arith in
@@ -261,7 +261,7 @@ module _ (τ : Task) (f c h : List ℕ) (lf : length f ≡ 1624) (zf : (p : ℕ)
 
   ops-from : (g : List ℕ) (m o : ℕ) → τ .sas .vars ≤ 8 → ((v : ℕ) → v < τ .sas .vars → τ .sas .dom v ≤ 8) → Known τ (made (τ .sas .vars) o m g c h)
       → (opsLine ▸ opLines ▸ mapsLine ▸ mapLines ▸ shareLines) (keyed "ops=" (digits (τ .sas .ops)) ++ opsFrom) 6 (made (τ .sas .vars) o m g c h) theEnd
-        ≡ judged (unless (leb (τ .sas .ops) 64) (OutOfRange 6) then opsRules) (accepted (finished (opsDone τ g)))
+      ≡ judged (unless (leb (τ .sas .ops) 64) (OutOfRange 6) then opsRules) (accepted (finished (opsDone τ g)))
   unfolding _▸_
   ops-from g m o a d w =
       next (unless (leb (τ .sas .ops) 64) (OutOfRange 6)) opsRules _
@@ -290,7 +290,7 @@ module _ (τ : Task) (f c h : List ℕ) (lf : length f ≡ 1624) (zf : (p : ℕ)
 
   goal-from : (m o : ℕ) → τ .sas .vars ≤ 8 → ((v : ℕ) → v < τ .sas .vars → τ .sas .dom v ≤ 8) → Known τ (made (τ .sas .vars) o m initDone c h)
       → (goalLine ▸ opsLine ▸ opLines ▸ mapsLine ▸ mapLines ▸ shareLines) goalFrom 5 (made (τ .sas .vars) o m initDone c h) theEnd
-        ≡ judged goalRules (accepted (finished (opsDone τ (headRows τ f))))
+      ≡ judged goalRules (accepted (finished (opsDone τ (headRows τ f))))
   unfolding _▸_ headRows
   goal-from m o a d w =
       next (factsFault τ (τ .sas .goal) 5) (unless (leb (τ .sas .ops) 64) (OutOfRange 6) then opsRules) _
@@ -302,12 +302,12 @@ module _ (τ : Task) (f c h : List ℕ) (lf : length f ≡ 1624) (zf : (p : ℕ)
       record {
         vars = refl;
         few = a;
-        doms = λ v b. writes-row domPlace (τ .sas .dom) (τ .sas .vars) v b (λ k e. omega arith) f (omega arith) (zf (domPlace v))
+        doms = λ v b. writes-row domPlace (τ .sas .dom) (τ .sas .vars) v b (λ k e. omega arith) f (omega arith) (zf (domPlace v));
       }
 
   init-from : (m o : ℕ) → τ .sas .vars ≤ 8 → ((v : ℕ) → v < τ .sas .vars → τ .sas .dom v ≤ 8)
       → (initLine ▸ goalLine ▸ opsLine ▸ opLines ▸ mapsLine ▸ mapLines ▸ shareLines) (keyed "init=" (numbers (τ .sas .init) (τ .sas .vars)) ++ goalFrom) 4 (made (τ .sas .vars) o m domDone c h) theEnd
-        ≡ judged (each (λ v. unless (ltb (τ .sas .init v) (τ .sas .dom v)) (OutOfRange 4)) (τ .sas .vars) 0 then goalRules) (accepted (finished (opsDone τ (headRows τ f))))
+      ≡ judged (each (λ v. unless (ltb (τ .sas .init v) (τ .sas .dom v)) (OutOfRange 4)) (τ .sas .vars) 0 then goalRules) (accepted (finished (opsDone τ (headRows τ f))))
   unfolding _▸_
   init-from m o a d =
       let T = made (τ .sas .vars) o m domDone c h in

@@ -151,7 +151,7 @@ tablesOf T =
       counts = record { vars = T .sas .vars; ops = T .sas .ops; maps = T .maps };
       facts = changed (mapRows T) (T .maps) 0 (changed (opRows T) (T .sas .ops) 0 (headRows T (replicate factsRoom 0)));
       costs = row (λ o. o) (T .sas .cost) (T .sas .ops) (replicate costsRoom 0);
-      shares = changed (λ m. row (sharePlace m) (T .share m) (T .sas .ops)) (T .maps) 0 (replicate sharesRoom 0)
+      shares = changed (λ m. row (sharePlace m) (T .share m) (T .sas .ops)) (T .maps) 0 (replicate sharesRoom 0);
     }
 
 -- the tables with the task's own places as they are, and 0 in every other
