@@ -1,4 +1,5 @@
 // The lent tables of a task: counts by value, facts as bytes, costs and shares as words; their readers, one step of a state, and the scan for the first fault.
+pub mod classes;
 pub mod readers;
 pub mod scan;
 pub mod steps;

@@ -1,0 +1,23 @@
+-- The scan in the parts that the program walks it in: the lines before the operators, then those of the operators and of the maps.
+use Prim.Native.Nat.{_+_}
+use lib.Dec.{leb, ltb}
+use Rattle.refusals.specs.declared.Refusal.the-variants.{OutOfRange}
+use Rattle.meaning.specs.Split.{Task}
+use Rattle.tables.specs.declared.scan.Found.{Found}
+use Rattle.tables.specs.Scan.{unless, _then_, each, within, factsFault, operatorFault, mapFault}
+
+-- lines 2 to 6
+unfoldable pub headFault : Task → Found
+headFault T =
+    unless (within 1 8 (T .sas .vars)) (OutOfRange 2)
+    then each (λ v. unless (within 1 8 (T .sas .dom v)) (OutOfRange 3)) (T .sas .vars) 0
+    then each (λ v. unless (ltb (T .sas .init v) (T .sas .dom v)) (OutOfRange 4)) (T .sas .vars) 0
+    then factsFault T (T .sas .goal) 5
+    then unless (leb (T .sas .ops) 64) (OutOfRange 6)
+
+-- line 7 to the line of the last map
+unfoldable pub linesFault : Task → Found
+linesFault T =
+    each (operatorFault T) (T .sas .ops) 0
+    then unless (within 1 8 (T .maps)) (OutOfRange (7 + T .sas .ops))
+    then each (mapFault T) (T .maps) 0
