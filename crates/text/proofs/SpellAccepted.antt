@@ -7,8 +7,8 @@ use mathlib.Core.Bool.{Bool, true, false}
 use lib.Dec.{leb, ltb}
 use lib.ListN.{length, getD, replicate, length-replicate}
 use borrow.Author.Tests.{leb-true}
-use Rattle.refusals.specs.declared.Refusal.the-variants.{OutOfRange}
-use Rattle.meaning.specs.Split.{Task}
+use Rattle.refusals.specs.declared.Refusal.the-variants.{OutOfRange, TableTooShort}
+use Rattle.meaning.specs.Split.{Task, Valid}
 use Rattle.tables.specs.declared.scan.Found.{Found}
 use Rattle.tables.specs.declared.scan.Found.the-variants.{Clean, Fault}
 use Rattle.tables.specs.Layout.{
@@ -32,7 +32,9 @@ use Rattle.tables.specs.Layout.{
   shareAt,
 }
 use Rattle.tables.specs.Task.{taskOf}
-use Rattle.tables.specs.Scan.{unless, _then_, each, factsFault, operatorFault, mapFault, sharesFault, splitFault, taskFault, within as scanWithin}
+use Rattle.tables.specs.Scan.{unless, _then_, each, factsFault, operatorFault, mapFault, sharesFault, splitFault, taskFault, roomy, tablesFault, within as scanWithin}
+use Rattle.tables.proofs.Walks.{clean-next, all-clean, rule-held, walk-clean}
+use Rattle.tables.proofs.Validity.{clean-valid, valid-clean}
 use Rattle.text.specs.Fields.{comma, slash, semicolon}
 use Rattle.text.specs.Grammar.{Verdict, accepted, refused, verdict}
 use Rattle.text.specs.Spelling.{
@@ -55,12 +57,13 @@ use Rattle.text.specs.Spelling.{
   canon,
 }
 use Rattle.text.proofs.SpellParts.{judged}
-use Rattle.text.proofs.SpellClasses.{no-fault, clean-first, clean-rule, clean-each}
-use Rattle.text.proofs.SpellTables.{zeros, long-changed}
+use Rattle.text.proofs.SpellTables.{zeros, long-changed, long-row}
 use Rattle.text.proofs.SpellOwn.{
   Small,
   long-head,
   long-op,
+  long-facts-of,
+  long-shares-of,
   spares-head,
   head-dom,
   head-init,
@@ -81,29 +84,25 @@ use Rattle.text.proofs.SpellBackTask.{accepted-task}
 
 -- ---- a clean task is small
 
--- the first, second, fifth and seventh of these rules
-limits-hold : (a b c d e f g h : Found) → a then b then c then d then e then f then g then h ≡ Clean → (a ≡ Clean) × (b ≡ Clean) × (e ≡ Clean) × (g ≡ Clean)
-limits-hold Clean Clean Clean Clean Clean Clean g h p = (refl, refl, refl, clean-first g h p)
-limits-hold Clean Clean Clean Clean Clean (Fault r) g h p = no-fault p
-limits-hold Clean Clean Clean Clean (Fault r) f g h p = no-fault p
-limits-hold Clean Clean Clean (Fault r) e f g h p = no-fault p
-limits-hold Clean Clean (Fault r) d e f g h p = no-fault p
-limits-hold Clean (Fault r) c d e f g h p = no-fault p
-limits-hold (Fault r) b c d e f g h p = no-fault p
-
 pub clean-small : (τ : Task) → taskFault τ ≡ Clean → Small τ
 unfolding taskFault
 clean-small τ p =
     let doms : ℕ → Found = λ v. unless (scanWithin 1 8 (τ .sas .dom v)) (OutOfRange 3) in
-    let q = limits-hold (unless (scanWithin 1 8 (τ .sas .vars)) (OutOfRange 2)) (each doms (τ .sas .vars) 0)
-    (each (λ v. unless (ltb (τ .sas .init v) (τ .sas .dom v)) (OutOfRange 4)) (τ .sas .vars) 0) (factsFault τ (τ .sas .goal) 5) (unless (leb (τ .sas .ops) 64) (OutOfRange 6))
-    (each (operatorFault τ) (τ .sas .ops) 0) (unless (scanWithin 1 8 (τ .maps)) (OutOfRange (7 + τ .sas .ops)))
-    (each (mapFault τ) (τ .maps) 0 then each (sharesFault τ) (τ .maps) 0 then each (splitFault τ) (τ .sas .ops) 0) p in
+    let q = all-clean (unless (scanWithin 1 8 (τ .sas .vars)) (OutOfRange 2))
+        (each doms (τ .sas .vars) 0
+        ∷ each (λ v. unless (ltb (τ .sas .init v) (τ .sas .dom v)) (OutOfRange 4)) (τ .sas .vars) 0
+        ∷ factsFault τ (τ .sas .goal) 5
+        ∷ unless (leb (τ .sas .ops) 64) (OutOfRange 6)
+        ∷ each (operatorFault τ) (τ .sas .ops) 0
+        ∷ unless (scanWithin 1 8 (τ .maps)) (OutOfRange (7 + τ .sas .ops))
+        ∷ (each (mapFault τ) (τ .maps) 0 then each (sharesFault τ) (τ .maps) 0 then each (splitFault τ) (τ .sas .ops) 0)
+        ∷ []) p in
+    let r = q .1 .1 .1 .1 in
     record {
       vars = at-most 1 8 (τ .sas .vars) (OutOfRange 2) (q .0);
-      doms = λ v h. at-most 1 8 (τ .sas .dom v) (OutOfRange 3) (clean-each doms (τ .sas .vars) 0 v (q .1) (omega arith) (omega arith));
-      ops = leb-true (τ .sas .ops) 64 (clean-rule (leb (τ .sas .ops) 64) (OutOfRange 6) (q .2));
-      maps = at-most 1 8 (τ .maps) (OutOfRange (7 + τ .sas .ops)) (q .3);
+      doms = λ v h. at-most 1 8 (τ .sas .dom v) (OutOfRange 3) (walk-clean doms (τ .sas .vars) v (q .1 .0) h);
+      ops = leb-true (τ .sas .ops) 64 (rule-held (leb (τ .sas .ops) 64) (OutOfRange 6) (r .0));
+      maps = at-most 1 8 (τ .maps) (OutOfRange (7 + τ .sas .ops)) (r .1 .1 .0);
     }
 
 -- ---- the tables of a small task spell the same text
@@ -136,18 +135,18 @@ module _ (τ : Task) (s : Small τ) where
         let a = s .vars in
         let b = s .ops in
         spares-maps τ s (prePlace o v) (omega arith) opsIn
-        ∙ ops-pre τ s o v k h (headRows τ w) (long-head τ s w ∙ l) (spares-head τ s (prePlace o v) (omega arith) w ∙ z (prePlace o v))
+        ∙ ops-pre τ s o v k h (headRows τ w) (long-head τ w ∙ l) (spares-head τ s (prePlace o v) (omega arith) w ∙ z (prePlace o v))
 
     eff-in : (o v : ℕ) → o < τ .sas .ops → v < τ .sas .vars → effAt factsIn o v ≡ τ .sas .eff o v
     eff-in o v k h =
         let a = s .vars in
         let b = s .ops in
         spares-maps τ s (effPlace o v) (omega arith) opsIn
-        ∙ ops-eff τ s o v k h (headRows τ w) (long-head τ s w ∙ l) (spares-head τ s (effPlace o v) (omega arith) w ∙ z (effPlace o v))
+        ∙ ops-eff τ s o v k h (headRows τ w) (long-head τ w ∙ l) (spares-head τ s (effPlace o v) (omega arith) w ∙ z (effPlace o v))
 
     class-in : (m v x : ℕ) → m < τ .maps → v < τ .sas .vars → x < τ .sas .dom v → classAt factsIn m v x ≡ τ .class m v x
     class-in m v x k h g =
-        maps-class τ s m v x k h g opsIn (long-changed (opRows τ) (long-op τ s) (τ .sas .ops) 0 (headRows τ w) ∙ long-head τ s w ∙ l)
+        maps-class τ s m v x k h g opsIn (long-changed (opRows τ) (long-op τ) (τ .sas .ops) 0 (headRows τ w) ∙ long-head τ w ∙ l)
         (spares-ops-high τ s (classPlace m v x) (omega arith) (headRows τ w) ∙ spares-head τ s (classPlace m v x) (omega arith) w ∙ z (classPlace m v x))
 
 numbers-same : (f g : ℕ → ℕ) (n : ℕ) → ((i : ℕ) → i < n → f i ≡ g i) → numbers f n ≡ numbers g n
@@ -225,14 +224,35 @@ judged-accepted : (f : Found) (U T : Tables) → judged f (accepted U) ≡ accep
 judged-accepted Clean U T p = (refl, cc)
 judged-accepted (Fault r) U T p = not-refused p
 
--- what an accepted text is, and what it leaves
+-- the tables of a task have room
+roomy-of : (t : Tables) → length (t .facts) ≡ factsRoom → length (t .costs) ≡ costsRoom → length (t .shares) ≡ sharesRoom → roomy t ≡ true
+unfolding roomy
+roomy-of t p q r = rw (p, q, r) refl
+
+canon-roomy : (t : Tables) → roomy (canon t) ≡ true
+unfolding tablesOf
+canon-roomy t =
+    let τ = taskOf t in
+    roomy-of (canon t) (long-facts-of τ _ ∙ length-replicate {A = ℕ} factsRoom 0)
+    (long-row (λ o. o) (τ .sas .cost) (τ .sas .ops) _ ∙ length-replicate {A = ℕ} costsRoom 0) (long-shares-of τ _ ∙ length-replicate {A = ℕ} sharesRoom 0)
+
+-- the text x spells the valid task of the tables T, in which every other place is 0
 pub record Spells (x : List ℕ) (T : Tables) : Type 0 where
   pub text : textOf T ≡ x
   pub own : T ≡ canon T
-  pub clean : taskFault (taskOf T) ≡ Clean
+  pub valid : Valid (taskOf T)
 
-pub accepted-spells : (x : List ℕ) (T : Tables) → verdict x ≡ accepted T → Spells x T
-accepted-spells x T h =
+own-roomy : (T : Tables) → T ≡ canon T → roomy T ≡ true
+own-roomy T p = ap roomy p ∙ canon-roomy T
+
+-- what an accepted text leaves passes the scan
+record Left (x : List ℕ) (T : Tables) : Type 0 where
+  text : textOf T ≡ x
+  own : T ≡ canon T
+  clean : taskFault (taskOf T) ≡ Clean
+
+left : (x : List ℕ) (T : Tables) → verdict x ≡ accepted T → Left x T
+left x T h =
     let t = accepted-task x T h in
     let τ = t .0 in
     let j = judged-accepted (taskFault τ) (tablesOf τ) T (sym (spelled-judged τ) ∙ ap verdict (sym (t .1)) ∙ h) in
@@ -240,6 +260,16 @@ accepted-spells x T h =
     let i = judged-accepted (taskFault (taskOf T)) (canon T) T (sym (scan-is-grammar T) ∙ ap verdict p ∙ h) in
     record { text = p; own = sym (i .1); clean = i .0 }
 
--- and back: exactly these are accepted
+pub accepted-clean : (x : List ℕ) (T : Tables) → verdict x ≡ accepted T → tablesFault T ≡ Clean
+unfolding tablesFault
+accepted-clean x T h = let l = left x T h in rw (own-roomy T (l .own)) (l .clean)
+
+-- ACCEPTED EXACTLY IF IT SPELLS A VALID TASK
+pub accepted-spells : (x : List ℕ) (T : Tables) → verdict x ≡ accepted T → Spells x T
+accepted-spells x T h = let l = left x T h in record { text = l .text; own = l .own; valid = clean-valid T (accepted-clean x T h) }
+
 pub spells-accepted : (x : List ℕ) (T : Tables) → Spells x T → verdict x ≡ accepted T
-spells-accepted x T s = ap verdict (sym (s .text)) ∙ clean-accepted T (s .clean) ∙ ap accepted (sym (s .own))
+unfolding tablesFault
+spells-accepted x T s =
+    let c = valid-clean T (own-roomy T (s .own)) (s .valid) in
+    ap verdict (sym (s .text)) ∙ clean-accepted T (clean-next (unless (roomy T) TableTooShort) (taskFault (taskOf T)) c) ∙ ap accepted (sym (s .own))

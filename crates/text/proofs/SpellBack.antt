@@ -12,6 +12,7 @@ use borrow.Author.Tests.{eq-eqb, ne-eqb, eqb-true}
 use Rattle.refusals.specs.declared.Refusal.{Refusal}
 use Rattle.refusals.specs.declared.Refusal.the-variants.{OffForm, OutOfRange}
 use Rattle.tables.specs.Layout.{Tables}
+use Rattle.tables.proofs.Laws.{by-cases}
 use Rattle.text.specs.Fields.{pick, bytes, lineEnd, comma}
 use Rattle.text.specs.Grammar.{
   Verdict,
@@ -37,7 +38,6 @@ use Rattle.text.specs.Grammar.{
 use Rattle.text.specs.Spelling.{digits, gap, joined, keyed, stacked, changed}
 use Rattle.text.proofs.Decimal.{digits-back}
 use Rattle.text.proofs.SpellParts.{joined-none, joined-front}
-use Rattle.text.proofs.SpellClasses.{by-cases}
 
 pub not-refused : {A : Type 0} {r : Refusal} {W : Tables} → refused r ≡ accepted W → A
 not-refused p = let z : _≡_ {A = ℕ} 0 1 = cc in absurd (let n : ⊥ = omega arith in n)

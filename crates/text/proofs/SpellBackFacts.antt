@@ -10,6 +10,7 @@ use borrow.Author.Tests.{eq-eqb, ne-eqb, eqb-true, leb-true, ltb-true, lt-ltb, l
 use Rattle.refusals.specs.declared.Refusal.the-variants.{NotRising}
 use Rattle.meaning.specs.Sas.{Facts}
 use Rattle.tables.specs.Layout.{Tables, domAt}
+use Rattle.tables.proofs.Laws.{by-cases}
 use Rattle.text.specs.Fields.{pick, comma, dash, colon}
 use Rattle.text.specs.Grammar.{
   Verdict,
@@ -32,7 +33,6 @@ use Rattle.text.specs.Grammar.{
 use Rattle.text.specs.Spelling.{digits, fact, another, moreFacts, first, someFacts, changed, said, factRow}
 use Rattle.text.proofs.Decimal.{clash}
 use Rattle.text.proofs.SpellFacts.{within-below, on}
-use Rattle.text.proofs.SpellClasses.{by-cases}
 use Rattle.text.proofs.SpellBack.{Back, BackOf, not-refused, demand-back, lit-back, number-back, changed-same}
 
 -- ---- rows of facts: nothing said up to a variable, that variable, and then another row

@@ -11,40 +11,15 @@ use Rattle.meaning.specs.Views.{every}
 use Rattle.meaning.specs.Split.{countOf}
 use Rattle.tables.specs.declared.scan.Found.{Found}
 use Rattle.tables.specs.declared.scan.Found.the-variants.{Clean, Fault}
-use Rattle.tables.specs.Scan.{unless, _then_, each, someHas, noneMissing as scanNoneMissing}
+use Rattle.tables.specs.Scan.{someHas, noneMissing as scanNoneMissing}
+use Rattle.tables.proofs.Laws.{by-cases}
 use Rattle.text.specs.Fields.{pick, mostValues}
 use Rattle.text.specs.Grammar.{has, topOf, allOf, classCount, noneMissing}
 use Rattle.text.proofs.Decimal.{clash}
 
--- ---- rules that hold
-
+-- a fault is not clean
 pub no-fault : {A : Type 0} {r : Refusal} → Fault r ≡ Clean → A
 no-fault p = let z : _≡_ {A = ℕ} 0 1 = cc in absurd (let n : ⊥ = omega arith in n)
-
-pub clean-first : (f g : Found) → f then g ≡ Clean → f ≡ Clean
-clean-first Clean g p = refl
-clean-first (Fault r) g p = p
-
-pub clean-second : (f g : Found) → f then g ≡ Clean → g ≡ Clean
-clean-second Clean g p = p
-clean-second (Fault r) g p = no-fault p
-
-pub clean-rule : (b : Bool) (r : Refusal) → unless b r ≡ Clean → b ≡ true
-clean-rule true r p = refl
-clean-rule false r p = no-fault p
-
-pub by-cases : {A : Type 0} (b : Bool) → (b ≡ true → A) → (b ≡ false → A) → A
-by-cases true p q = p refl
-by-cases false p q = q refl
-
-pub clean-each : (f : ℕ → Found) (n i j : ℕ) → each f n i ≡ Clean → i ≤ j → j < i + n → f j ≡ Clean
-unfolding each
-clean-each f zero i j p h k = absurd (let z : ⊥ = omega arith in z)
-clean-each f (suc n) i j p h k =
-    by-cases (eqb i j) (λ q. let e : i ≡ j = eqb-true i j q in ap f (sym e) ∙ clean-first (f i) (each f n (suc i)) p)
-    (λ q.
-    let e : i ≡ j → ⊥ = eqb-false i j q in
-    clean-each f n (suc i) j (clean-second (f i) (each f n (suc i)) p) (omega arith) (omega arith))
 
 -- ---- classes in the order read, the last first
 

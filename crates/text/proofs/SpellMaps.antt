@@ -18,6 +18,7 @@ use Rattle.tables.specs.declared.scan.Found.{Found}
 use Rattle.tables.specs.declared.scan.Found.the-variants.{Clean, Fault}
 use Rattle.tables.specs.Layout.{Tables, domAt, classPlace}
 use Rattle.tables.specs.Scan.{unless, _then_, each, classesFault, noneMissing as scanNoneMissing}
+use Rattle.tables.proofs.Walks.{then-then, clean-first, rule-held, walk-clean}
 use Rattle.text.specs.Fields.{pick, isDigit, comma, slash, mostValues, mostStates}
 use Rattle.text.specs.Grammar.{
   Verdict,
@@ -39,7 +40,7 @@ use Rattle.text.specs.Spelling.{digits, gap, joined, numbers, changed, r
 use Rattle.text.proofs.Decimal.{Stop, other}
 use Rattle.text.proofs.SpellParts.{judged, judged-on, judged-then, next, Told, demand-told, number-told, parted-told, stop-gap, joined-none, joined-front}
 use Rattle.text.proofs.SpellFacts.{within-below, on, Knows, knows-set, knows-row}
-use Rattle.text.proofs.SpellClasses.{clean-first, clean-rule, clean-each, listed, count-is, missing-is}
+use Rattle.text.proofs.SpellClasses.{listed, count-is, missing-is}
 
 slash-no-digit : isDigit slash ≡ false
 unfolding isDigit pick
@@ -53,10 +54,6 @@ stop-slash (suc n) xs u s e = other slash-no-digit
 
 test-same : (r : Refusal) (A : Verdict) {b c : Bool} → b ≡ c → judged (unless b r) A ≡ judged (unless c r) A
 test-same r A p = rw p refl
-
-pub then-then : (f g h : Found) → (f then g) then h ≡ f then g then h
-then-then Clean g h = refl
-then-then (Fault r) g h = refl
 
 module _ (τ : Task) (m l : ℕ) where
   -- a class is below its variable's number of values
@@ -88,7 +85,7 @@ module _ (τ : Task) (m l : ℕ) where
 
   low-classes : (v : ℕ) → τ .sas .dom v ≤ 8 → each (classRule v) (τ .sas .dom v) 0 ≡ Clean → (x : ℕ) → x < τ .sas .dom v → τ .class m v x < mostValues
   low-classes v b q x h =
-      let y = ltb-true (τ .class m v x) (τ .sas .dom v) (clean-rule (ltb (τ .class m v x) (τ .sas .dom v)) (OutOfRange l) (clean-each (classRule v) (τ .sas .dom v) 0 x q (omega arith) (omega arith))) in
+      let y = ltb-true (τ .class m v x) (τ .sas .dom v) (rule-held (ltb (τ .class m v x) (τ .sas .dom v)) (OutOfRange l) (walk-clean (classRule v) (τ .sas .dom v) x q h)) in
       omega arith
 
   low-all : (v : ℕ) → τ .sas .dom v ≤ 8 → classesFault τ m l v ≡ Clean → (x : ℕ) → x < τ .sas .dom v → τ .class m v x < mostValues

@@ -28,7 +28,9 @@ pub record Small (τ : Task) : Type 0 where
   pub ops : τ .sas .ops ≤ 64
   pub maps : τ .maps ≤ 8
 
-module _ (τ : Task) (s : Small τ) where
+-- ---- lengths
+
+module _ (τ : Task) where
   pub long-head : Long (headRows τ)
   unfolding headRows
   long-head w =
@@ -42,6 +44,13 @@ module _ (τ : Task) (s : Small τ) where
   unfolding mapRows
   long-map m = long-changed (λ v. row (classPlace m v) (τ .class m v) (τ .sas .dom v)) (λ v. long-row (classPlace m v) (τ .class m v) (τ .sas .dom v)) (τ .sas .vars) 0
 
+  pub long-facts-of : (w : List ℕ) → length (changed (mapRows τ) (τ .maps) 0 (changed (opRows τ) (τ .sas .ops) 0 (headRows τ w))) ≡ length w
+  long-facts-of w = long-changed (mapRows τ) long-map (τ .maps) 0 _ ∙ long-changed (opRows τ) long-op (τ .sas .ops) 0 _ ∙ long-head w
+
+  pub long-shares-of : Long (changed (λ m. row (sharePlace m) (τ .share m) (τ .sas .ops)) (τ .maps) 0)
+  long-shares-of = long-changed (λ m. row (sharePlace m) (τ .share m) (τ .sas .ops)) (λ m. long-row (sharePlace m) (τ .share m) (τ .sas .ops)) (τ .maps) 0
+
+module _ (τ : Task) (s : Small τ) where
   -- ---- the head
 
   pub spares-head : (p : ℕ) → 24 ≤ p → Spares (headRows τ) p
@@ -121,7 +130,7 @@ module _ (τ : Task) (s : Small τ) where
       ops-pre z =
           let a = s .vars in
           let b = s .ops in
-          writes-changed (opRows τ) (prePlace o v) (τ .sas .pre o v) o (τ .sas .ops) 0 long-op
+          writes-changed (opRows τ) (prePlace o v) (τ .sas .pre o v) o (τ .sas .ops) 0 (long-op τ)
           (λ i x y d. spares-op i (prePlace o v) (λ u q e. d (omega arith)) (λ u q e. omega arith)) 1624
           op-pre (omega arith) (omega arith) w l z
 
@@ -129,7 +138,7 @@ module _ (τ : Task) (s : Small τ) where
       ops-eff z =
           let a = s .vars in
           let b = s .ops in
-          writes-changed (opRows τ) (effPlace o v) (τ .sas .eff o v) o (τ .sas .ops) 0 long-op
+          writes-changed (opRows τ) (effPlace o v) (τ .sas .eff o v) o (τ .sas .ops) 0 (long-op τ)
           (λ i x y d. spares-op i (effPlace o v) (λ u q e. omega arith) (λ u q e. d (omega arith))) 1624
           op-eff (omega arith) (omega arith) w l z
 
@@ -161,7 +170,7 @@ module _ (τ : Task) (s : Small τ) where
         let a = s .vars in
         let b = s .maps in
         let c = s .doms v h in
-        writes-changed (mapRows τ) (classPlace m v x) (τ .class m v x) m (τ .maps) 0 long-map
+        writes-changed (mapRows τ) (classPlace m v x) (τ .class m v x) m (τ .maps) 0 (long-map τ)
         (λ i j q d. spares-map i (classPlace m v x) (λ u y f n e. d (omega arith))) 1624 map-class (omega arith) (omega arith) w l z
 
   -- ---- costs and shares

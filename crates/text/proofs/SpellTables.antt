@@ -21,8 +21,8 @@ use Rattle.tables.specs.Layout.{
   classPlace,
   sharePlace,
 }
+use Rattle.tables.proofs.Laws.{by-cases}
 use Rattle.text.specs.Spelling.{changed, row, said, factRow, opRows, mapRows, headRows}
-use Rattle.text.proofs.SpellClasses.{by-cases}
 
 -- ---- changes one after another
 

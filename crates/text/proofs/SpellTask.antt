@@ -17,6 +17,7 @@ use Rattle.tables.specs.declared.scan.Found.the-variants.{Clean, Fault}
 use Rattle.tables.specs.Layout.{Tables, factsRoom, costsRoom, sharesRoom, domPlace, initPlace, goalPlace, prePlace, effPlace, classPlace, sharePlace, costAt, shareAt}
 use Rattle.tables.specs.Task.{taskOf}
 use Rattle.tables.specs.Scan.{unless, _then_, each, factsFault, operatorFault, mapFault, sharesFault, splitFault, taskFault, within as scanWithin}
+use Rattle.tables.proofs.Walks.{rule-held, walk-clean}
 use Rattle.text.specs.Fields.{pick, shareTotal, opLine, overLine}
 use Rattle.text.specs.Grammar.{
   Verdict,
@@ -68,7 +69,6 @@ use Rattle.text.specs.Spelling.{
 use Rattle.text.proofs.Decimal.{clash}
 use Rattle.text.proofs.SpellParts.{judged, judged-on, judged-then, next, lines-told}
 use Rattle.text.proofs.SpellFacts.{on, on-changed, Knows, knows-row, knows-facts, knows-changed}
-use Rattle.text.proofs.SpellClasses.{clean-rule, clean-each}
 use Rattle.text.proofs.SpellTables.{zeros, writes-row}
 use Rattle.text.proofs.SpellOwn.{Small, costs-own, shares-own}
 use Rattle.text.proofs.SpellLines.{
@@ -213,7 +213,7 @@ and-second true b p = p
 and-second false b p = clash p refl
 
 pub at-most : (least most x : ℕ) (r : Refusal) → unless (scanWithin least most x) r ≡ Clean → x ≤ most
-at-most least most x r q = leb-true x most (and-second (leb least x) (leb x most) (clean-rule (scanWithin least most x) r q))
+at-most least most x r q = leb-true x most (and-second (leb least x) (leb x most) (rule-held (scanWithin least most x) r q))
 
 module _ (τ : Task) (f c h : List ℕ) (lf : length f ≡ 1624) (zf : (p : ℕ) → getD f p 0 ≡ 0) (lc : length c ≡ 64) (zc : (p : ℕ) → getD c p 0 ≡ 0)
     (lh : length h ≡ 512) (zh : (p : ℕ) → getD h p 0 ≡ 0) where
@@ -268,7 +268,7 @@ module _ (τ : Task) (f c h : List ℕ) (lf : length f ≡ 1624) (zf : (p : ℕ)
       (ops-told opsFrom 6 (made (τ .sas .vars) o m g c h) (τ .sas .ops) _)
       (λ q. next (each (operatorFault τ) (τ .sas .ops) 0) (unless (scanWithin 1 8 (τ .maps)) (OutOfRange (7 + τ .sas .ops)) then tailRules) _
       (all-ops τ m g c h (keyed "maps=" (digits (τ .maps)) ++ mapsFrom) _ (record { vars = refl; few = w .few; doms = w .doms }))
-      (λ r. maps-from (opsDone τ g) m a d (leb-true (τ .sas .ops) 64 (clean-rule (leb (τ .sas .ops) 64) (OutOfRange 6) q))
+      (λ r. maps-from (opsDone τ g) m a d (leb-true (τ .sas .ops) 64 (rule-held (leb (τ .sas .ops) 64) (OutOfRange 6) q))
       (known g m w)))
     where
       known : (g : List ℕ) (m : ℕ) → Known τ (made (τ .sas .vars) o m g c h) → Known τ (made (τ .sas .vars) (τ .sas .ops) m (opsDone τ g) (costsDone τ c) h)
@@ -338,7 +338,7 @@ module _ (τ : Task) (f c h : List ℕ) (lf : length f ≡ 1624) (zf : (p : ℕ)
       let a = at-most 1 8 (τ .sas .vars) (OutOfRange 2) q in
       next (each doms (τ .sas .vars) 0) (each inits (τ .sas .vars) 0 then goalRules) _
       (dom-told τ _ 3 (made (τ .sas .vars) o m f c h) refl _)
-      (λ r. init-from m o a (λ u b. at-most 1 8 (τ .sas .dom u) (OutOfRange 3) (clean-each doms (τ .sas .vars) 0 u r (omega arith) (omega arith)))))
+      (λ r. init-from m o a (λ u b. at-most 1 8 (τ .sas .dom u) (OutOfRange 3) (walk-clean doms (τ .sas .vars) u r b))))
 
 -- THE SCAN IS THE GRAMMAR, for a task
 pub spelled-judged : (τ : Task) → verdict (spelled τ) ≡ judged (taskFault τ) (accepted (tablesOf τ))
