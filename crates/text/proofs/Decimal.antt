@@ -19,11 +19,11 @@ clash p q = let z : _≡_ {A = ℕ} 0 1 = cc in absurd (let n : ⊥ = omega arit
 
 -- ---- the digits of a number
 
-few : (n v : ℕ) → v < 10 → lastDigits (suc n) v ≡ (48 + v) ∷ []
+pub few : (n v : ℕ) → v < 10 → lastDigits (suc n) v ≡ (48 + v) ∷ []
 unfolding lastDigits pick
 few n v h = simp (lt-ltb v 10 h)
 
-many : (n v : ℕ) → 10 ≤ v → lastDigits (suc n) v ≡ lastDigits n (v / 10) ++ ((48 + v % 10) ∷ [])
+pub many : (n v : ℕ) → 10 ≤ v → lastDigits (suc n) v ≡ lastDigits n (v / 10) ++ ((48 + v % 10) ∷ [])
 unfolding lastDigits pick
 many n v h = simp (le-ltb v 10 h)
 

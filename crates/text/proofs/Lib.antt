@@ -13,3 +13,4 @@ pub mod SpellBackFacts
 pub mod SpellBackLines
 pub mod SpellBackTask
 pub mod SpellAccepted
+pub mod SpellShort
