@@ -14,3 +14,4 @@ pub mod SpellBackLines
 pub mod SpellBackTask
 pub mod SpellAccepted
 pub mod SpellShort
+pub mod SpellRead

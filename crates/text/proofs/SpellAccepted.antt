@@ -89,14 +89,14 @@ unfolding taskFault
 clean-small τ p =
     let doms : ℕ → Found = λ v. unless (scanWithin 1 8 (τ .sas .dom v)) (OutOfRange 3) in
     let q = all-clean (unless (scanWithin 1 8 (τ .sas .vars)) (OutOfRange 2))
-        (each doms (τ .sas .vars) 0
-        ∷ each (λ v. unless (ltb (τ .sas .init v) (τ .sas .dom v)) (OutOfRange 4)) (τ .sas .vars) 0
-        ∷ factsFault τ (τ .sas .goal) 5
-        ∷ unless (leb (τ .sas .ops) 64) (OutOfRange 6)
-        ∷ each (operatorFault τ) (τ .sas .ops) 0
-        ∷ unless (scanWithin 1 8 (τ .maps)) (OutOfRange (7 + τ .sas .ops))
-        ∷ (each (mapFault τ) (τ .maps) 0 then each (sharesFault τ) (τ .maps) 0 then each (splitFault τ) (τ .sas .ops) 0)
-        ∷ []) p in
+    (each doms (τ .sas .vars) 0
+    ∷ each (λ v. unless (ltb (τ .sas .init v) (τ .sas .dom v)) (OutOfRange 4)) (τ .sas .vars) 0
+    ∷ factsFault τ (τ .sas .goal) 5
+    ∷ unless (leb (τ .sas .ops) 64) (OutOfRange 6)
+    ∷ each (operatorFault τ) (τ .sas .ops) 0
+    ∷ unless (scanWithin 1 8 (τ .maps)) (OutOfRange (7 + τ .sas .ops))
+    ∷ (each (mapFault τ) (τ .maps) 0 then each (sharesFault τ) (τ .maps) 0 then each (splitFault τ) (τ .sas .ops) 0)
+    ∷ []) p in
     let r = q .1 .1 .1 .1 in
     record {
       vars = at-most 1 8 (τ .sas .vars) (OutOfRange 2) (q .0);

@@ -127,10 +127,10 @@ module _ (τ : Task) (k : Valid τ) where
   map-short m h =
       let a = k .vars .1 in
       let p = joined-short (λ v. numbers (τ .class m v) (τ .sas .dom v)) 16 slash (τ .sas .vars) 0
-          (λ v x y.
-          let d = k .values v (omega arith) in
-          let q = numbers-short (τ .class m v) 0 (τ .sas .dom v) (λ j l. let r = k .classes m v j h (omega arith) l in omega arith) in
-          omega arith) in
+      (λ v x y.
+      let d = k .values v (omega arith) in
+      let q = numbers-short (τ .class m v) 0 (τ .sas .dom v) (λ j l. let r = k .classes m v j h (omega arith) l in omega arith) in
+      omega arith) in
       keyed-short "map=" _ 4 136 (omega arith) (omega arith)
 
   share-short : (m : ℕ) → m < τ .maps → length (keyed "share=" (shareText (τ .share m) (τ .sas .ops))) ≤ 519
