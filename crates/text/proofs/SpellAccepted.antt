@@ -1,9 +1,9 @@
 -- READING ACCEPTS EXACTLY THE TEXTS THAT SPELL TASKS, and gives their tables, with 0 beyond the task's own places. Assumes nothing.
-use Prim.Native.Nat.{ℕ, zero, suc, _+_, _*_, _≤_, _<_}
+use Prim.Native.Nat.{ℕ, zero, suc, _+_, _<_}
 use native.Mathlib.Omega.{arith}
-use mathlib.Core.Path.{_≡_, refl, sym, ap, ap₂, _∙_}
+use mathlib.Core.Path.{_≡_, refl, sym, ap, _∙_}
 use mathlib.Core.List.{List, [], _∷_, _++_}
-use mathlib.Core.Bool.{Bool, true, false}
+use mathlib.Core.Bool.{true}
 use lib.Dec.{leb, ltb}
 use lib.ListN.{length, getD, replicate, length-replicate}
 use borrow.Author.Tests.{leb-true}
@@ -11,72 +11,17 @@ use Rattle.refusals.specs.declared.Refusal.the-variants.{OutOfRange, TableTooSh
 use Rattle.meaning.specs.Split.{Task, Valid}
 use Rattle.tables.specs.declared.scan.Found.{Found}
 use Rattle.tables.specs.declared.scan.Found.the-variants.{Clean, Fault}
-use Rattle.tables.specs.Layout.{
-  Tables,
-  factsRoom,
-  costsRoom,
-  sharesRoom,
-  domPlace,
-  initPlace,
-  goalPlace,
-  prePlace,
-  effPlace,
-  classPlace,
-  domAt,
-  initAt,
-  goalAt,
-  preAt,
-  effAt,
-  classAt,
-  costAt,
-  shareAt,
-}
+use Rattle.tables.specs.Layout.{Tables, factsRoom, costsRoom, sharesRoom, domPlace, initPlace, goalPlace, prePlace, effPlace, classPlace, domAt, initAt, goalAt, preAt, effAt, classAt}
 use Rattle.tables.specs.Task.{taskOf}
 use Rattle.tables.specs.Scan.{unless, _then_, each, factsFault, operatorFault, mapFault, sharesFault, splitFault, taskFault, roomy, tablesFault, within as scanWithin}
 use Rattle.tables.proofs.Walks.{clean-next, all-clean, rule-held, walk-clean}
 use Rattle.tables.proofs.Validity.{clean-valid, valid-clean}
 use Rattle.text.specs.Fields.{comma, slash, semicolon}
-use Rattle.text.specs.Grammar.{Verdict, accepted, refused, verdict}
-use Rattle.text.specs.Spelling.{
-  digits,
-  joined,
-  numbers,
-  someFacts,
-  keyed,
-  stacked,
-  opText,
-  mapText,
-  shareText,
-  spelled,
-  textOf,
-  changed,
-  opRows,
-  mapRows,
-  headRows,
-  tablesOf,
-  canon,
-}
+use Rattle.text.specs.Grammar.{accepted, verdict}
+use Rattle.text.specs.Spelling.{digits, numbers, someFacts, keyed, opText, mapText, shareText, spelled, textOf, changed, opRows, mapRows, headRows, tablesOf, canon}
 use Rattle.text.proofs.SpellParts.{judged}
 use Rattle.text.proofs.SpellTables.{zeros, long-changed, long-row}
-use Rattle.text.proofs.SpellOwn.{
-  Small,
-  long-head,
-  long-op,
-  long-facts-of,
-  long-shares-of,
-  spares-head,
-  head-dom,
-  head-init,
-  head-goal,
-  spares-ops-low,
-  spares-ops-high,
-  ops-pre,
-  ops-eff,
-  spares-maps,
-  maps-class,
-  costs-own,
-  shares-own,
-}
+use Rattle.text.proofs.SpellOwn.{Small, long-head, long-op, long-facts-of, long-shares-of, spares-head, head-dom, head-init, head-goal, spares-ops-low, spares-ops-high, ops-pre, ops-eff, spares-maps, maps-class, costs-own, shares-own}
 use Rattle.text.proofs.SpellTask.{at-most, spelled-judged, scan-is-grammar, clean-accepted}
 use Rattle.text.proofs.SpellBack.{not-refused, joined-same, stacked-same}
 use Rattle.text.proofs.SpellBackFacts.{some-same}

@@ -12,29 +12,8 @@ use borrow.Author.Tests.{eq-eqb, ne-eqb, eqb-true}
 use Rattle.refusals.specs.declared.Refusal.{Refusal}
 use Rattle.refusals.specs.declared.Refusal.the-variants.{OffForm, OutOfRange}
 use Rattle.tables.specs.Layout.{Tables}
-use Rattle.tables.proofs.Laws.{by-cases}
 use Rattle.text.specs.Fields.{pick, bytes, lineEnd, comma}
-use Rattle.text.specs.Grammar.{
-  Verdict,
-  accepted,
-  refused,
-  Next,
-  Part,
-  _▸_,
-  keep,
-  demand,
-  lit,
-  runLen,
-  value,
-  formed,
-  within,
-  number,
-  parted,
-  row,
-  endOfLine,
-  line,
-  lines,
-}
+use Rattle.text.specs.Grammar.{accepted, refused, Next, Part, _▸_, keep, demand, lit, runLen, value, formed, within, number, parted, row, endOfLine, line, lines}
 use Rattle.text.specs.Spelling.{digits, gap, joined, keyed, stacked, changed}
 use Rattle.text.proofs.Decimal.{digits-back}
 use Rattle.text.proofs.SpellParts.{joined-none, joined-front}

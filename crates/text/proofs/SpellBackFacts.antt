@@ -4,7 +4,7 @@ use native.Mathlib.Omega.{arith}
 use native.Mathlib.Numerals.{add-one}
 use mathlib.Core.Path.{_≡_, refl, sym, ap, ap₂, _∙_}
 use mathlib.Core.List.{List, [], _∷_, _++_, append-assoc}
-use mathlib.Core.Bool.{Bool, true, false}
+use mathlib.Core.Bool.{true, false}
 use lib.Dec.{eqb, leb, ltb}
 use borrow.Author.Tests.{eq-eqb, ne-eqb, eqb-true, leb-true, ltb-true, lt-ltb, le-ltb}
 use Rattle.refusals.specs.declared.Refusal.the-variants.{NotRising}
@@ -12,28 +12,11 @@ use Rattle.meaning.specs.Sas.{Facts}
 use Rattle.tables.specs.Layout.{Tables, domAt}
 use Rattle.tables.proofs.Laws.{by-cases}
 use Rattle.text.specs.Fields.{pick, comma, dash, colon}
-use Rattle.text.specs.Grammar.{
-  Verdict,
-  accepted,
-  Next,
-  Part,
-  _▸_,
-  nothing,
-  ask,
-  keep,
-  demand,
-  lit,
-  choice,
-  within,
-  number,
-  putFact,
-  facts,
-  factList,
-}
+use Rattle.text.specs.Grammar.{accepted, Next, Part, _▸_, nothing, ask, keep, choice, within, putFact, facts, factList}
 use Rattle.text.specs.Spelling.{digits, fact, another, moreFacts, first, someFacts, changed, said, factRow}
 use Rattle.text.proofs.Decimal.{clash}
 use Rattle.text.proofs.SpellFacts.{within-below, on}
-use Rattle.text.proofs.SpellBack.{Back, BackOf, not-refused, demand-back, lit-back, number-back, changed-same}
+use Rattle.text.proofs.SpellBack.{Back, BackOf, demand-back, lit-back, number-back, changed-same}
 
 -- ---- rows of facts: nothing said up to a variable, that variable, and then another row
 

@@ -1,46 +1,19 @@
 -- Back from an accepted line: each line of the text is the spelling of the numbers that it leaves in the tables. Assumes nothing.
-use Prim.Native.Nat.{ℕ, zero, suc, _+_, _*_, _≤_, _<_}
-use Prim.Native.String.{String}
+use Prim.Native.Nat.{ℕ, zero, suc, _+_, _*_}
 use native.Mathlib.Omega.{arith}
 use native.Mathlib.Numerals.{add-one}
-use mathlib.Core.Path.{_≡_, refl, sym, ap, ap₂, _∙_}
+use mathlib.Core.Path.{_≡_, refl, sym, ap, _∙_}
 use mathlib.Core.List.{List, [], _∷_, _++_, append-assoc}
-use mathlib.Core.Bool.{Bool, true, false}
-use lib.Dec.{leb, ltb}
+use lib.Dec.{leb}
 use lib.ListN.{set}
-use borrow.Author.Tests.{ltb-true}
 use Rattle.refusals.specs.declared.Refusal.the-variants.{ClassMissing, TooManyStates}
 use Rattle.meaning.specs.Sas.{Facts}
 use Rattle.tables.specs.Layout.{Tables, domAt, prePlace, effPlace, classPlace, sharePlace}
-use Rattle.text.specs.Fields.{pick, comma, dash, slash, semicolon, mostValues, mostCost, mostStates}
-use Rattle.text.specs.Grammar.{
-  Verdict,
-  accepted,
-  Next,
-  Part,
-  _▸_,
-  ask,
-  keep,
-  demand,
-  lit,
-  within,
-  number,
-  parted,
-  row as numberRow,
-  factList,
-  putFact,
-  putCost,
-  putShare,
-  operator,
-  classCount,
-  noneMissing,
-  classes,
-  variables,
-  amounts,
-}
-use Rattle.text.specs.Spelling.{digits, gap, joined, numbers, someFacts, shareText, changed, row, factRow}
+use Rattle.text.specs.Fields.{comma, dash, slash, semicolon, mostCost, mostStates}
+use Rattle.text.specs.Grammar.{accepted, Next, Part, _▸_, ask, keep, parted, row as numberRow, putFact, putCost, putShare, operator, classCount, noneMissing, classes, variables, amounts}
+use Rattle.text.specs.Spelling.{digits, joined, numbers, someFacts, shareText, changed, row, factRow}
 use Rattle.text.proofs.SpellParts.{joined-none}
-use Rattle.text.proofs.SpellFacts.{on, on-changed, Knows, knows-set, knows-row}
+use Rattle.text.proofs.SpellFacts.{on, on-changed, Knows, knows-row}
 use Rattle.text.proofs.SpellLines.{onShares, shares-changed}
 use Rattle.text.proofs.SpellBack.{Back, BackOf, demand-back, lit-back, number-back, parted-back, row-back, at, joined-at, changed-at}
 use Rattle.text.proofs.SpellBackFacts.{facts-back}

@@ -1,57 +1,22 @@
 -- Back from an accepted text: it spells a task. Assumes nothing.
 use Prim.Native.Nat.{ℕ, zero, suc, _+_, _≤_, _<_}
-use Prim.Native.String.{String}
 use native.Mathlib.Omega.{arith}
 use mathlib.Core.Path.{_≡_, refl, sym, ap, ap₂, _∙_}
 use mathlib.Core.List.{List, [], _∷_, _++_, append-assoc, append-nil}
 use mathlib.Core.Bool.{Bool, true, false}
 use lib.Dec.{leb, ltb}
-use lib.ListN.{length, getD, set, replicate, length-replicate}
+use lib.ListN.{length, getD, replicate, length-replicate}
 use borrow.Author.Tests.{ltb-true, leb-true}
 use Rattle.meaning.specs.Sas.{Facts}
 use Rattle.meaning.specs.Split.{Task}
 use Rattle.tables.specs.Layout.{Tables, factsRoom, domAt, domPlace, initPlace, goalPlace, prePlace, effPlace, classPlace, sharePlace}
 use Rattle.text.specs.Fields.{pick, slash, mostVars, mostValues, mostOps, mostMaps}
-use Rattle.text.specs.Grammar.{
-  Verdict,
-  accepted,
-  refused,
-  Next,
-  Part,
-  _▸_,
-  nothing,
-  ask,
-  keep,
-  within,
-  number,
-  line,
-  lines,
-  factList,
-  withCounts,
-  putCost,
-  editionLine,
-  varsLine,
-  domLine,
-  initLine,
-  goalLine,
-  operator,
-  opsLine,
-  opLines,
-  variables,
-  mapsLine,
-  mapLines,
-  amounts,
-  shareLines,
-  taskLines,
-  theEnd,
-  noTask,
-  verdict,
-}
+use Rattle.text.specs.Grammar.{accepted, Next, Part, _▸_, nothing, ask, keep, within, number, line, lines, factList, withCounts, putCost, editionLine, varsLine, domLine, initLine, goalLine, operator, opsLine, opLines, variables, mapsLine, mapLines, amounts, shareLines, taskLines, theEnd, noTask, verdict}
 use Rattle.text.specs.Spelling.{digits, joined, numbers, someFacts, keyed, stacked, opText, mapText, shareText, spelled, changed, row, factRow}
 use Rattle.text.proofs.SpellFacts.{on, Knows, knows-row, knows-facts, knows-changed}
 use Rattle.text.proofs.SpellLines.{onShares}
 use Rattle.text.proofs.SpellTables.{zeros, writes-row}
-use Rattle.text.proofs.SpellBack.{Back, BackOf, not-refused, number-back, line-back, lines-back}
+use Rattle.text.proofs.SpellBack.{BackOf, not-refused, number-back, line-back, lines-back}
 use Rattle.text.proofs.SpellBackFacts.{facts-back}
 use Rattle.text.proofs.SpellBackLines.{Op, opSpelled, opStored, operator-back, variables-back, amounts-back, varRow-back}
 

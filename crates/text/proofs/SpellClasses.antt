@@ -1,21 +1,19 @@
 -- The classes of a variable as the text's grammar counts them and as the scan does: the same count, and none missing together. Assumes nothing.
-use Prim.Native.Nat.{ℕ, zero, suc, _+_, _≤_, _<_, max}
+use Prim.Native.Nat.{ℕ, zero, suc, _+_, _≤_, _<_}
 use native.Mathlib.Omega.{arith}
 use mathlib.Core.Path.{_≡_, refl, sym, ap, ap₂, _∙_}
 use mathlib.Core.List.{List, [], _∷_}
 use mathlib.Core.Bool.{Bool, true, false, _&&_, _||_}
-use lib.Dec.{eqb, leb, ltb}
-use borrow.Author.Tests.{eq-eqb, ne-eqb, eqb-true, eqb-false, ltb-true, ltb-false}
+use lib.Dec.{eqb}
+use borrow.Author.Tests.{eq-eqb, ne-eqb, eqb-true, eqb-false}
 use Rattle.refusals.specs.declared.Refusal.{Refusal}
 use Rattle.meaning.specs.Views.{every}
 use Rattle.meaning.specs.Split.{countOf}
-use Rattle.tables.specs.declared.scan.Found.{Found}
 use Rattle.tables.specs.declared.scan.Found.the-variants.{Clean, Fault}
 use Rattle.tables.specs.Scan.{someHas, noneMissing as scanNoneMissing}
 use Rattle.tables.proofs.Laws.{by-cases}
 use Rattle.text.specs.Fields.{pick, mostValues}
 use Rattle.text.specs.Grammar.{has, topOf, allOf, classCount, noneMissing}
-use Rattle.text.proofs.Decimal.{clash}
 
 -- a fault is not clean
 pub no-fault : {A : Type 0} {r : Refusal} → Fault r ≡ Clean → A

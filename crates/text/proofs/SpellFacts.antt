@@ -6,37 +6,20 @@ use mathlib.Core.Path.{_≡_, refl, sym, ap, _∙_}
 use mathlib.Core.List.{List, [], _∷_, _++_, append-assoc}
 use mathlib.Core.Bool.{Bool, true, false}
 use lib.Dec.{eqb, leb, ltb}
-use lib.ListN.{set, getD}
+use lib.ListN.{set}
 use lib.Seq.{getD-set-other}
-use borrow.Author.Tests.{eq-eqb, ne-eqb, le-leb, lt-ltb, leb-true, ltb-true}
+use borrow.Author.Tests.{ne-eqb, le-leb, lt-ltb}
 use Rattle.refusals.specs.declared.Refusal.{Refusal}
 use Rattle.refusals.specs.declared.Refusal.the-variants.{OutOfRange, NotRising}
 use Rattle.meaning.specs.Sas.{Facts}
 use Rattle.tables.specs.declared.scan.Found.{Found}
-use Rattle.tables.specs.declared.scan.Found.the-variants.{Clean, Fault}
 use Rattle.tables.specs.Layout.{Tables, domPlace, domAt}
 use Rattle.tables.specs.Scan.{unless, _then_, each}
 use Rattle.text.specs.Fields.{pick, isDigit, comma, dash, colon}
-use Rattle.text.specs.Grammar.{
-  Verdict,
-  Next,
-  Part,
-  _▸_,
-  nothing,
-  ask,
-  keep,
-  demand,
-  lit,
-  choice,
-  within,
-  number,
-  putFact,
-  facts,
-  factList,
-}
+use Rattle.text.specs.Grammar.{Verdict, Next, Part, _▸_, nothing, ask, keep, demand, lit, choice, within, number, putFact, facts, factList}
 use Rattle.text.specs.Spelling.{digits, fact, another, moreFacts, first, someFacts, changed, row, said, factRow}
-use Rattle.text.proofs.Decimal.{clash, Stop, other, Head, head, digits-head}
-use Rattle.text.proofs.SpellParts.{judged, judged-on, next, Told, demand-told, lit-told, number-told}
+use Rattle.text.proofs.Decimal.{Stop, other, Head, head, digits-head}
+use Rattle.text.proofs.SpellParts.{judged, next, Told, demand-told, lit-told, number-told}
 
 -- two tests that hold together
 pub same-test : (a b : Bool) → (a ≡ true → b ≡ true) → (b ≡ true → a ≡ true) → a ≡ b

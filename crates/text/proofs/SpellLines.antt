@@ -1,54 +1,22 @@
 -- Each line of the text on what is spelled: what the scan says of the same numbers, and the numbers in their places. Assumes nothing.
 use Prim.Native.String.{String}
-use Prim.Native.Nat.{ℕ, zero, suc, _+_, _*_, _≤_, _<_}
+use Prim.Native.Nat.{ℕ, zero, suc, _+_, _≤_, _<_}
 use native.Mathlib.Omega.{arith}
-use mathlib.Core.Path.{_≡_, refl, sym, ap, _∙_}
+use mathlib.Core.Path.{_≡_, refl, ap, _∙_}
 use mathlib.Core.List.{List, [], _∷_, _++_, append-assoc}
 use mathlib.Core.Bool.{Bool, true, false, _&&_}
-use lib.Dec.{eqb, leb, ltb, leb·suc-suc}
+use lib.Dec.{leb, ltb, leb·suc-suc}
 use lib.ListN.{set}
-use borrow.Author.Tests.{le-leb}
-use Rattle.refusals.specs.declared.Refusal.{Refusal}
 use Rattle.refusals.specs.declared.Refusal.the-variants.{OutOfRange}
-use Rattle.meaning.specs.Sas.{Facts}
-use Rattle.meaning.specs.Split.{Task, view}
-use Rattle.tables.specs.declared.scan.Found.{Found}
-use Rattle.tables.specs.declared.scan.Found.the-variants.{Clean, Fault}
+use Rattle.meaning.specs.Split.{Task}
+use Rattle.tables.specs.declared.scan.Found.the-variants.{Clean}
 use Rattle.tables.specs.Layout.{Tables, domAt, domPlace, initPlace, goalPlace, prePlace, effPlace, sharePlace}
 use Rattle.tables.specs.Scan.{unless, _then_, each, factsFault, operatorFault, mapFault, sharesFault, within as scanWithin}
 use Rattle.text.specs.Fields.{pick, isDigit, lineEnd, comma, dash, semicolon, mostValues, mostCost}
-use Rattle.text.specs.Grammar.{
-  Verdict,
-  Next,
-  Part,
-  _▸_,
-  nothing,
-  ask,
-  keep,
-  lit,
-  within,
-  number,
-  row as numberRow,
-  line,
-  factList,
-  withCounts,
-  putFact,
-  putCost,
-  putShare,
-  editionLine,
-  varsLine,
-  domLine,
-  initLine,
-  goalLine,
-  opsLine,
-  operator,
-  mapsLine,
-  variables,
-  amounts,
-}
+use Rattle.text.specs.Grammar.{Next, Part, _▸_, nothing, ask, keep, lit, within, number, row as numberRow, line, factList, withCounts, putFact, putCost, putShare, editionLine, varsLine, domLine, initLine, goalLine, opsLine, operator, mapsLine, variables, amounts}
 use Rattle.text.specs.Spelling.{digits, joined, numbers, someFacts, keyed, opText, mapText, shareText, changed, row, factRow, opRows, mapRows}
-use Rattle.text.proofs.Decimal.{Stop, other}
-use Rattle.text.proofs.SpellParts.{judged, judged-on, judged-then, next, Told, ToldLine, lit-told, number-told, row-told, line-told}
+use Rattle.text.proofs.Decimal.{other}
+use Rattle.text.proofs.SpellParts.{judged, next, Told, ToldLine, lit-told, number-told, row-told, line-told}
 use Rattle.text.proofs.SpellFacts.{within-below, on, on-changed, Knows, knows-set, knows-facts, Ends, facts-told}
 use Rattle.text.proofs.SpellMaps.{variables-told}
 

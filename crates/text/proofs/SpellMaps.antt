@@ -4,41 +4,26 @@ use Prim.Native.Nat.{ℕ, zero, suc, _+_, _*_, _≤_, _<_}
 use native.Mathlib.Omega.{arith}
 use native.Mathlib.Numerals.{add-one}
 use mathlib.Core.Path.{_≡_, refl, sym, ap, _∙_}
-use mathlib.Core.List.{List, [], _∷_, _++_, append-assoc}
-use mathlib.Core.Bool.{Bool, true, false}
-use lib.Dec.{eqb, leb, ltb}
+use mathlib.Core.List.{List, [], _∷_, _++_}
+use mathlib.Core.Bool.{Bool, false}
+use lib.Dec.{leb, ltb}
 use lib.ListN.{set}
 use borrow.Author.Tests.{ltb-true}
 use Rattle.refusals.specs.declared.Refusal.{Refusal}
 use Rattle.refusals.specs.declared.Refusal.the-variants.{OutOfRange, ClassMissing, TooManyStates}
 use Rattle.meaning.specs.Numbering.{size}
 use Rattle.meaning.specs.Views.{abstractStates}
-use Rattle.meaning.specs.Split.{Task, countOf, view}
+use Rattle.meaning.specs.Split.{Task, view}
 use Rattle.tables.specs.declared.scan.Found.{Found}
-use Rattle.tables.specs.declared.scan.Found.the-variants.{Clean, Fault}
+use Rattle.tables.specs.declared.scan.Found.the-variants.{Clean}
 use Rattle.tables.specs.Layout.{Tables, domAt, classPlace}
 use Rattle.tables.specs.Scan.{unless, _then_, each, classesFault, noneMissing as scanNoneMissing}
 use Rattle.tables.proofs.Walks.{then-then, clean-first, rule-held, walk-clean}
 use Rattle.text.specs.Fields.{pick, isDigit, comma, slash, mostValues, mostStates}
-use Rattle.text.specs.Grammar.{
-  Verdict,
-  Next,
-  Part,
-  _▸_,
-  keep,
-  demand,
-  within,
-  number,
-  parted,
-  putFact,
-  classCount,
-  noneMissing,
-  classes,
-  variables,
-}
+use Rattle.text.specs.Grammar.{Verdict, Next, Part, _▸_, keep, parted, putFact, classCount, noneMissing, classes, variables}
 use Rattle.text.specs.Spelling.{digits, gap, joined, numbers, changed, row}
 use Rattle.text.proofs.Decimal.{Stop, other}
-use Rattle.text.proofs.SpellParts.{judged, judged-on, judged-then, next, Told, demand-told, number-told, parted-told, stop-gap, joined-none, joined-front}
+use Rattle.text.proofs.SpellParts.{judged, next, Told, demand-told, number-told, parted-told, stop-gap, joined-none, joined-front}
 use Rattle.text.proofs.SpellFacts.{within-below, on, Knows, knows-set, knows-row}
 use Rattle.text.proofs.SpellClasses.{listed, count-is, missing-is}
 

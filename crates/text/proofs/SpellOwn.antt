@@ -1,25 +1,13 @@
 -- The tables of a small task give back its numbers: at each of the task's own places stands what the task has there. Assumes nothing.
-use Prim.Native.Nat.{ℕ, zero, suc, _+_, _*_, _≤_, _<_}
+use Prim.Native.Nat.{ℕ, _≤_, _<_}
 use native.Mathlib.Omega.{arith}
-use mathlib.Core.Path.{_≡_, refl, sym, ap, _∙_}
-use mathlib.Core.List.{List, [], _∷_}
-use lib.ListN.{length, getD, set, replicate}
+use mathlib.Core.Path.{_≡_, _∙_}
+use mathlib.Core.List.{List}
+use lib.ListN.{length, getD}
 use Rattle.meaning.specs.Split.{Task}
 use Rattle.tables.specs.Layout.{domPlace, initPlace, goalPlace, prePlace, effPlace, classPlace, sharePlace}
-use Rattle.text.specs.Spelling.{changed, row, factRow, opRows, mapRows, headRows}
-use Rattle.text.proofs.SpellTables.{
-  Spares,
-  Long,
-  long-changed,
-  spares-changed,
-  writes-changed,
-  long-row,
-  spares-row,
-  writes-row,
-  long-facts,
-  spares-facts,
-  writes-facts,
-}
+use Rattle.text.specs.Spelling.{changed, row, opRows, mapRows, headRows}
+use Rattle.text.proofs.SpellTables.{Spares, Long, long-changed, spares-changed, writes-changed, long-row, spares-row, writes-row, long-facts, spares-facts, writes-facts}
 
 -- a task within the limits that the tables have room for
 pub record Small (τ : Task) : Type 0 where

@@ -1,13 +1,12 @@
 -- Parts of the text on what is spelled: each reads it, and says what the scan says of the same numbers: a number, a row, a line, several lines.
 -- Assumes nothing.
-use Prim.Native.Nat.{ℕ, zero, suc, _+_, _≤_, _<_}
+use Prim.Native.Nat.{ℕ, zero, suc, _+_, _<_}
 use Prim.Native.String.{String}
 use native.Mathlib.Omega.{arith}
 use native.Mathlib.Numerals.{add-one}
 use mathlib.Core.Path.{_≡_, refl, sym, ap, _∙_}
 use mathlib.Core.List.{List, [], _∷_, _++_, append-assoc}
 use mathlib.Core.Bool.{Bool, true, false}
-use lib.Dec.{eqb}
 use borrow.Author.Tests.{eq-eqb}
 use Rattle.refusals.specs.declared.Refusal.{Refusal}
 use Rattle.refusals.specs.declared.Refusal.the-variants.{OutOfRange}
@@ -15,25 +14,8 @@ use Rattle.tables.specs.declared.scan.Found.{Found}
 use Rattle.tables.specs.declared.scan.Found.the-variants.{Clean, Fault}
 use Rattle.tables.specs.Layout.{Tables}
 use Rattle.tables.specs.Scan.{unless, _then_, each}
-use Rattle.text.specs.Fields.{pick, isDigit, bytes, lineEnd, comma, slash}
-use Rattle.text.specs.Grammar.{
-  Verdict,
-  accepted,
-  refused,
-  Next,
-  Part,
-  _▸_,
-  keep,
-  demand,
-  lit,
-  within,
-  number,
-  parted,
-  row,
-  endOfLine,
-  line,
-  lines,
-}
+use Rattle.text.specs.Fields.{pick, isDigit, bytes, lineEnd, comma}
+use Rattle.text.specs.Grammar.{Verdict, refused, Next, Part, _▸_, keep, demand, lit, within, number, parted, row, endOfLine, line, lines}
 use Rattle.text.specs.Spelling.{digits, gap, joined, keyed, stacked, changed}
 use Rattle.text.proofs.Decimal.{Stop, other, digits-read}
 

@@ -1,5 +1,5 @@
 -- The reader and the spelling: reading what spells a clean task gives back its tables, and a text that is accepted spells a valid task. Assumes nothing.
-use Prim.Native.Nat.{ℕ, _≤_, _<_}
+use Prim.Native.Nat.{ℕ, _≤_}
 use native.Mathlib.Omega.{arith}
 use mathlib.Core.Path.{_≡_, refl, sym, ap, _∙_}
 use mathlib.Core.List.{List}
@@ -9,14 +9,13 @@ use lib.ListN.{length}
 use borrow.Author.Tests.{le-ltb}
 use Rattle.refusals.specs.declared.Refusal.{Refusal}
 use Rattle.tables.specs.declared.Counts.{Counts}
-use Rattle.tables.specs.declared.scan.Found.the-variants.{Clean, Fault}
+use Rattle.tables.specs.declared.scan.Found.the-variants.{Clean}
 use Rattle.tables.specs.Layout.{Tables, factsRoom, costsRoom, sharesRoom}
 use Rattle.tables.specs.Task.{taskOf}
 use Rattle.tables.specs.Scan.{unless, taskFault, roomy, tablesFault}
 use Rattle.tables.proofs.Walks.{clean-next}
 use Rattle.tables.proofs.Validity.{clean-valid}
 use Rattle.refusals.specs.declared.Refusal.the-variants.{TextTooLong, TableTooShort}
-use Rattle.text.specs.declared.Reading.{Reading}
 use Rattle.text.specs.declared.Reading.the-variants.{Accepted, Refused}
 use Rattle.text.specs.Fields.{pick, mostBytes, Outcome, leaves, admitted}
 use Rattle.text.specs.Grammar.{Verdict, accepted, refused, verdict, outcome, readText}

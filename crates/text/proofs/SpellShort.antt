@@ -1,18 +1,16 @@
 -- The text of a valid task is short: at most 16,384 bytes, so that number 1 never meets it. Assumes nothing.
-use Prim.Native.Nat.{ℕ, zero, suc, _+_, _-_, _*_, _/_, _%_, _^_, _≤_, _<_}
+use Prim.Native.Nat.{ℕ, zero, suc, _+_, _*_, _/_, _^_, _≤_, _<_}
 use Prim.Native.String.{String}
 use native.Mathlib.Omega.{arith}
 use native.Mathlib.Nat.{pow-succ', suc-mul}
-use mathlib.Core.Path.{_≡_, refl, sym, ap, _∙_}
-use mathlib.Core.List.{List, [], _∷_, _++_}
-use mathlib.Core.Bool.{Bool, true, false}
+use mathlib.Core.List.{List, _++_}
 use lib.Dec.{ltb}
 use lib.ListN.{length, length-append}
 use borrow.Author.Tests.{ltb-true, ltb-false}
 use Rattle.meaning.specs.Sas.{Facts}
 use Rattle.meaning.specs.Split.{Task, Valid}
 use Rattle.tables.proofs.Laws.{by-cases}
-use Rattle.text.specs.Fields.{bytes, lineEnd, comma, slash, mostBytes}
+use Rattle.text.specs.Fields.{bytes, comma, slash, mostBytes}
 use Rattle.text.specs.Spelling.{lastDigits, digits, gap, joined, numbers, fact, another, moreFacts, first, someFacts, keyed, stacked, opText, mapText, shareText, spelled}
 use Rattle.text.proofs.Decimal.{few, many}
 

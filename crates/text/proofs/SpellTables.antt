@@ -1,28 +1,15 @@
 -- What stands in the tables of a task: its own numbers, each in its place. Assumes nothing.
-use Prim.Native.Nat.{ℕ, zero, suc, _+_, _*_, _≤_, _<_}
+use Prim.Native.Nat.{ℕ, zero, suc, _+_, _≤_, _<_}
 use native.Mathlib.Omega.{arith}
-use mathlib.Core.Path.{_≡_, refl, sym, ap, _∙_}
-use mathlib.Core.List.{List, [], _∷_}
+use mathlib.Core.Path.{_≡_, refl, ap, _∙_}
+use mathlib.Core.List.{List}
 use lib.Dec.{eqb}
-use lib.ListN.{length, getD, set, replicate, length-set, length-replicate}
+use lib.ListN.{length, getD, set, replicate, length-set}
 use lib.Seq.{getD-set-same, getD-set-other}
 use borrow.Author.Tests.{eqb-true, eqb-false}
 use Rattle.meaning.specs.Sas.{Facts}
-use Rattle.meaning.specs.Split.{Task}
-use Rattle.tables.specs.Layout.{
-  factsRoom,
-  costsRoom,
-  sharesRoom,
-  domPlace,
-  initPlace,
-  goalPlace,
-  prePlace,
-  effPlace,
-  classPlace,
-  sharePlace,
-}
 use Rattle.tables.proofs.Laws.{by-cases}
-use Rattle.text.specs.Spelling.{changed, row, said, factRow, opRows, mapRows, headRows}
+use Rattle.text.specs.Spelling.{changed, row, said, factRow}
 
 -- ---- changes one after another
 

@@ -4,7 +4,7 @@ use Prim.Native.Nat.{ℕ, zero, suc, _+_, _≤_, _<_}
 use native.Mathlib.Omega.{arith}
 use native.Mathlib.Numerals.{add-one}
 use mathlib.Core.Path.{_≡_, refl, sym, ap, ap₂, _∙_}
-use mathlib.Core.List.{List, [], _∷_, _++_, append-assoc, append-nil}
+use mathlib.Core.List.{List, [], _++_, append-assoc, append-nil}
 use mathlib.Core.Bool.{Bool, true, false, _&&_}
 use lib.Dec.{leb, ltb}
 use lib.ListN.{length, getD, set, replicate, length-replicate}
@@ -19,73 +19,14 @@ use Rattle.tables.specs.Task.{taskOf}
 use Rattle.tables.specs.Scan.{unless, _then_, each, factsFault, operatorFault, mapFault, sharesFault, splitFault, taskFault, within as scanWithin}
 use Rattle.tables.proofs.Walks.{rule-held, walk-clean}
 use Rattle.text.specs.Fields.{pick, shareTotal, opLine, overLine}
-use Rattle.text.specs.Grammar.{
-  Verdict,
-  accepted,
-  refused,
-  Next,
-  Part,
-  _▸_,
-  ask,
-  line,
-  lines,
-  initLine,
-  goalLine,
-  operator,
-  opsLine,
-  opLines,
-  mapsLine,
-  variables,
-  mapLines,
-  amounts,
-  shareLines,
-  taskLines,
-  settled,
-  theEnd,
-  noTask,
-  verdict,
-  putCost,
-}
-use Rattle.text.specs.Spelling.{
-  digits,
-  numbers,
-  someFacts,
-  keyed,
-  stacked,
-  opText,
-  mapText,
-  shareText,
-  spelled,
-  textOf,
-  changed,
-  row,
-  factRow,
-  opRows,
-  mapRows,
-  headRows,
-  tablesOf,
-  canon,
-}
+use Rattle.text.specs.Grammar.{accepted, refused, Next, Part, _▸_, ask, line, lines, initLine, goalLine, operator, opsLine, opLines, mapsLine, variables, mapLines, amounts, shareLines, taskLines, settled, theEnd, noTask, verdict, putCost}
+use Rattle.text.specs.Spelling.{digits, numbers, someFacts, keyed, stacked, opText, mapText, shareText, spelled, textOf, changed, row, opRows, mapRows, headRows, tablesOf, canon}
 use Rattle.text.proofs.Decimal.{clash}
-use Rattle.text.proofs.SpellParts.{judged, judged-on, judged-then, next, lines-told}
+use Rattle.text.proofs.SpellParts.{judged, next, lines-told}
 use Rattle.text.proofs.SpellFacts.{on, on-changed, Knows, knows-row, knows-facts, knows-changed}
 use Rattle.text.proofs.SpellTables.{zeros, writes-row}
 use Rattle.text.proofs.SpellOwn.{Small, costs-own, shares-own}
-use Rattle.text.proofs.SpellLines.{
-  edition-told,
-  vars-told,
-  dom-told,
-  init-told,
-  goal-told,
-  ops-told,
-  opChange,
-  op-told,
-  maps-told,
-  map-told,
-  onShares,
-  shares-changed,
-  share-told,
-}
+use Rattle.text.proofs.SpellLines.{edition-told, vars-told, dom-told, init-told, goal-told, ops-told, opChange, op-told, maps-told, map-told, onShares, shares-changed, share-told}
 
 -- ---- after all else: shares against costs
 
