@@ -15,3 +15,4 @@ pub mod SpellBackTask
 pub mod SpellAccepted
 pub mod SpellShort
 pub mod SpellRead
+pub mod SpellBeyond
