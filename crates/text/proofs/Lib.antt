@@ -16,3 +16,4 @@ pub mod SpellAccepted
 pub mod SpellShort
 pub mod SpellRead
 pub mod SpellBeyond
+pub mod SpellKinds

@@ -16,7 +16,7 @@ use Rattle.tables.specs.declared.scan.Found.{Found}
 use Rattle.tables.specs.declared.scan.Found.the-variants.{Clean, Fault}
 use Rattle.tables.specs.Layout.{Tables, factsRoom, costsRoom, sharesRoom, domPlace, initPlace, goalPlace, prePlace, effPlace, classPlace, sharePlace, costAt, shareAt}
 use Rattle.tables.specs.Task.{taskOf}
-use Rattle.tables.specs.Scan.{unless, _then_, each, factsFault, operatorFault, mapFault, sharesFault, splitFault, taskFault, within as scanWithin}
+use Rattle.tables.specs.Scan.{unless, _then_, each, factsFault, operatorFault, mapFault, sharesFault, splitFault, taskFault, roomy, tablesFault, within as scanWithin}
 use Rattle.tables.proofs.Walks.{rule-held, walk-clean}
 use Rattle.text.specs.Fields.{pick, shareTotal, opLine, overLine}
 use Rattle.text.specs.Grammar.{accepted, refused, Next, Part, _▸_, ask, line, lines, initLine, goalLine, operator, opsLine, opLines, mapsLine, variables, mapLines, amounts, shareLines, taskLines, settled, theEnd, noTask, verdict, putCost}
@@ -297,3 +297,8 @@ fault-refused t r p = scan-is-grammar t ∙ ap (λ (f : Found). judged f (accept
 
 pub clean-accepted : (t : Tables) → taskFault (taskOf t) ≡ Clean → verdict (textOf t) ≡ accepted (canon t)
 clean-accepted t p = scan-is-grammar t ∙ ap (λ (f : Found). judged f (accepted (canon t))) p
+
+-- with room for a task the whole judgement of handed-in tables is that of the text
+pub tables-judged : (t : Tables) → roomy t ≡ true → verdict (textOf t) ≡ judged (tablesFault t) (accepted (canon t))
+unfolding tablesFault
+tables-judged t r = scan-is-grammar t ∙ sym (rw r refl)
