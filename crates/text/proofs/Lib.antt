@@ -1,3 +1,14 @@
+pub mod Admission
+pub mod BridgeReading
+pub mod BridgeNumbers
+pub mod BridgeArea
+pub mod BridgeRows
+pub mod BridgeLines
+pub mod BridgeFacts
+pub mod BridgeOps
+pub mod BridgeMaps
+pub mod BridgeShares
+pub mod BridgeText
 pub mod Cases
 pub mod Decimal
 pub mod SpellParts
@@ -17,3 +28,6 @@ pub mod SpellShort
 pub mod SpellRead
 pub mod SpellBeyond
 pub mod SpellKinds
+pub mod Filling
+pub mod Laws
+pub mod Masks

@@ -35,6 +35,7 @@ use Rattle.text.specs.declared.Reading.the-variants.{Accepted, Refused}
 use Rattle.text.specs.Fields.{
   pick,
   isDigit,
+  bytes,
   lineEnd,
   comma,
   dash,
@@ -88,23 +89,7 @@ dom w v = getD w (domPlace v) 0
 
 -- the keyword of each field that begins a line, 8 bytes a field; past the last field no byte fits
 abbrev pub keys : List ℕ
-keys =
-    101 ∷ 100 ∷ 105 ∷ 116 ∷ 105 ∷ 111 ∷ 110 ∷ 61
-    ∷ 118 ∷ 97 ∷ 114 ∷ 115 ∷ 61 ∷ 0 ∷ 0 ∷ 0
-    ∷ 100 ∷ 111 ∷ 109 ∷ 61 ∷ 0 ∷ 0 ∷ 0 ∷ 0
-    ∷ 105 ∷ 110 ∷ 105 ∷ 116 ∷ 61 ∷ 0 ∷ 0 ∷ 0
-    ∷ 103 ∷ 111 ∷ 97 ∷ 108 ∷ 61 ∷ 0 ∷ 0 ∷ 0
-    ∷ 0 ∷ 0 ∷ 0 ∷ 0 ∷ 0 ∷ 0 ∷ 0 ∷ 0
-    ∷ 111 ∷ 112 ∷ 115 ∷ 61 ∷ 0 ∷ 0 ∷ 0 ∷ 0
-    ∷ 111 ∷ 112 ∷ 61 ∷ 0 ∷ 0 ∷ 0 ∷ 0 ∷ 0
-    ∷ 0 ∷ 0 ∷ 0 ∷ 0 ∷ 0 ∷ 0 ∷ 0 ∷ 0
-    ∷ 0 ∷ 0 ∷ 0 ∷ 0 ∷ 0 ∷ 0 ∷ 0 ∷ 0
-    ∷ 0 ∷ 0 ∷ 0 ∷ 0 ∷ 0 ∷ 0 ∷ 0 ∷ 0
-    ∷ 0 ∷ 0 ∷ 0 ∷ 0 ∷ 0 ∷ 0 ∷ 0 ∷ 0
-    ∷ 109 ∷ 97 ∷ 112 ∷ 115 ∷ 61 ∷ 0 ∷ 0 ∷ 0
-    ∷ 109 ∷ 97 ∷ 112 ∷ 61 ∷ 0 ∷ 0 ∷ 0 ∷ 0
-    ∷ 115 ∷ 104 ∷ 97 ∷ 114 ∷ 101 ∷ 61 ∷ 0 ∷ 0
-    ∷ []
+keys = bytes "edition=vars=   dom=    init=   goal=           ops=    op=                                     maps=   map=    share=  "
 
 unfoldable pub keyByte : ℕ → ℕ → ℕ
 keyByte f k = getD keys (f * 8 + k) 256
