@@ -1,7 +1,8 @@
 -- The work area against the grammar's tables: a fact, a cost and a share stored in the area are stored in the tables that it stands for. Assumes nothing.
 use Prim.Native.Nat.{ℕ, zero, suc, _+_, _*_, _/_, _%_, _≤_, _<_, min}
 use native.Mathlib.Omega.{arith}
-use mathlib.Core.Path.{_≡_, refl, sym, _∙_}
+use mathlib.Core.Path.{_≡_, refl, sym, ap, _∙_}
+use native.Mathlib.Nat.{zero-add}
 use mathlib.Core.List.{List}
 use lib.ListN.{length, getD, set, take, length-set}
 use lib.Seq.{getD-set-same, getD-set-other, take-set-le, take-set-lt, getD-take}
@@ -130,7 +131,7 @@ module _ (n : Counts) (w : List ℕ) (long : length w ≡ 3352) where
 -- what stands in the tables
 pub dom-of : (n : Counts) (w : List ℕ) (v : ℕ) → v < 1624 → domAt (tablesOf n w .facts) v ≡ dom w v
 unfolding tablesOf
-dom-of n w v h = getD-take 1624 w v 0 h
+dom-of n w v h = ap (λ (i : ℕ). getD (take 1624 w) i 0) (zero-add v) ∙ getD-take 1624 w v 0 h
 
 -- ---- shares above costs, in the area and in its tables
 module _ (cost cost′ : ℕ → ℕ) (share share′ : ℕ → ℕ → ℕ) (most : ℕ) (same : (o : ℕ) → o < most → cost o ≡ cost′ o) where

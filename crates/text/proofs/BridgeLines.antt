@@ -2,6 +2,7 @@
 use Prim.Native.Nat.{ℕ, suc, _+_, _-_, _≤_, _<_, zero-le}
 use native.Mathlib.Omega.{arith}
 use mathlib.Core.Path.{_≡_, refl, sym, ap, _∙_}
+use native.Mathlib.Nat.{zero-add}
 use mathlib.Core.List.{List, [], _∷_}
 use mathlib.Core.Bool.{true, false}
 use lib.ListN.{getD}
@@ -140,7 +141,7 @@ dom-ok n fits w g k ok =
     (λ i z v u y p q.
     let s = within-both v 1 9 q in
     let x = fits .high in
-    (fact-kept n u (p .long) i v (omega arith) (omega arith), known-dom p v (omega arith) (s .0) (omega arith)))
+    (fact-kept n u (p .long) i v (omega arith) (omega arith) ∙ ap (λ (j : ℕ). putFact j v (tablesOf n u)) (sym (zero-add i)), known-dom p v (omega arith) (s .0) (omega arith)))
     (λ i z v b u y. vars-more 3 z v b i n u (fits .high) domRow y)
     (λ i z v u t₁ y x o a₁ p e.
     then-mark (num 3 2 i 0 0 0 0 1 n) u z v lineEnd (kw 4 3 0 n 0) _ (λ u₁ m₁ U₁. k u₁ (m₁ + 1) U₁) (λ q. omega arith) x e

@@ -21,7 +21,6 @@ use Rattle.tables.specs.Layout.{
   factsRoom,
   costsRoom,
   sharesRoom,
-  domPlace,
   initPlace,
   goalPlace,
   prePlace,
@@ -85,7 +84,7 @@ abbrev pub shareByte : ℕ → ℕ → ℕ
 shareByte m o = 1816 + 3 * sharePlace m o
 
 abbrev pub dom : List ℕ → ℕ → ℕ
-dom w v = getD w (domPlace v) 0
+dom w v = getD w v 0
 
 -- the keyword of each field that begins a line, 8 bytes a field; past the last field no byte fits
 abbrev pub keys : List ℕ
@@ -198,7 +197,7 @@ fault c w =
 unfoldable pub stored : Ctrl → List ℕ → List ℕ
 stored c w =
     pick (eqb (c .field) 2)
-    (put w (domPlace (c .var)) (c .val))
+    (put w (c .var) (c .val))
     (pick (eqb (c .field) 3)
     (put w (initPlace (c .var)) (c .val))
     (pick (eqb (c .field) 5)
