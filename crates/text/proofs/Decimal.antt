@@ -5,17 +5,14 @@ use native.Mathlib.Omega.{arith}
 use mathlib.Core.Path.{_≡_, refl, sym, ap, _∙_}
 use mathlib.Core.List.{List, [], _∷_, _++_, append-assoc, append-nil}
 use mathlib.Core.Bool.{Bool, true, false}
-use lib.Dec.{ltb, leb, eqb}
+use lib.Dec.{ltb, eqb}
 use lib.ListN.{take, drop, length, take-append-drop}
 use lib.Seq.{take-at, drop-at}
-use borrow.Author.Tests.{lt-ltb, le-ltb, ltb-true, ltb-false, le-leb, leb-true, eq-eqb, ne-eqb, eqb-true, eqb-false}
+use borrow.Author.Tests.{lt-ltb, le-ltb, ltb-true, ltb-false, ne-eqb, eqb-true, eqb-false}
 use Rattle.text.specs.Fields.{pick, isDigit}
 use Rattle.text.specs.Grammar.{value, runLen, formed}
 use Rattle.text.specs.Spelling.{lastDigits, digits}
-
--- two answers of one test
-pub clash : {A : Type 0} {b : Bool} → b ≡ true → b ≡ false → A
-clash p q = let z : _≡_ {A = ℕ} 0 1 = cc in absurd (let n : ⊥ = omega arith in n)
+use Rattle.text.proofs.Runs.{clash, is-digit, digit-both, run-hit, run-miss, Stop, nil, stop-none, formed-off, formed-zero, formed-lead}
 
 -- ---- the digits of a number
 
@@ -122,46 +119,6 @@ are-digits v = last-are-digits (suc v) v
 
 -- ---- the run that a text begins with
 
-pub is-digit : (b : ℕ) → 48 ≤ b → b ≤ 57 → isDigit b ≡ true
-unfolding isDigit pick
-is-digit b p q = simp (le-leb 48 b p, le-leb b 57 q)
-
-digit-both : (b : ℕ) → isDigit b ≡ true → (48 ≤ b) × (b ≤ 57)
-unfolding isDigit pick
-digit-both b = go (leb 48 b) (leb b 57) refl refl
-  where
-    go : (p q : Bool) → leb 48 b ≡ p → leb b 57 ≡ q → pick p q false ≡ true → (48 ≤ b) × (b ≤ 57)
-    go true true x y z = (leb-true 48 b x, leb-true b 57 y)
-    go true false x y z = clash z refl
-    go false q x y z = clash z refl
-
-run-hit : (b : ℕ) (t : List ℕ) → isDigit b ≡ true → runLen (b ∷ t) ≡ suc (runLen t)
-unfolding runLen pick
-run-hit b t e = simp e
-
-run-miss : (b : ℕ) (t : List ℕ) → isDigit b ≡ false → runLen (b ∷ t) ≡ 0
-unfolding runLen pick
-run-miss b t e = simp e
-
--- a text that does not begin with a digit
-pub data Stop : List ℕ → Type 0 where
-  nil : Stop []
-  other : {b : ℕ} {t : List ℕ} → isDigit b ≡ false → Stop (b ∷ t)
-
-stop-none : {t : List ℕ} → Stop t → runLen t ≡ 0
-unfolding runLen
-stop-none nil = refl
-stop-none (other {b = b} {t = t} e) = run-miss b t e
-
-pub stop-after : (t : List ℕ) → Stop (drop (runLen t) t)
-unfolding runLen
-stop-after [] = nil
-stop-after (b ∷ t) = split (isDigit b) refl (stop-after t)
-  where
-    split : (q : Bool) → isDigit b ≡ q → Stop (drop (runLen t) t) → Stop (drop (runLen (b ∷ t)) (b ∷ t))
-    split true q d = rw (run-hit b t q) d
-    split false q d = rw (run-miss b t q) (other q)
-
 run-digits : {t u : List ℕ} → Digits t → Stop u → runLen (t ++ u) ≡ length t
 unfolding runLen
 run-digits none s = stop-none s
@@ -184,17 +141,9 @@ lead-digits (suc n) v a h = split (ltb v 10) refl (lead-digits n (v / 10))
         let g = ltb-false v 10 q in
         rw (many n v g) (lead-append ((48 + v % 10) ∷ []) (i (omega arith) (omega arith)))
 
-formed-lead : {t : List ℕ} → Lead t → (runLen t ≡ 0 → ⊥) → formed t ≡ true
+formed-led : {t : List ℕ} → Lead t → (runLen t ≡ 0 → ⊥) → formed t ≡ true
 unfolding formed pick
-formed-lead (lead {b = b} {t = t} z) h = simp (ne-eqb (runLen (b ∷ t)) 0 h, ne-eqb b 48 z)
-
-formed-lone : (b : ℕ) (t : List ℕ) → isDigit b ≡ true → runLen t ≡ 0 → formed (b ∷ t) ≡ true
-unfolding formed pick
-formed-lone b t q r = rw (run-hit b t q, r) (go (eqb b 48))
-  where
-    go : (p : Bool) → pick (eqb 1 0) false (pick p (eqb 1 1) true) ≡ true
-    go true = refl
-    go false = refl
+formed-led (lead {b = b} {t = t} z) h = simp (ne-eqb (runLen (b ∷ t)) 0 h, ne-eqb b 48 z)
 
 lead-length : {t : List ℕ} → Lead t → length t ≡ 0 → ⊥
 lead-length (lead z) e = omega arith
@@ -207,11 +156,11 @@ formed-digits v u s = split (eqb v 0) refl
     split : (q : Bool) → eqb v 0 ≡ q → formed (lastDigits (suc v) v ++ u) ≡ true
     split true q =
         let e : v ≡ 0 = eqb-true v 0 q in
-        rw (few v v (omega arith)) (formed-lone (48 + v) u (is-digit (48 + v) (omega arith) (omega arith)) (stop-none s))
+        rw (few v v (omega arith)) (formed-zero (48 + v) u (is-digit (48 + v) (omega arith) (omega arith)) (omega arith) (stop-none s))
     split false q =
         let e : v ≡ 0 → ⊥ = eqb-false v 0 q in
         let d : Lead (lastDigits (suc v) v) = lead-digits (suc v) v (omega arith) (omega arith) in
-        formed-lead (lead-append u d) (λ z. lead-length d (sym (run-digits (last-are-digits (suc v) v) s) ∙ z))
+        formed-led (lead-append u d) (λ z. lead-length d (sym (run-digits (last-are-digits (suc v) v) s) ∙ z))
 
 -- the digits of v, at a text's front, with no digit after them: their run, its value, its form and what is left
 pub record Reads (v : ℕ) (t u : List ℕ) : Type 0 where
@@ -251,21 +200,12 @@ are-run (b ∷ t) = split (isDigit b) refl (are-run t)
     split true q d = rw (run-hit b t q) (more (digit-both b q .0) (digit-both b q .1) d)
     split false q d = rw (run-miss b t q) none
 
-formed-off : (b : ℕ) (t : List ℕ) → isDigit b ≡ false → formed (b ∷ t) ≡ false
-unfolding formed pick
-formed-off b t q = rw (run-miss b t q) refl
-
-formed-zeros : (b : ℕ) (t : List ℕ) (n : ℕ) → isDigit b ≡ true → b ≡ 48 → runLen t ≡ suc n → formed (b ∷ t) ≡ false
-unfolding formed pick
-formed-zeros b t n q x r =
-    rw (run-hit b t q, r) (simp (ne-eqb (suc (suc n)) 0 (λ z. omega arith), eq-eqb b 48 x, ne-eqb (suc (suc n)) 1 (λ z. omega arith)))
-
 lone : (b : ℕ) (t : List ℕ) → formed (b ∷ t) ≡ true → isDigit b ≡ true → b ≡ 48 → runLen t ≡ 0
 lone b t e q x = go (runLen t) refl
   where
     go : (n : ℕ) → runLen t ≡ n → runLen t ≡ 0
     go zero r = r
-    go (suc n) r = clash e (formed-zeros b t n q x r)
+    go (suc n) r = clash e (formed-lead b t n q x r)
 
 lone-text : (b : ℕ) → b ≡ 48 → b ∷ [] ≡ digits (value 0 (b ∷ []))
 unfolding value

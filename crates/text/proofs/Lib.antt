@@ -10,6 +10,7 @@ pub mod BridgeMaps
 pub mod BridgeShares
 pub mod BridgeText
 pub mod Cases
+pub mod Runs
 pub mod Decimal
 pub mod SpellParts
 pub mod SpellFacts

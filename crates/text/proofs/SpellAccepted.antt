@@ -218,3 +218,14 @@ unfolding tablesFault
 spells-accepted x T s =
     let c = valid-clean T (own-roomy T (s .own)) (s .valid) in
     ap verdict (sym (s .text)) ∙ clean-accepted T (clean-next (unless (roomy T) TableTooShort) (taskFault (taskOf T)) c) ∙ ap accepted (sym (s .own))
+
+-- ---- one text a task
+
+-- only the task's own places are spelled
+pub own-places-spelled : (t : Tables) → taskFault (taskOf t) ≡ Clean → textOf (canon t) ≡ textOf t
+own-places-spelled t p = tables-spell (taskOf t) (clean-small (taskOf t) p)
+
+-- tables with one text are those of one task
+pub one-text : (t u : Tables) → taskFault (taskOf t) ≡ Clean → textOf t ≡ textOf u → canon t ≡ canon u
+one-text t u p e =
+    sym (judged-accepted (taskFault (taskOf u)) (canon u) (canon t) (sym (scan-is-grammar u) ∙ ap verdict (sym e) ∙ clean-accepted t p) .1)

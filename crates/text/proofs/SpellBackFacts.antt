@@ -14,7 +14,7 @@ use Rattle.tables.proofs.Laws.{by-cases}
 use Rattle.text.specs.Fields.{pick, comma, dash, colon}
 use Rattle.text.specs.Grammar.{accepted, Next, Part, _▸_, nothing, ask, keep, choice, within, putFact, facts, factList}
 use Rattle.text.specs.Spelling.{digits, fact, another, moreFacts, first, someFacts, changed, said, factRow}
-use Rattle.text.proofs.Decimal.{clash}
+use Rattle.text.proofs.Runs.{clash}
 use Rattle.text.proofs.SpellFacts.{within-below, on}
 use Rattle.text.proofs.SpellBack.{Back, BackOf, demand-back, lit-back, number-back, changed-same}
 

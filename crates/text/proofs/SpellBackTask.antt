@@ -1,18 +1,17 @@
 -- Back from an accepted text: it spells a task. Assumes nothing.
-use Prim.Native.Nat.{ℕ, zero, suc, _+_, _≤_, _<_}
+use Prim.Native.Nat.{ℕ, zero, suc, _+_, _≤_}
 use native.Mathlib.Omega.{arith}
 use mathlib.Core.Path.{_≡_, refl, sym, ap, ap₂, _∙_}
 use mathlib.Core.List.{List, [], _∷_, _++_, append-assoc, append-nil}
-use mathlib.Core.Bool.{Bool, true, false}
-use lib.Dec.{leb, ltb}
+use mathlib.Core.Bool.{true}
 use lib.ListN.{length, getD, replicate, length-replicate}
-use borrow.Author.Tests.{ltb-true, leb-true}
 use Rattle.meaning.specs.Sas.{Facts}
 use Rattle.meaning.specs.Split.{Task}
 use Rattle.tables.specs.Layout.{Tables, factsRoom, domAt, domPlace, initPlace, goalPlace, prePlace, effPlace, classPlace, sharePlace}
-use Rattle.text.specs.Fields.{pick, slash, mostVars, mostValues, mostOps, mostMaps}
+use Rattle.text.specs.Fields.{slash, mostVars, mostValues, mostOps, mostMaps}
 use Rattle.text.specs.Grammar.{accepted, Next, Part, _▸_, nothing, ask, keep, within, number, line, lines, factList, withCounts, putCost, editionLine, varsLine, domLine, initLine, goalLine, operator, opsLine, opLines, variables, mapsLine, mapLines, amounts, shareLines, taskLines, theEnd, noTask, verdict}
 use Rattle.text.specs.Spelling.{digits, joined, numbers, someFacts, keyed, stacked, opText, mapText, shareText, spelled, changed, row, factRow}
+use Rattle.text.proofs.Runs.{within-both}
 use Rattle.text.proofs.SpellFacts.{on, Knows, knows-row, knows-facts, knows-changed}
 use Rattle.text.proofs.SpellLines.{onShares}
 use Rattle.text.proofs.SpellTables.{zeros, writes-row}
@@ -30,14 +29,6 @@ counted-back : (least limit : ℕ) (p : ℕ → Part) (l : ℕ) (T : Tables) (ch
 counted-back least limit p l T change e t k W h =
     let a = number-back least limit p t l T k W h in
     record { what = (a .what, a .then .0); rest = a .rest; says = a .says; then = sym (e (a .what) (a .rest) k) ∙ a .then .1 }
-
-in-range : (v least limit : ℕ) → within v least limit ≡ true → (least ≤ v) × (v < limit)
-unfolding within pick
-in-range v least limit = go (leb least v) refl
-  where
-    go : (b : Bool) → leb least v ≡ b → pick b (ltb v limit) false ≡ true → (least ≤ v) × (v < limit)
-    go true p q = (leb-true least v p, ltb-true v limit q)
-    go false p q = let z : _≡_ {A = ℕ} 0 1 = cc in absurd (let n : ⊥ = omega arith in n)
 
 -- what is kept by each change is kept by all
 kept : (P : Tables → Type 0) (g : ℕ → Tables → Tables) → ((j : ℕ) (T : Tables) → P T → P (g j T)) → (n i : ℕ) (T : Tables) → P T → P (changed g n i T)
@@ -233,7 +224,7 @@ module _ (f : List ℕ) (lf : length f ≡ 1624) (zf : (p : ℕ) → getD f p 0 
       }
 
   one : (v : ℕ) → within v 1 2 ≡ true → v ≡ 1
-  one v p = let r = in-range v 1 2 p in omega arith
+  one v p = let r = within-both v 1 2 p in omega arith
 
   lines-back-all : (T W : Tables) (x : List ℕ) → T .facts ≡ f → taskLines x 1 T theEnd ≡ accepted W → (τ : Task) × (x ≡ spelled τ)
   unfolding taskLines editionLine varsLine _▸_ nothing keep task spelled opText mapText
@@ -242,7 +233,7 @@ module _ (f : List ℕ) (lf : length f ≡ 1624) (zf : (p : ℕ) → getD f p 0 
       let b = line-back (Ranged 1 (mostVars + 1)) "vars=" _ 2 T (λ y. digits (y .0)) _
       (counted-back 1 (mostVars + 1) (λ n. keep (λ U. withCounts n (U .counts .ops) (U .counts .maps) U)) 2 T (λ n. withCounts n (T .counts .ops) (T .counts .maps) T) (λ v u k. refl)) (a .rest) _ W (a .then) in
       let N = b .what .0 in
-      let n : N ≤ 8 = let r = in-range N 1 (mostVars + 1) (b .what .1) in omega arith in
+      let n : N ≤ 8 = let r = within-both N 1 (mostVars + 1) (b .what .1) in omega arith in
       let d = dom-back N 3 (withCounts N (T .counts .ops) (T .counts .maps) T) W (b .rest) e refl n (b .then) in
       let g = d .later in
       let o = g .later in

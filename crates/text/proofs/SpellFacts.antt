@@ -18,7 +18,8 @@ use Rattle.tables.specs.Scan.{unless, _then_, each}
 use Rattle.text.specs.Fields.{pick, isDigit, comma, dash, colon}
 use Rattle.text.specs.Grammar.{Verdict, Next, Part, _▸_, nothing, ask, keep, demand, lit, choice, within, number, putFact, facts, factList}
 use Rattle.text.specs.Spelling.{digits, fact, another, moreFacts, first, someFacts, changed, row, said, factRow}
-use Rattle.text.proofs.Decimal.{Stop, other, Head, head, digits-head}
+use Rattle.text.proofs.Runs.{Stop, other}
+use Rattle.text.proofs.Decimal.{Head, head, digits-head}
 use Rattle.text.proofs.SpellParts.{judged, next, Told, demand-told, lit-told, number-told}
 
 -- two tests that hold together

@@ -15,7 +15,7 @@ use Rattle.tables.specs.Scan.{unless, _then_, each, factsFault, operatorFault, 
 use Rattle.text.specs.Fields.{pick, isDigit, lineEnd, comma, dash, semicolon, mostValues, mostCost}
 use Rattle.text.specs.Grammar.{Next, Part, _▸_, nothing, ask, keep, lit, within, number, row as numberRow, line, factList, withCounts, putFact, putCost, putShare, editionLine, varsLine, domLine, initLine, goalLine, opsLine, operator, mapsLine, variables, amounts}
 use Rattle.text.specs.Spelling.{digits, joined, numbers, someFacts, keyed, opText, mapText, shareText, changed, row, factRow, opRows, mapRows}
-use Rattle.text.proofs.Decimal.{other}
+use Rattle.text.proofs.Runs.{other}
 use Rattle.text.proofs.SpellParts.{judged, next, Told, ToldLine, lit-told, number-told, row-told, line-told}
 use Rattle.text.proofs.SpellFacts.{within-below, on, on-changed, Knows, knows-set, knows-facts, Ends, facts-told}
 use Rattle.text.proofs.SpellMaps.{variables-told}

@@ -22,7 +22,7 @@ use Rattle.tables.proofs.Walks.{then-then, clean-first, rule-held, walk-clean}
 use Rattle.text.specs.Fields.{pick, isDigit, comma, slash, mostValues, mostStates}
 use Rattle.text.specs.Grammar.{Verdict, Next, Part, _▸_, keep, parted, putFact, classCount, noneMissing, classes, variables}
 use Rattle.text.specs.Spelling.{digits, gap, joined, numbers, changed, row}
-use Rattle.text.proofs.Decimal.{Stop, other}
+use Rattle.text.proofs.Runs.{Stop, other}
 use Rattle.text.proofs.SpellParts.{judged, next, Told, demand-told, number-told, parted-told, stop-gap, joined-none, joined-front}
 use Rattle.text.proofs.SpellFacts.{within-below, on, Knows, knows-set, knows-row}
 use Rattle.text.proofs.SpellClasses.{listed, count-is, missing-is}

@@ -17,7 +17,8 @@ use Rattle.tables.specs.Scan.{unless, _then_, each}
 use Rattle.text.specs.Fields.{pick, isDigit, bytes, lineEnd, comma}
 use Rattle.text.specs.Grammar.{Verdict, refused, Next, Part, _▸_, keep, demand, lit, within, number, parted, row, endOfLine, line, lines}
 use Rattle.text.specs.Spelling.{digits, gap, joined, keyed, stacked, changed}
-use Rattle.text.proofs.Decimal.{Stop, other, digits-read}
+use Rattle.text.proofs.Runs.{Stop, other}
+use Rattle.text.proofs.Decimal.{digits-read}
 
 -- the verdict where a rule comes first
 abbrev pub judged : Found → Verdict → Verdict

@@ -21,7 +21,7 @@ use Rattle.tables.proofs.Walks.{rule-held, walk-clean}
 use Rattle.text.specs.Fields.{pick, shareTotal, opLine, overLine}
 use Rattle.text.specs.Grammar.{accepted, refused, Next, Part, _▸_, ask, line, lines, initLine, goalLine, operator, opsLine, opLines, mapsLine, variables, mapLines, amounts, shareLines, taskLines, settled, theEnd, noTask, verdict, putCost}
 use Rattle.text.specs.Spelling.{digits, numbers, someFacts, keyed, stacked, opText, mapText, shareText, spelled, textOf, changed, row, opRows, mapRows, headRows, tablesOf, canon}
-use Rattle.text.proofs.Decimal.{clash}
+use Rattle.text.proofs.Runs.{clash}
 use Rattle.text.proofs.SpellParts.{judged, next, lines-told}
 use Rattle.text.proofs.SpellFacts.{on, on-changed, Knows, knows-row, knows-facts, knows-changed}
 use Rattle.text.proofs.SpellTables.{zeros, writes-row}
