@@ -1,0 +1,4 @@
+pub mod Tests
+pub mod Rounds
+pub mod Claims
+pub mod Table

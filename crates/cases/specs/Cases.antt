@@ -1,0 +1,74 @@
+-- The starred cases of document 01, from text to answers.
+use mathlib.Core.List.{List, [], _∷_}
+use Prim.Native.String.{String, _++_}
+use Rattle.graph.specs.Cost.{none, fin}
+use Rattle.cases.specs.Told.{Told, yes!, costs, again, no!, Offering, distances, boundAt, judging, run, Case}
+
+-- case A up to its operators' costs, its operators, its maps
+abbrev pub headA : String
+headA = "edition=1\nvars=3\ndom=2,3,3\ninit=0,0,0\ngoal=0:1,1:2,2:2\nops=4\n"
+
+abbrev pub mapsA : String
+mapsA = "maps=3\nmap=0,1/0,0,0/0,0,0\nmap=0,0/0,1,2/0,0,0\nmap=0,0/0,0,0/0,1,2\n"
+
+abbrev pub opsA : String
+opsA = "op=1;0:0;0:1\nop=1;1:0,2:0;1:1,2:1\nop=1;1:1;1:2\nop=1;2:1;2:2\n"
+
+abbrev pub A : String
+A = headA ++ opsA ++ mapsA ++ "share=1,0,0,0\nshare=0,1,1,0\nshare=0,0,0,1\n"
+
+-- C: A with the last line share=0,1,0,1
+abbrev pub C : String
+C = headA ++ opsA ++ mapsA ++ "share=1,0,0,0\nshare=0,1,1,0\nshare=0,1,0,1\n"
+
+-- D: A with all costs 2 and shares 2,0,0,0 / 0,1,2,0 / 0,1,0,2
+abbrev pub D : String
+D =
+    headA ++ "op=2;0:0;0:1\nop=2;1:0,2:0;1:1,2:1\nop=2;1:1;1:2\nop=2;2:1;2:2\n" ++ mapsA
+    ++ "share=2,0,0,0\nshare=0,1,2,0\nshare=0,1,0,2\n"
+
+-- E: two variables of two values, one operator of cost 1 from 0:0 to 0:1; maps keep variable 0 and variable 1, shares 1 and 0
+abbrev pub E : String
+E =
+    "edition=1\nvars=2\ndom=2,2\ninit=0,0\ngoal=0:1,1:1\nops=1\nop=1;0:0;0:1\nmaps=2\nmap=0,1/0,0\nmap=0,0/0,1\nshare=1\nshare=0\n"
+
+-- THE TABLE
+unfoldable pub table : List Case
+table =
+    record {
+      text = A;
+      read = yes!;
+      claims =
+          distances 0 (fin 1 ∷ fin 0 ∷ []) 2
+          ∷ distances 1 (fin 2 ∷ fin 1 ∷ fin 0 ∷ []) 3
+          ∷ distances 2 (fin 1 ∷ fin 1 ∷ fin 0 ∷ []) 3
+          ∷ boundAt (0 ∷ 0 ∷ 0 ∷ []) (fin 4)
+          ∷ boundAt (1 ∷ 0 ∷ 0 ∷ []) (fin 3)
+          ∷ judging (0 ∷ 0 ∷ 0 ∷ []) (0 ∷ 1 ∷ 2 ∷ 3 ∷ []) (costs 4)
+          ∷ judging (0 ∷ 0 ∷ 0 ∷ []) (0 ∷ 2 ∷ []) (no! 12 2)
+          ∷ judging (0 ∷ 0 ∷ 0 ∷ []) (0 ∷ []) (no! 16 1)
+          ∷ judging (0 ∷ 0 ∷ 0 ∷ []) [] (no! 16 0)
+          ∷ run (0 ∷ 0 ∷ 0 ∷ [])
+          (record { number = 1; operator = 0; answer = yes!; columns = 1 ∷ 0 ∷ 0 ∷ 0 ∷ 0 ∷ 0 ∷ 0 ∷ 0 ∷ 0 ∷ [] }
+          ∷ record { number = 1; operator = 0; answer = again; columns = 1 ∷ 0 ∷ 0 ∷ 0 ∷ 0 ∷ 0 ∷ 0 ∷ 0 ∷ 0 ∷ [] }
+          ∷ record { number = 1; operator = 1; answer = no! 14 1; columns = 1 ∷ 0 ∷ 0 ∷ 0 ∷ 0 ∷ 0 ∷ 0 ∷ 0 ∷ 0 ∷ [] }
+          ∷ record { number = 3; operator = 1; answer = no! 13 3; columns = 1 ∷ 0 ∷ 0 ∷ 0 ∷ 0 ∷ 0 ∷ 0 ∷ 0 ∷ 0 ∷ [] }
+          ∷ [])
+          ∷ [];
+    }
+    ∷ record { text = C; read = no! 6 8; claims = [] }
+    ∷ record {
+      text = D;
+      read = yes!;
+      claims = boundAt (0 ∷ 0 ∷ 0 ∷ []) (fin 8) ∷ judging (0 ∷ 0 ∷ 0 ∷ []) (0 ∷ 1 ∷ 2 ∷ 3 ∷ []) (costs 8) ∷ [];
+    }
+    ∷ record {
+      text = E;
+      read = yes!;
+      claims =
+          distances 0 (fin 1 ∷ fin 0 ∷ []) 2
+          ∷ distances 1 (none ∷ fin 0 ∷ []) 1
+          ∷ boundAt (0 ∷ 0 ∷ []) (fin 1)
+          ∷ [];
+    }
+    ∷ []
