@@ -53,8 +53,9 @@ same-length c = search needs
 
 returns : tie.Need-returns Inv-loop μ-loop
 returns c =
+    let args = c .before .before .args in
     let l = c .before .loop in
-    made-end _ _ (c .before .before .args .n) (l .a) (l .to) (l .inv .1) (l .inv .0) (c .loop-test .left)
+    made-end _ _ (args .n) (l .a) (l .to) (l .inv .1) (l .inv .0) (c .loop-test .left)
 
 pub copy-spec : {M : Type 1} → statement M
 copy-spec =
