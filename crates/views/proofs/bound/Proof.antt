@@ -1,6 +1,5 @@
 -- `bound` meets its contract. Assumes nothing.
 use borrow.Author.Needs.{needs}
-use Prim.Native.Nat.{ℕ}
 use mathlib.Core.Path.{sym, _∙_}
 use Rattle.tables.specs.Task.{tables}
 use Rattle.views.specs.Sums.{sumSaid}

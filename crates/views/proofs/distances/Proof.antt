@@ -1,6 +1,5 @@
 -- `distances` meets its contract: the map's own shares are the prices. Assumes nothing.
 use borrow.Author.Needs.{needs}
-use Prim.Native.Nat.{ℕ}
 use mathlib.Core.Path.{sym, _∙_}
 use native.Mathlib.Omega.{arith}
 use Rattle.tables.specs.Task.{tables}

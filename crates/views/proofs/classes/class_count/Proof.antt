@@ -1,6 +1,5 @@
 -- `classes::class_count` meets its contract. Assumes nothing.
 use borrow.Author.Needs.{needs}
-use Prim.Native.Nat.{ℕ}
 use mathlib.Core.Path.{_∙_}
 use native.Mathlib.Omega.{arith}
 use Rattle.views.proofs.Classing.{class-below, count-is, count-byte}

@@ -1,6 +1,6 @@
 -- `classes::states_of` meets its contract: the number so far is the product over the variables passed so far. Assumes nothing.
 use borrow.Author.Needs.{needs}
-use Prim.Native.Nat.{ℕ, _≤_, _<_, _-_}
+use Prim.Native.Nat.{_≤_, _-_}
 use mathlib.Core.Path.{_≡_, refl, ap, _∙_}
 use native.Mathlib.Omega.{arith}
 use Rattle.meaning.specs.Numbering.{size}

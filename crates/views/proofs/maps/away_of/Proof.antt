@@ -1,9 +1,7 @@
 -- `maps::away_of` meets its contract: the map's table says its distance at the state's image. Assumes nothing.
 use borrow.Author.Needs.{needs}
-use Prim.Native.Nat.{ℕ, _<_}
 use mathlib.Core.Path.{_∙_}
 use native.Mathlib.Omega.{arith}
-use Rattle.views.specs.Sweeps.{Priced}
 use Rattle.views.proofs.Viewing.{image-below, away-said, shares-priced}
 use Rattle.views.proofs.maps.away_of.Statement.{statement}
 use Rattle.views.proofs.maps.away_of.Tie as tie

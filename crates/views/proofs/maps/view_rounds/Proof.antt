@@ -1,6 +1,5 @@
 -- `maps::view_rounds` meets its contract: what is counted on the task of classes is counted on the view. Assumes nothing.
 use borrow.Author.Needs.{needs}
-use Prim.Native.Nat.{ℕ}
 use native.Mathlib.Omega.{arith}
 use Rattle.views.specs.Walks.{spaceOf}
 use Rattle.views.specs.Classes.{viewGraphOf}

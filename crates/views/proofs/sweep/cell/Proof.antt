@@ -1,7 +1,7 @@
 -- `sweep::cell` meets its contract: over the operators passed so far the cost is the least. Assumes nothing.
 use borrow.Author.Needs.{needs}
-use Prim.Native.Nat.{ℕ, _≤_, _<_, _-_}
-use mathlib.Core.Path.{_≡_, sym, ap, _∙_, subst}
+use Prim.Native.Nat.{ℕ, _≤_, _-_}
+use mathlib.Core.Path.{_≡_, ap, _∙_, subst}
 use native.Mathlib.Omega.{arith}
 use Rattle.graph.specs.Least.{atGoal, best}
 use Rattle.views.specs.Said.{said, read}

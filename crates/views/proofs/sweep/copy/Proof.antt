@@ -1,9 +1,9 @@
 -- `sweep::copy` meets its contract: the places passed so far are copied. Assumes nothing.
 use borrow.Author.Needs.{needs}
-use Prim.Native.Nat.{ℕ, _≤_, _<_, _-_}
-use mathlib.Core.Path.{_≡_, refl}
+use Prim.Native.Nat.{_≤_, _<_, _-_}
+use mathlib.Core.Path.{refl}
 use native.Mathlib.Omega.{arith}
-use lib.ListN.{length, getD}
+use lib.ListN.{length}
 use Rattle.views.specs.Sweeps.{Copied}
 use Rattle.views.proofs.Makes.{made-none, made-more, made-end}
 use Rattle.views.proofs.sweep.copy.Statement.{statement}

@@ -1,6 +1,6 @@
 -- `sweep::count_rounds` meets its contract: every round so far changed something, so the rounds are fewer than the states. Assumes nothing.
 use borrow.Author.Needs.{needs}
-use Prim.Native.Nat.{ℕ, _-_}
+use Prim.Native.Nat.{_-_}
 use native.Mathlib.Omega.{arith}
 use borrow.Author.Tests.{not-true, not-false}
 use Rattle.views.specs.Walks.{spaceOf}

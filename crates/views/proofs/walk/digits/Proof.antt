@@ -1,14 +1,14 @@
 -- `walk::digits` meets its contract: the digits of the places passed so far are in the list, and `rest` is what is left of the number. Assumes nothing.
 use borrow.Author.Needs.{needs}
-use Prim.Native.Nat.{ℕ, _≤_, _<_, _-_, _/_}
-use mathlib.Core.Path.{_≡_, refl, sym, ap, _∙_}
+use Prim.Native.Nat.{_≤_, _<_, _-_, _/_}
+use mathlib.Core.Path.{_≡_, refl, sym, _∙_}
 use native.Mathlib.Nat.{div-one, mod-lt}
 use native.Mathlib.Omega.{arith}
-use lib.ListN.{length, getD}
+use lib.ListN.{length}
 use Rattle.meaning.specs.Numbering.{size, digit}
 use Rattle.tables.specs.Layout.{domAt}
 use Rattle.views.specs.Sweeps.{Made}
-use Rattle.views.proofs.Makes.{made-none, made-more, made-end}
+use Rattle.views.proofs.Makes.{made-none, made-more}
 use Rattle.views.proofs.Walking.{rest-more, rest-digit}
 use Rattle.views.proofs.walk.digits.Statement.{statement}
 use Rattle.views.proofs.walk.digits.Tie as tie

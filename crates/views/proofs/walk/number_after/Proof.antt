@@ -1,6 +1,6 @@
 -- `walk::number_after` meets its contract: the digits of the places passed so far are in the number. Assumes nothing.
 use borrow.Author.Needs.{needs}
-use Prim.Native.Nat.{ℕ, _-_}
+use Prim.Native.Nat.{_-_}
 use mathlib.Core.Path.{refl, _∙_, ap₂}
 use native.Mathlib.Omega.{arith}
 use Rattle.meaning.specs.Sas.{put}
