@@ -11,10 +11,8 @@ use lib.Count.{ones, leadingZeros}
 use lib.Dec.{ltb, lit<}
 use borrow.Author.Tests.{ltb-true, lt-ltb, eq-eqb, ne-eqb}
 use Rattle.refusals.specs.declared.Refusal.the-variants.{OutOfRange, ClassMissing}
-use Rattle.meaning.specs.Views.{every}
 use Rattle.meaning.specs.Split.{countOf}
 use Rattle.meaning.proofs.Facts.{every-true, true-every}
-use Rattle.tables.specs.declared.classes.Mask.{Mask}
 use Rattle.tables.specs.declared.classes.Mask.the-variants.{Bits, Beyond}
 use Rattle.tables.specs.declared.classes.Classes.{Classes}
 use Rattle.tables.specs.declared.classes.Classes.the-variants.{Count, Missing, Outside}
@@ -24,15 +22,15 @@ use Rattle.tables.specs.Layout.{rowAt}
 use Rattle.tables.specs.Scan.{unless, _then_, each, noneMissing}
 use Rattle.tables.specs.Classes.{maskOf, allBelow, masked, maskFound, judged, classesOf}
 use Rattle.tables.proofs.Masks.{mask-width, mask-whole}
-use Rattle.tables.proofs.Walks.{one-rule}
+use Rattle.tables.proofs.Walks.{never, one-rule}
 
 masked-beyond : (b : Bool) (m : ℕ) → masked b m ≡ Beyond → b ≡ false
-masked-beyond true m p = let z : _≡_ {A = ℕ} 0 1 = cc in absurd (let n : ⊥ = omega arith in n)
+masked-beyond true m p = never (cc)
 masked-beyond false m p = refl
 
 masked-bits : (b : Bool) (m k : ℕ) → masked b m ≡ Bits k → (b ≡ true) × (k ≡ m)
 masked-bits true m k p = (refl, cc)
-masked-bits false m k p = let z : _≡_ {A = ℕ} 0 1 = cc in absurd (let n : ⊥ = omega arith in n)
+masked-bits false m k p = never (cc)
 
 module _ (class : ℕ → ℕ) (n : ℕ) where
   pub beyond-outside : maskFound class n ≡ Beyond → Outside ≡ classesOf class n
@@ -48,8 +46,7 @@ module _ (class : ℕ → ℕ) (n : ℕ) where
   not-beyond h p =
       let q : allBelow class n ≡ true = true-every (λ x. ltb (class x) n) n (λ x l. lt-ltb (class x) n (h x l)) in
       let r : allBelow class n ≡ false = masked-beyond (allBelow class n) (maskOf class n) p in
-      let z : _≡_ {A = ℕ} 0 1 = cc in
-      omega arith
+      never (cc)
 
   module _ (w m : ℕ) (fits : n ≤ w) (found : maskFound class n ≡ Bits m) where
     found-bits : (allBelow class n ≡ true) × (m ≡ maskOf class n)
@@ -91,30 +88,36 @@ judged-fault false b k line = refl
 
 judged-count : (a b : Bool) (j k : ℕ) → judged a b j ≡ Count k → (a ≡ true) × (k ≡ j)
 judged-count true true j k p = (refl, cc)
-judged-count true false j k p = let z : _≡_ {A = ℕ} 0 1 = cc in absurd (let n : ⊥ = omega arith in n)
-judged-count false b j k p = let z : _≡_ {A = ℕ} 0 1 = cc in absurd (let n : ⊥ = omega arith in n)
+judged-count true false j k p = never (cc)
+judged-count false b j k p = never (cc)
 
 count-le : (class : ℕ → ℕ) (n d : ℕ) → ((x : ℕ) → x < d → class x < n) → countOf class d ≤ n
 count-le class n zero h = zero-le
 count-le class n (suc d) h = omega (arith, count-le class n d (λ x l. h x (omega arith)), h d (omega arith))
 
 module _ (class : ℕ → ℕ) (n : ℕ) where
-  pub row-fault : (line : ℕ) → rowFault class n line ≡ faultIn (classesOf class n) line
+  row-fault : (line : ℕ) → rowFault class n line ≡ faultIn (classesOf class n) line
   unfolding classesOf
   row-fault line =
       rw (one-rule (λ x. ltb (class x) n) (OutOfRange line) n)
       (judged-fault (allBelow class n) (noneMissing class n) (countOf class n) line)
 
-  pub row-count : (k : ℕ) → classesOf class n ≡ Count k → (k ≡ countOf class n) × (k ≤ n)
+  row-count : (k : ℕ) → classesOf class n ≡ Count k → (k ≡ countOf class n) × (k ≤ n)
   unfolding classesOf
   row-count k p =
       let q = judged-count (allBelow class n) (noneMissing class n) (countOf class n) k p in
       (q .1, omega (arith, count-le class n n (all-below class n (q .0))))
 
--- a row of the tables and a number of values, by other names
-pub row-of : (facts : List ℕ) {row row′ n n′ : ℕ} {r : Classes} → r ≡ classesOf (rowAt facts row) n → row ≡ row′ → n ≡ n′
-    → r ≡ classesOf (rowAt facts row′) n′
-row-of facts p e d = p ∙ ap₂ (λ (row n : ℕ). classesOf (rowAt facts row) n) e d
+-- what is found in the row of variable v, whose number of values and row were read
+module _ (facts : List ℕ) {row row′ n n′ : ℕ} {r : Classes} (found : r ≡ classesOf (rowAt facts row) n) (at : row ≡ row′) (values : n ≡ n′) where
+  row-of : r ≡ classesOf (rowAt facts row′) n′
+  row-of = found ∙ ap₂ (λ (row n : ℕ). classesOf (rowAt facts row) n) at values
+
+  pub found-fault : (line : ℕ) {k : Classes} → r ≡ k → rowFault (rowAt facts row′) n′ line ≡ faultIn k line
+  found-fault line p = row-fault (rowAt facts row′) n′ line ∙ ap (λ (k : Classes). faultIn k line) (sym row-of ∙ p)
+
+  pub found-count : (k : ℕ) → r ≡ Count k → (k ≡ countOf (rowAt facts row′) n′) × (k ≤ n′)
+  found-count k p = row-count (rowAt facts row′) n′ k (sym row-of ∙ p)
 
 -- the product of up to 8 counts of at most 8 fits a word
 pub product-more : (p k v : ℕ) → p ≤ 8 ^ v → k ≤ 8 → p * k ≤ 8 ^ (v + 1)

@@ -1,17 +1,16 @@
 -- What it says of a task that a part of the scan is clean: for each part, that the rules of document 01 hold, and that they are enough.
 -- Assumes nothing.
 use Prim.Native.Nat.{ℕ, zero, suc, _+_, _≤_, _<_}
-use mathlib.Core.Path.{_≡_, refl, ap, sym, _∙_}
-use mathlib.Core.Bool.{Bool, true, false, _&&_, _||_, false≢true, or-true}
+use mathlib.Core.Path.{_≡_, ap, sym, _∙_}
+use mathlib.Core.Bool.{Bool, true, false, false≢true, or-true}
 use mathlib.Core.List.{List, [], _∷_}
 use native.Mathlib.Omega.{arith}
-use lib.Dec.{leb, ltb, eqb}
+use lib.Dec.{leb, ltb}
 use borrow.Author.Tests.{leb-true, le-leb, ltb-true, ltb-false, lt-ltb, eqb-true, eq-eqb}
-use Rattle.refusals.specs.declared.Refusal.{Refusal}
 use Rattle.refusals.specs.declared.Refusal.the-variants.{OutOfRange, ClassMissing, SharesAboveCost, TooManyStates}
 use Rattle.meaning.specs.Sas.{Facts, IsState}
 use Rattle.meaning.specs.Views.{abstractStates}
-use Rattle.meaning.specs.Split.{Task, countOf, sum, view}
+use Rattle.meaning.specs.Split.{Task, sum, view}
 use Rattle.meaning.proofs.Facts.{and-left, and-right, every-true, true-every}
 use Rattle.tables.specs.declared.scan.Found.{Found}
 use Rattle.tables.specs.declared.scan.Found.the-variants.{Clean}

@@ -1,6 +1,6 @@
 -- The scan accepts tables exactly if there is room and the task that they spell is valid, and a state exactly if it is long enough and one of the task's; any two results that meet a contract of the scan are equal.
 -- Assumes nothing.
-use Prim.Native.Nat.{ℕ, _≤_, _<_}
+use Prim.Native.Nat.{ℕ, _≤_}
 use mathlib.Core.Path.{_≡_, sym, _∙_}
 use mathlib.Core.Bool.{true}
 use mathlib.Core.List.{List, [], _∷_}
@@ -11,24 +11,14 @@ use borrow.Author.Tests.{leb-true, le-leb, ltb-true, lt-ltb}
 use Rattle.refusals.specs.declared.Refusal.the-variants.{TableTooShort, ValueOutside}
 use Rattle.meaning.specs.Sas.{IsState}
 use Rattle.meaning.specs.Split.{Task, Valid}
+use Rattle.tables.specs.declared.Counts.{Counts}
 use Rattle.tables.specs.declared.scan.Found.{Found}
 use Rattle.tables.specs.declared.scan.Found.the-variants.{Clean}
 use Rattle.tables.specs.Layout.{Tables, domAt}
 use Rattle.tables.specs.Task.{taskOf, sasOf, stateOf}
-use Rattle.tables.specs.Scan.{unless, _then_, each, sharesFault, splitFault, taskFault, roomy, tablesFault, stateFault}
+use Rattle.tables.specs.Scan.{unless, each, sharesFault, splitFault, taskFault, roomy, tablesFault, stateFault}
 use Rattle.tables.specs.Parts.{headFault, linesFault}
-use Rattle.tables.proofs.Walks.{
-  clean-first,
-  clean-next,
-  all-clean,
-  clean-all,
-  kept,
-  rule-held,
-  walk-clean,
-  clean-walk,
-  tests-held,
-  held-tests,
-}
+use Rattle.tables.proofs.Walks.{clean-first, clean-next, all-clean, clean-all, rule-held, walk-clean, clean-walk, tests-held, held-tests}
 use Rattle.tables.proofs.Rules.{head-clean, clean-head, lines-clean, clean-lines, shares-clean, clean-shares, split-clean, clean-split, in-parts}
 
 module _ (T : Task) where
@@ -135,3 +125,6 @@ module _ (t : Tables) where
 -- what is found is settled by the contract
 pub tables-fault-unique : (t : Tables) (r r′ : Found) → r ≡ tablesFault t → r′ ≡ tablesFault t → r ≡ r′
 tables-fault-unique t r r′ p q = p ∙ sym q
+
+pub state-fault-unique : (c : Counts) (facts s : List ℕ) (r r′ : Found) → r ≡ stateFault c facts s → r′ ≡ stateFault c facts s → r ≡ r′
+state-fault-unique c facts s r r′ p q = p ∙ sym q

@@ -16,6 +16,10 @@ use Rattle.tables.specs.declared.scan.Found.the-variants.{Clean, Fault}
 use Rattle.tables.specs.Scan.{unless, _then_, each}
 use Rattle.tables.proofs.Laws.{by-cases}
 
+-- from two constructors that are said to be equal
+pub never : {A : Type 0} → _≡_ {A = ℕ} 0 1 → A
+never p = absurd (let n : ⊥ = omega arith in n)
+
 -- ---- one rule after another
 
 pub then-clean : (a : Found) → a then Clean ≡ a
@@ -32,7 +36,7 @@ clean-first (Fault r) b p = p
 
 pub clean-next : (a b : Found) → a then b ≡ Clean → b ≡ Clean
 clean-next Clean b p = p
-clean-next (Fault r) b p = let z : _≡_ {A = ℕ} 0 1 = cc in absurd (let n : ⊥ = omega arith in n)
+clean-next (Fault r) b p = never (cc)
 
 -- several, and that each is clean
 abbrev pub inOrder : Found → List Found → Found
@@ -61,7 +65,7 @@ broken r p = rw p
 
 pub rule-held : (b : Bool) (r : Refusal) → unless b r ≡ Clean → b ≡ true
 rule-held true r p = refl
-rule-held false r p = let z : _≡_ {A = ℕ} 0 1 = cc in absurd (let n : ⊥ = omega arith in n)
+rule-held false r p = never (cc)
 
 -- ---- a walk over rules
 

@@ -1,10 +1,18 @@
 -- The scan in the parts that the program walks it in: the lines before the operators, then those of the operators and of the maps.
-use Prim.Native.Nat.{_+_}
-use lib.Dec.{leb, ltb}
+use Prim.Native.Nat.{ℕ, _+_}
+use mathlib.Core.Bool.{Bool, cond}
+use mathlib.Core.List.{List}
+use lib.Dec.{leb, ltb, eqb}
 use Rattle.refusals.specs.declared.Refusal.the-variants.{OutOfRange}
 use Rattle.meaning.specs.Split.{Task}
 use Rattle.tables.specs.declared.scan.Found.{Found}
+use Rattle.tables.specs.Layout.{domAt, initAt, goalAt}
 use Rattle.tables.specs.Scan.{unless, _then_, each, within, factsFault, operatorFault, mapFault}
+
+-- what line 3, 4 or 5 asks of variable v: 1 to 8 values; an initial value, and a value in the goal, that are among them
+abbrev pub variableHolds : List ℕ → ℕ → ℕ → Bool
+variableHolds facts line v =
+    cond (eqb line 3) (within 1 8 (domAt facts v)) (cond (eqb line 4) (ltb (initAt facts v) (domAt facts v)) (leb (goalAt facts v) (domAt facts v)))
 
 -- lines 2 to 6
 unfoldable pub headFault : Task → Found

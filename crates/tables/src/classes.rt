@@ -28,7 +28,7 @@ pub fn word_of(facts: &[u8], row: u32, x: u32) -> u32
 }
 
 // The mask of the classes of a variable with so many values.
-pub fn mask_of(facts: &[u8], dom: u32, row: u32) -> Mask
+fn mask_of(facts: &[u8], dom: u32, row: u32) -> Mask
     requires { ⌜ dom ≤ 8 ⌝ }
     ensures { λ r. ⌜ r ≡ maskFound (rowAt (now (facts .entry)) row) dom ⌝ }
 {
@@ -46,7 +46,7 @@ pub fn mask_of(facts: &[u8], dom: u32, row: u32) -> Mask
 }
 
 // The width of a mask: one more than its largest class.
-pub fn width(mask: u32) -> u32
+fn width(mask: u32) -> u32
     ensures { λ r. ⌜ r ≡ 32 - leadingZeros 32 mask ⌝ }
 {
     32 - u32::leading_zeros(mask)

@@ -8,10 +8,10 @@ ghost use lib.ListN.{length};
 ghost use Rattle.meaning.specs.Split.{sum};
 ghost use Rattle.refusals.specs.declared.Refusal.the-variants.{OutOfRange};
 ghost use Rattle.tables.specs.declared.scan.Found.the-variants.{Clean};
-ghost use Rattle.tables.specs.Layout.{rowAt, domAt, initAt, goalAt, shareAt, factsRoom, costsRoom, sharesRoom};
+ghost use Rattle.tables.specs.Layout.{rowAt, domAt, shareAt, factsRoom, costsRoom, sharesRoom};
 ghost use Rattle.tables.specs.Task.{tables, taskOf};
-ghost use Rattle.tables.specs.Scan.{unless, each, within, factsFault, mapFault, sharesFault, splitFault, tablesFault, stateFault};
-ghost use Rattle.tables.specs.Parts.{headFault, linesFault};
+ghost use Rattle.tables.specs.Scan.{unless, each, within, mapFault, sharesFault, splitFault, tablesFault, stateFault};
+ghost use Rattle.tables.specs.Parts.{variableHolds, headFault, linesFault};
 use crate::Counts;
 use crate::classes::Classes;
 use crate::classes::classes_of;
@@ -29,15 +29,26 @@ use crate::readers::share_at;
 use meaning::OpNo;
 use refusals::Refusal;
 
-// The most that an operator costs, and that it costs in a map, in seconds.
-pub const COST_MOST: u32 = 1000000;
+// The most variables, values of a variable, operators, maps, and abstract states of a map.
+const VARS_MOST: u32 = 8;
+
+const VALUES_MOST: u32 = 8;
+
+const OPS_MOST: u32 = 64;
+
+const MAPS_MOST: u32 = 8;
+
+const STATES_MOST: u32 = 4096;
+
+// The most that an operator costs, or costs in a map, in seconds.
+const COST_MOST: u32 = 1000000;
 
 // The room for the largest task, in places.
-pub const FACTS_ROOM: usize = 1624;
+const FACTS_ROOM: usize = 1624;
 
-pub const COSTS_ROOM: usize = 64;
+const COSTS_ROOM: usize = 64;
 
-pub const SHARES_ROOM: usize = 512;
+const SHARES_ROOM: usize = 512;
 
 // What a scan finds: nothing, or the first fault.
 pub enum Found {
@@ -46,62 +57,47 @@ pub enum Found {
 }
 
 // A row of facts names a value of the variable, or nothing.
-pub fn fact_fits(facts: &[u8], row: u32, v: u32) -> bool
+fn fact_fits(facts: &[u8], row: u32, v: u32) -> bool
     ensures { λ r. ⌜ r ≡ leb (rowAt (now (facts .entry)) row v) (domAt (now (facts .entry)) v) ⌝ }
 {
     row_at(facts, row, v) <= row_at(facts, DOM_ROW, v)
 }
 
 // The variable has the value x.
-pub fn value_fits(facts: &[u8], v: u32, x: u8) -> bool
+fn value_fits(facts: &[u8], v: u32, x: u8) -> bool
     ensures { λ r. ⌜ r ≡ ltb x (domAt (now (facts .entry)) v) ⌝ }
 {
     x < row_at(facts, DOM_ROW, v)
 }
 
 // The number lies from lo to hi.
-pub fn lies_within(lo: u32, hi: u32, x: u32) -> bool
+fn lies_within(lo: u32, hi: u32, x: u32) -> bool
     ensures { λ r. ⌜ r ≡ within lo hi x ⌝ }
 {
     if lo <= x { x <= hi } else { false }
 }
 
-// Line 3: each variable has 1 to 8 values.
-pub fn doms_fault(vars: u32, facts: &[u8]) -> Found
-    ensures { λ r. ⌜ r ≡ each (λ v. unless (within 1 8 (domAt (now (facts .entry)) v)) (OutOfRange 3)) vars 0 ⌝ }
+// What line 3, 4 or 5 asks of a variable: 1 to 8 values; an initial value, and a value in the goal, that are among them.
+fn variable_holds(facts: &[u8], line: u32, v: u32) -> bool
+    ensures { λ r. ⌜ r ≡ variableHolds (now (facts .entry)) line v ⌝ }
 {
-    let mut v = 0;
-    while v < vars {
-        if !lies_within(1, 8, word_of(facts, DOM_ROW, v)) {
-            return Found::Fault(Refusal::OutOfRange(3));
-        }
-        v += 1;
+    if line == 3 {
+        return lies_within(1, VALUES_MOST, word_of(facts, DOM_ROW, v));
     }
-    Found::Clean
+    if line == 4 {
+        return value_fits(facts, v, row_at(facts, INIT_ROW, v));
+    }
+    fact_fits(facts, GOAL_ROW, v)
 }
 
-// Line 4: each variable has its initial value.
-pub fn init_fault(vars: u32, facts: &[u8]) -> Found
-    ensures { λ r. ⌜ r ≡ each (λ v. unless (ltb (initAt (now (facts .entry)) v) (domAt (now (facts .entry)) v)) (OutOfRange 4)) vars 0 ⌝ }
+// Line 3, 4 or 5, from variable to variable.
+fn variables_fault(vars: u32, facts: &[u8], line: u32) -> Found
+    ensures { λ r. ⌜ r ≡ each (λ v. unless (variableHolds (now (facts .entry)) line v) (OutOfRange line)) vars 0 ⌝ }
 {
     let mut v = 0;
     while v < vars {
-        if !value_fits(facts, v, row_at(facts, INIT_ROW, v)) {
-            return Found::Fault(Refusal::OutOfRange(4));
-        }
-        v += 1;
-    }
-    Found::Clean
-}
-
-// Line 5: each variable has the value that the goal names.
-pub fn goal_fault(vars: u32, facts: &[u8]) -> Found
-    ensures { λ r. ⌜ r ≡ each (λ v. unless (leb (goalAt (now (facts .entry)) v) (domAt (now (facts .entry)) v)) (OutOfRange 5)) vars 0 ⌝ }
-{
-    let mut v = 0;
-    while v < vars {
-        if !fact_fits(facts, GOAL_ROW, v) {
-            return Found::Fault(Refusal::OutOfRange(5));
+        if !variable_holds(facts, line, v) {
+            return Found::Fault(Refusal::OutOfRange(line));
         }
         v += 1;
     }
@@ -109,32 +105,32 @@ pub fn goal_fault(vars: u32, facts: &[u8]) -> Found
 }
 
 // Lines 2 to 6: the counts of variables and operators, and what is said of the variables.
-pub fn head_fault(c: Counts, facts: &[u8]) -> Found
+fn head_fault(c: Counts, facts: &[u8]) -> Found
     ensures { λ r. ⌜ r ≡ headFault (taskOf (tables c (now (facts .entry)) [] [])) ⌝ }
 {
-    if !lies_within(1, 8, c.vars) {
+    if !lies_within(1, VARS_MOST, c.vars) {
         return Found::Fault(Refusal::OutOfRange(2));
     }
-    let doms = doms_fault(c.vars, facts);
+    let doms = variables_fault(c.vars, facts, 3);
     let Found::Clean = doms else {
         return doms;
     };
-    let init = init_fault(c.vars, facts);
+    let init = variables_fault(c.vars, facts, 4);
     let Found::Clean = init else {
         return init;
     };
-    let goal = goal_fault(c.vars, facts);
+    let goal = variables_fault(c.vars, facts, 5);
     let Found::Clean = goal else {
         return goal;
     };
-    if 64 < c.ops {
+    if OPS_MOST < c.ops {
         return Found::Fault(Refusal::OutOfRange(6));
     }
     Found::Clean
 }
 
 // The line of a map: its variables' classes, and at its end not too many abstract states.
-pub fn map_fault(c: Counts, facts: &[u8], m: u32) -> Found
+fn map_fault(c: Counts, facts: &[u8], m: u32) -> Found
     requires { ⌜ (headFault (taskOf (tables c (now facts) [] [])) ≡ Clean) × (m < 8) ⌝ }
     ensures { λ r. ⌜ r ≡ mapFault (taskOf (tables c (now (facts .entry)) [] [])) m ⌝ }
 {
@@ -151,14 +147,14 @@ pub fn map_fault(c: Counts, facts: &[u8], m: u32) -> Found
         }
         v += 1;
     }
-    if 4096 < states {
+    if STATES_MOST < states {
         return Found::Fault(Refusal::TooManyStates(line));
     }
     Found::Clean
 }
 
 // Line 7 to the line of the last map: the walks over operators, facts and maps are left at once with the first fault.
-pub fn lines_fault(c: Counts, facts: &[u8], costs: &[u32]) -> Found
+fn lines_fault(c: Counts, facts: &[u8], costs: &[u32]) -> Found
     requires { ⌜ headFault (taskOf (tables c (now facts) [] [])) ≡ Clean ⌝ }
     ensures { λ r. ⌜ r ≡ linesFault (taskOf (tables c (now (facts .entry)) (now (costs .entry)) [])) ⌝ }
 {
@@ -171,23 +167,23 @@ pub fn lines_fault(c: Counts, facts: &[u8], costs: &[u32]) -> Found
             if COST_MOST < cost_at(costs, OpNo(o)) {
                 break 'scan Found::Fault(Refusal::OutOfRange(7 + o));
             }
-            let mut v = 0;
-            while v < vars {
-                if !fact_fits(facts, pre_row(OpNo(o)), v) {
+            let mut p = 0;
+            while p < vars {
+                if !fact_fits(facts, pre_row(OpNo(o)), p) {
                     break 'scan Found::Fault(Refusal::OutOfRange(7 + o));
                 }
-                v += 1;
+                p += 1;
             }
-            let mut v = 0;
-            while v < vars {
-                if !fact_fits(facts, eff_row(OpNo(o)), v) {
+            let mut e = 0;
+            while e < vars {
+                if !fact_fits(facts, eff_row(OpNo(o)), e) {
                     break 'scan Found::Fault(Refusal::OutOfRange(7 + o));
                 }
-                v += 1;
+                e += 1;
             }
             o += 1;
         }
-        if !lies_within(1, 8, maps) {
+        if !lies_within(1, MAPS_MOST, maps) {
             break Found::Fault(Refusal::OutOfRange(7 + ops));
         }
         let mut m = 0;
@@ -204,7 +200,7 @@ pub fn lines_fault(c: Counts, facts: &[u8], costs: &[u32]) -> Found
 }
 
 // The lines of the shares: the walk over maps and operators is left at once with the first fault.
-pub fn shares_fault(c: Counts, shares: &[u32]) -> Found
+fn shares_fault(c: Counts, shares: &[u32]) -> Found
     requires { ⌜ (c .ops ≤ 64) × (c .maps ≤ 8) ⌝ }
     ensures { λ r. ⌜ r ≡ each (sharesFault (taskOf (tables c [] [] (now (shares .entry))))) (c .maps) 0 ⌝ }
 {
@@ -225,7 +221,7 @@ pub fn shares_fault(c: Counts, shares: &[u32]) -> Found
 }
 
 // What the maps charge for an operator in all.
-pub fn share_total(maps: u32, shares: &[u32], o: OpNo) -> u64
+fn share_total(maps: u32, shares: &[u32], o: OpNo) -> u64
     ensures { λ r. ⌜ r ≡ sum (λ m. shareAt (now (shares .entry)) m (o .0)) maps ⌝ }
 {
     let mut total = 0u64;
@@ -238,7 +234,7 @@ pub fn share_total(maps: u32, shares: &[u32], o: OpNo) -> u64
 }
 
 // The split, after all else: an operator's shares total at most its cost.
-pub fn split_fault(c: Counts, costs: &[u32], shares: &[u32]) -> Found
+fn split_fault(c: Counts, costs: &[u32], shares: &[u32]) -> Found
     requires { ⌜ c .ops ≤ 64 ⌝ }
     ensures { λ r. ⌜ r ≡ each (splitFault (taskOf (tables c [] (now (costs .entry)) (now (shares .entry))))) (c .ops) 0 ⌝ }
 {
@@ -256,7 +252,7 @@ pub fn split_fault(c: Counts, costs: &[u32], shares: &[u32]) -> Found
 }
 
 // The lent tables have room for the largest task.
-pub fn has_room(facts: &[u8], costs: &[u32], shares: &[u32]) -> bool
+fn has_room(facts: &[u8], costs: &[u32], shares: &[u32]) -> bool
     ensures { λ r. ⌜ r ≡ (leb factsRoom (length (now (facts .entry))) && leb costsRoom (length (now (costs .entry))) && leb sharesRoom (length (now (shares .entry)))) ⌝ }
 {
     if facts.len() < FACTS_ROOM {

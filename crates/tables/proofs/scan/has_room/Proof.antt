@@ -1,7 +1,6 @@
 -- `scan::has_room` meets its contract. Assumes nothing.
 use mathlib.Core.Path.{sym}
 use lib.ListN.{length}
-use borrow.Author.Needs.{needs}
 use borrow.Author.Tests.{lt-leb, le-leb}
 use Rattle.tables.proofs.scan.has_room.Statement.{statement}
 use Rattle.tables.proofs.scan.has_room.Tie as tie

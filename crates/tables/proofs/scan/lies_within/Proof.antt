@@ -1,7 +1,5 @@
 -- `scan::lies_within` meets its contract. Assumes nothing.
 use mathlib.Core.Path.{sym}
-use lib.Dec.{leb}
-use borrow.Author.Needs.{needs}
 use borrow.Author.Tests.{le-leb, lt-leb}
 use Rattle.tables.proofs.scan.lies_within.Statement.{statement}
 use Rattle.tables.proofs.scan.lies_within.Tie as tie

@@ -1,12 +1,12 @@
 -- `scan::lines_fault` meets its contract: each walk's rules passed so far are clean, and a break hands on the first fault of them all. Assumes nothing.
-use Prim.Native.Nat.{ℕ, _+_, _≤_, _<_, _-_}
+use Prim.Native.Nat.{ℕ, _+_, _≤_, _-_}
 use mathlib.Core.Path.{_≡_, sym, _∙_}
 use mathlib.Core.Bool.{Bool, true, false}
 use mathlib.Core.List.{List, []}
 use native.Mathlib.Omega.{arith}
 use lib.Dec.{leb}
 use borrow.Author.Needs.{needs}
-use borrow.Author.Tests.{lt-leb, le-leb, not-true, not-false}
+use borrow.Author.Tests.{not-true, not-false}
 use Rattle.refusals.specs.declared.Refusal.{Refusal}
 use Rattle.refusals.specs.declared.Refusal.the-variants.{OutOfRange}
 use Rattle.meaning.specs.Split.{Task}
@@ -15,7 +15,6 @@ use Rattle.tables.specs.declared.scan.Found.the-variants.{Clean, Fault}
 use Rattle.tables.specs.Layout.{rowAt, domAt, preRow, effRow, costAt}
 use Rattle.tables.specs.Task.{tables, taskOf}
 use Rattle.tables.specs.Scan.{each, within, factsFault, operatorFault, classesFault, mapFault}
-use Rattle.tables.specs.Parts.{headFault, linesFault}
 use Rattle.tables.proofs.Walks.{tests, tests-more, tests-here, walk-none, walk-more, walk-here, walk-end}
 use Rattle.tables.proofs.Rules.{head-clean, within-says}
 use Rattle.tables.proofs.Lines.{cost-decides, pre-decides, eff-decides, operators-decide, count-decides, maps-decide}
@@ -32,16 +31,16 @@ abbrev said : ℕ → ℕ → Refusal
 said o v = OutOfRange (7 + o)
 
 abbrev Pre : tie.InvT-loop2
-Pre c facts costs vars ops maps o v₀ v = (v ≤ vars) × (each (tests (fits facts (preRow o)) (said o)) v 0 ≡ Clean)
+Pre c facts costs vars ops maps o p₀ p = (p ≤ vars) × (each (tests (fits facts (preRow o)) (said o)) p 0 ≡ Clean)
 
 abbrev μ-pre : tie.MeasureT-loop2
-μ-pre c facts costs vars ops maps o v₀ v = vars - v
+μ-pre c facts costs vars ops maps o p₀ p = vars - p
 
 abbrev Eff : tie.InvT-loop3
-Eff c facts costs vars ops maps o v v₀ v' = (v' ≤ vars) × (each (tests (fits facts (effRow o)) (said o)) v' 0 ≡ Clean)
+Eff c facts costs vars ops maps o p e₀ e = (e ≤ vars) × (each (tests (fits facts (effRow o)) (said o)) e 0 ≡ Clean)
 
 abbrev μ-eff : tie.MeasureT-loop3
-μ-eff c facts costs vars ops maps o v v₀ v' = vars - v'
+μ-eff c facts costs vars ops maps o p e₀ e = vars - e
 
 abbrev Ops : tie.InvT-loop
 Ops c facts costs vars ops maps o₀ o = (o ≤ ops) × (each (operatorFault (spelled c facts costs)) o 0 ≡ Clean)
@@ -99,8 +98,8 @@ add-t23 c =
     let pre = c .before .before .before .before .before .before .before .before .before .before .before .before .pre in
     omega (arith, head-clean (spelled (args .c) (args .facts .now) []) pre .ops)
 
-add-v : tie.Need-add-v Pre μ-pre Eff μ-eff Ops μ-ops Maps μ-maps Scan μ-scan
-add-v c = search needs
+add-p : tie.Need-add-p Pre μ-pre Eff μ-eff Ops μ-ops Maps μ-maps Scan μ-scan
+add-p c = search needs
 
 loop2-less : tie.Need-loop2-less Pre μ-pre Eff μ-eff Ops μ-ops Maps μ-maps Scan μ-scan
 loop2-less c = search needs
@@ -113,8 +112,8 @@ loop2-again c =
     let pre-row = c .before .before .pre-row in
     let fact-fits = c .before .fact-fits in
     let if2 = c .if2 in
-    let held : fits (args .facts .now) (preRow (run .o)) (loop2 .v) ≡ true = cc (pre-row .ensures, fact-fits .ensures, not-false (fact-fits .result) (if2 .left)) in
-    (omega arith, tests-more (fits (args .facts .now) (preRow (run .o))) (said (run .o)) (loop2 .v) (loop2 .inv .1) held)
+    let held : fits (args .facts .now) (preRow (run .o)) (loop2 .p) ≡ true = cc (pre-row .ensures, fact-fits .ensures, not-false (fact-fits .result) (if2 .left)) in
+    (omega arith, tests-more (fits (args .facts .now) (preRow (run .o))) (said (run .o)) (loop2 .p) (loop2 .inv .1) held)
 
 loop3-holds : tie.Need-loop3-holds Pre μ-pre Eff μ-eff Ops μ-ops Maps μ-maps Scan μ-scan
 loop3-holds c =
@@ -137,8 +136,8 @@ add-t29 c =
     let pre = c .before .before .before .before .before .before .before .before .before .before .before .before .before .before .pre in
     omega (arith, head-clean (spelled (args .c) (args .facts .now) []) pre .ops)
 
-add-v-2 : tie.Need-add-v-2 Pre μ-pre Eff μ-eff Ops μ-ops Maps μ-maps Scan μ-scan
-add-v-2 c = search needs
+add-e : tie.Need-add-e Pre μ-pre Eff μ-eff Ops μ-ops Maps μ-maps Scan μ-scan
+add-e c = search needs
 
 loop3-less : tie.Need-loop3-less Pre μ-pre Eff μ-eff Ops μ-ops Maps μ-maps Scan μ-scan
 loop3-less c = search needs
@@ -151,8 +150,8 @@ loop3-again c =
     let eff-row = c .before .before .eff-row in
     let fact-fits2 = c .before .fact-fits2 in
     let if3 = c .if3 in
-    let held : fits (args .facts .now) (effRow (run .o)) (loop3 .v) ≡ true = cc (eff-row .ensures, fact-fits2 .ensures, not-false (fact-fits2 .result) (if3 .left)) in
-    (omega arith, tests-more (fits (args .facts .now) (effRow (run .o))) (said (run .o)) (loop3 .v) (loop3 .inv .1) held)
+    let held : fits (args .facts .now) (effRow (run .o)) (loop3 .e) ≡ true = cc (eff-row .ensures, fact-fits2 .ensures, not-false (fact-fits2 .result) (if3 .left)) in
+    (omega arith, tests-more (fits (args .facts .now) (effRow (run .o))) (said (run .o)) (loop3 .e) (loop3 .inv .1) held)
 
 add-o : tie.Need-add-o Pre μ-pre Eff μ-eff Ops μ-ops Maps μ-maps Scan μ-scan
 add-o c = search needs
@@ -169,8 +168,11 @@ loop-again c =
     let if1 = c .before .before .before .before .if1 in
     let loop2 = c .before .before .before .loop2 in
     let loop3 = c .before .loop3 in
+    let T : Task = spelled (args .c) (args .facts .now) (args .costs .now) in
     let low : costAt (args .costs .now) (run .o) ≤ 1000000 = omega (arith, cost-at .ensures, if1 .left) in
-    (omega arith, walk-more (operatorFault (spelled (args .c) (args .facts .now) (args .costs .now))) (run .o) (run .inv .1) (eff-decides (spelled (args .c) (args .facts .now) (args .costs .now)) (run .o) Clean low (walk-end (tests (fits (args .facts .now) (preRow (run .o))) (said (run .o))) (args .c .vars) (loop2 .v) (loop2 .inv .1) (omega arith) (omega arith)) (walk-end (tests (fits (args .facts .now) (effRow (run .o))) (said (run .o))) (args .c .vars) (loop3 .v) (loop3 .inv .1) (omega arith) (omega arith))))
+    let pres = walk-end (tests (fits (args .facts .now) (preRow (run .o))) (said (run .o))) (args .c .vars) (loop2 .p) (loop2 .inv .1) (omega arith) (omega arith) in
+    let effs = walk-end (tests (fits (args .facts .now) (effRow (run .o))) (said (run .o))) (args .c .vars) (loop3 .e) (loop3 .inv .1) (omega arith) (omega arith) in
+    (omega arith, walk-more (operatorFault T) (run .o) (run .inv .1) (eff-decides T (run .o) Clean low pres effs))
 
 lies-within-requires : tie.Need-lies-within-requires Pre μ-pre Eff μ-eff Ops μ-ops Maps μ-maps Scan μ-scan
 lies-within-requires c κs = search needs
@@ -192,8 +194,8 @@ map-fault-requires c κs =
     let lies-within = c .before .before .before .lies-within in
     let if4 = c .before .before .if4 in
     let pre = c .before .before .before .before .before .before .before .before .before .pre in
-    let kept : within 1 8 (args .c .maps) ≡ true = sym (lies-within .ensures) ∙ not-false (lies-within .result) (if4 .left) in
-    (pre, omega (arith, within-says 1 8 (args .c .maps) kept))
+    let few : within 1 8 (args .c .maps) ≡ true = sym (lies-within .ensures) ∙ not-false (lies-within .result) (if4 .left) in
+    (pre, omega (arith, within-says 1 8 (args .c .maps) few))
 
 enum-told : tie.Need-enum-told Pre μ-pre Eff μ-eff Ops μ-ops Maps μ-maps Scan μ-scan
 enum-told c = search needs
@@ -214,16 +216,19 @@ loop4-again c =
     let loop4 = c .before .before .before .before .loop4 in
     let map-fault = c .before .before .map-fault in
     let enum-told = c .enum-told in
-    (omega arith, walk-more (mapFault (spelled (args .c) (args .facts .now) (args .costs .now))) (loop4 .m) (loop4 .inv .1) (sym (map-fault .ensures) ∙ enum-told .given .1))
+    let T : Task = spelled (args .c) (args .facts .now) (args .costs .now) in
+    (omega arith, walk-more (mapFault T) (loop4 .m) (loop4 .inv .1) (sym (map-fault .ensures) ∙ enum-told .given .1))
 
 returns : tie.Need-returns Pre μ-pre Eff μ-eff Ops μ-ops Maps μ-maps Scan μ-scan
 returns c =
     let args = c .before .before .before .before .before .before .before .args in
     let run = c .before .before .before .loop in
-    let loop-test = c .before .before .loop-test in
     let cost-at = c .before .cost-at in
     let if1 = c .if1 in
-    sym (operators-decide (spelled (args .c) (args .facts .now) (args .costs .now)) (OutOfRange (7 + run .o)) (walk-here (operatorFault (spelled (args .c) (args .facts .now) (args .costs .now))) (args .c .ops) (run .o) (OutOfRange (7 + run .o)) (run .inv .1) (loop-test .taken) (cost-decides (spelled (args .c) (args .facts .now) (args .costs .now)) (run .o) (omega (arith, cost-at .ensures, if1 .taken)))))
+    let loop-test = c .before .before .loop-test in
+    let T : Task = spelled (args .c) (args .facts .now) (args .costs .now) in
+    let here = cost-decides T (run .o) (omega (arith, cost-at .ensures, if1 .taken)) in
+    sym (operators-decide T (OutOfRange (7 + run .o)) (walk-here (operatorFault T) (args .c .ops) (run .o) (OutOfRange (7 + run .o)) (run .inv .1) (loop-test .taken) here))
 
 returns-2 : tie.Need-returns-2 Pre μ-pre Eff μ-eff Ops μ-ops Maps μ-maps Scan μ-scan
 unfolding factsFault
@@ -238,10 +243,12 @@ returns-2 c =
     let if2 = c .if2 in
     let loop2-test = c .before .before .before .loop2-test in
     let loop-test = c .before .before .before .before .before .before .before .loop-test in
+    let T : Task = spelled (args .c) (args .facts .now) (args .costs .now) in
     let low : costAt (args .costs .now) (run .o) ≤ 1000000 = omega (arith, cost-at .ensures, if1 .left) in
-    let out : fits (args .facts .now) (preRow (run .o)) (loop2 .v) ≡ false = cc (pre-row .ensures, fact-fits .ensures, not-true (fact-fits .result) (if2 .taken)) in
-    let here = tests-here (fits (args .facts .now) (preRow (run .o))) (said (run .o)) (args .c .vars) (loop2 .v) (loop2 .inv .1) (loop2-test .taken) out in
-    sym (operators-decide (spelled (args .c) (args .facts .now) (args .costs .now)) (OutOfRange (7 + run .o)) (walk-here (operatorFault (spelled (args .c) (args .facts .now) (args .costs .now))) (args .c .ops) (run .o) (OutOfRange (7 + run .o)) (run .inv .1) (loop-test .taken) (pre-decides (spelled (args .c) (args .facts .now) (args .costs .now)) (run .o) (OutOfRange (7 + run .o)) low here)))
+    let out : fits (args .facts .now) (preRow (run .o)) (loop2 .p) ≡ false = cc (pre-row .ensures, fact-fits .ensures, not-true (fact-fits .result) (if2 .taken)) in
+    let fact = tests-here (fits (args .facts .now) (preRow (run .o))) (said (run .o)) (args .c .vars) (loop2 .p) (loop2 .inv .1) (loop2-test .taken) out in
+    let here = pre-decides T (run .o) (OutOfRange (7 + run .o)) low fact in
+    sym (operators-decide T (OutOfRange (7 + run .o)) (walk-here (operatorFault T) (args .c .ops) (run .o) (OutOfRange (7 + run .o)) (run .inv .1) (loop-test .taken) here))
 
 returns-3 : tie.Need-returns-3 Pre μ-pre Eff μ-eff Ops μ-ops Maps μ-maps Scan μ-scan
 unfolding factsFault
@@ -250,17 +257,20 @@ returns-3 c =
     let run = c .before .before .before .before .before .before .before .before .before .before .loop in
     let cost-at = c .before .before .before .before .before .before .before .before .cost-at in
     let if1 = c .before .before .before .before .before .before .before .if1 in
+    let loop2 = c .before .before .before .before .before .before .loop2 in
     let loop3 = c .before .before .before .before .loop3 in
     let eff-row = c .before .before .eff-row in
     let fact-fits2 = c .before .fact-fits2 in
     let if3 = c .if3 in
     let loop3-test = c .before .before .before .loop3-test in
     let loop-test = c .before .before .before .before .before .before .before .before .before .loop-test in
-    let loop2 = c .before .before .before .before .before .before .loop2 in
+    let T : Task = spelled (args .c) (args .facts .now) (args .costs .now) in
     let low : costAt (args .costs .now) (run .o) ≤ 1000000 = omega (arith, cost-at .ensures, if1 .left) in
-    let out : fits (args .facts .now) (effRow (run .o)) (loop3 .v) ≡ false = cc (eff-row .ensures, fact-fits2 .ensures, not-true (fact-fits2 .result) (if3 .taken)) in
-    let here = tests-here (fits (args .facts .now) (effRow (run .o))) (said (run .o)) (args .c .vars) (loop3 .v) (loop3 .inv .1) (loop3-test .taken) out in
-    sym (operators-decide (spelled (args .c) (args .facts .now) (args .costs .now)) (OutOfRange (7 + run .o)) (walk-here (operatorFault (spelled (args .c) (args .facts .now) (args .costs .now))) (args .c .ops) (run .o) (OutOfRange (7 + run .o)) (run .inv .1) (loop-test .taken) (eff-decides (spelled (args .c) (args .facts .now) (args .costs .now)) (run .o) (Fault (OutOfRange (7 + run .o))) low (walk-end (tests (fits (args .facts .now) (preRow (run .o))) (said (run .o))) (args .c .vars) (loop2 .v) (loop2 .inv .1) (omega arith) (omega arith)) here)))
+    let pres = walk-end (tests (fits (args .facts .now) (preRow (run .o))) (said (run .o))) (args .c .vars) (loop2 .p) (loop2 .inv .1) (omega arith) (omega arith) in
+    let out : fits (args .facts .now) (effRow (run .o)) (loop3 .e) ≡ false = cc (eff-row .ensures, fact-fits2 .ensures, not-true (fact-fits2 .result) (if3 .taken)) in
+    let fact = tests-here (fits (args .facts .now) (effRow (run .o))) (said (run .o)) (args .c .vars) (loop3 .e) (loop3 .inv .1) (loop3-test .taken) out in
+    let here = eff-decides T (run .o) (Fault (OutOfRange (7 + run .o))) low pres fact in
+    sym (operators-decide T (OutOfRange (7 + run .o)) (walk-here (operatorFault T) (args .c .ops) (run .o) (OutOfRange (7 + run .o)) (run .inv .1) (loop-test .taken) here))
 
 returns-4 : tie.Need-returns-4 Pre μ-pre Eff μ-eff Ops μ-ops Maps μ-maps Scan μ-scan
 returns-4 c =
@@ -268,31 +278,38 @@ returns-4 c =
     let run = c .before .before .before .loop in
     let lies-within = c .before .lies-within in
     let if4 = c .if4 in
-    sym (count-decides (spelled (args .c) (args .facts .now) (args .costs .now)) (walk-end (operatorFault (spelled (args .c) (args .facts .now) (args .costs .now))) (args .c .ops) (run .o) (run .inv .1) (omega arith) (omega arith)) (sym (lies-within .ensures) ∙ not-true (lies-within .result) (if4 .taken)))
+    let T : Task = spelled (args .c) (args .facts .now) (args .costs .now) in
+    let ops = walk-end (operatorFault T) (args .c .ops) (run .o) (run .inv .1) (omega arith) (omega arith) in
+    sym (count-decides T ops (sym (lies-within .ensures) ∙ not-true (lies-within .result) (if4 .taken)))
 
 returns-5 : tie.Need-returns-5 Pre μ-pre Eff μ-eff Ops μ-ops Maps μ-maps Scan μ-scan
 unfolding mapFault classesFault
 returns-5 c =
     let args = c .before .before .before .before .before .before .before .before .before .before .before .before .args in
+    let run = c .before .before .before .before .before .before .before .before .loop in
     let lies-within = c .before .before .before .before .before .before .lies-within in
     let if4 = c .before .before .before .before .before .if4 in
-    let map-fault = c .before .before .map-fault in
-    let run = c .before .before .before .before .before .before .before .before .loop in
     let loop4 = c .before .before .before .before .loop4 in
     let enum-told2 = c .enum-told2 in
     let loop4-test = c .before .before .before .loop4-test in
-    let kept : within 1 8 (args .c .maps) ≡ true = sym (lies-within .ensures) ∙ not-false (lies-within .result) (if4 .left) in
-    sym (maps-decide (spelled (args .c) (args .facts .now) (args .costs .now)) (map-fault .result) (walk-end (operatorFault (spelled (args .c) (args .facts .now) (args .costs .now))) (args .c .ops) (run .o) (run .inv .1) (omega arith) (omega arith)) kept (walk-here (mapFault (spelled (args .c) (args .facts .now) (args .costs .now))) (args .c .maps) (loop4 .m) (enum-told2 .given .0 .0) (loop4 .inv .1) (loop4-test .taken) (sym (map-fault .ensures) ∙ enum-told2 .given .1) ∙ sym (enum-told2 .given .1)))
+    let map-fault = c .before .before .map-fault in
+    let T : Task = spelled (args .c) (args .facts .now) (args .costs .now) in
+    let ops = walk-end (operatorFault T) (args .c .ops) (run .o) (run .inv .1) (omega arith) (omega arith) in
+    let few : within 1 8 (args .c .maps) ≡ true = sym (lies-within .ensures) ∙ not-false (lies-within .result) (if4 .left) in
+    let here = walk-here (mapFault T) (args .c .maps) (loop4 .m) (enum-told2 .given .0 .0) (loop4 .inv .1) (loop4-test .taken) (sym (map-fault .ensures) ∙ enum-told2 .given .1) in
+    sym (maps-decide T (map-fault .result) ops few (here ∙ sym (enum-told2 .given .1)))
 
 returns-6 : tie.Need-returns-6 Pre μ-pre Eff μ-eff Ops μ-ops Maps μ-maps Scan μ-scan
 returns-6 c =
     let args = c .before .before .before .before .before .before .before .before .before .args in
+    let run = c .before .before .before .before .before .loop in
     let lies-within = c .before .before .before .lies-within in
     let if4 = c .before .before .if4 in
-    let run = c .before .before .before .before .before .loop in
     let loop4 = c .before .loop4 in
-    let kept : within 1 8 (args .c .maps) ≡ true = sym (lies-within .ensures) ∙ not-false (lies-within .result) (if4 .left) in
-    sym (maps-decide (spelled (args .c) (args .facts .now) (args .costs .now)) Clean (walk-end (operatorFault (spelled (args .c) (args .facts .now) (args .costs .now))) (args .c .ops) (run .o) (run .inv .1) (omega arith) (omega arith)) kept (walk-end (mapFault (spelled (args .c) (args .facts .now) (args .costs .now))) (args .c .maps) (loop4 .m) (loop4 .inv .1) (omega arith) (omega arith)))
+    let T : Task = spelled (args .c) (args .facts .now) (args .costs .now) in
+    let ops = walk-end (operatorFault T) (args .c .ops) (run .o) (run .inv .1) (omega arith) (omega arith) in
+    let few : within 1 8 (args .c .maps) ≡ true = sym (lies-within .ensures) ∙ not-false (lies-within .result) (if4 .left) in
+    sym (maps-decide T Clean ops few (walk-end (mapFault T) (args .c .maps) (loop4 .m) (loop4 .inv .1) (omega arith) (omega arith)))
 
 pub lines-fault-spec : {M : Type 1} → statement M
 lines-fault-spec =
@@ -316,14 +333,14 @@ lines-fault-spec =
     pre-row-requires
     fact-fits-requires
     add-t23
-    add-v
+    add-p
     loop2-less
     loop2-again
     loop3-holds
     eff-row-requires
     fact-fits-requires-2
     add-t29
-    add-v-2
+    add-e
     loop3-less
     loop3-again
     add-o

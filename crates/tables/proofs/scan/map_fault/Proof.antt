@@ -1,5 +1,5 @@
 -- `scan::map_fault` meets its contract: the variables passed so far are clean, and their counts multiply to the states so far. Assumes nothing.
-use Prim.Native.Nat.{ℕ, _+_, _*_, _^_, _≤_, _<_, _-_}
+use Prim.Native.Nat.{ℕ, _+_, _*_, _^_, _≤_, _-_}
 use mathlib.Core.Path.{_≡_, refl, sym, ap, ap₂, _∙_}
 use mathlib.Core.List.{List, []}
 use native.Mathlib.Numerals.{add-one}
@@ -10,16 +10,14 @@ use Rattle.refusals.specs.declared.Refusal.the-variants.{OutOfRange, ClassMissi
 use Rattle.meaning.specs.Numbering.{size}
 use Rattle.meaning.specs.Split.{Task, countOf}
 use Rattle.tables.specs.declared.Counts.{Counts}
-use Rattle.tables.specs.declared.classes.Classes.{Classes}
 use Rattle.tables.specs.declared.scan.Found.{Found}
-use Rattle.tables.specs.declared.scan.Found.the-variants.{Clean, Fault}
-use Rattle.tables.specs.Layout.{rowAt, domAt, classAt}
+use Rattle.tables.specs.declared.scan.Found.the-variants.{Clean}
+use Rattle.tables.specs.Layout.{domAt, classAt}
 use Rattle.tables.specs.Task.{tables, taskOf}
 use Rattle.tables.specs.Scan.{each, classesFault, mapFault}
-use Rattle.tables.specs.Classes.{classesOf}
 use Rattle.tables.proofs.Walks.{walk-none, walk-more, walk-here, walk-end}
 use Rattle.tables.proofs.Rules.{head-clean}
-use Rattle.tables.proofs.ClassRows.{faultIn, rowFault, row-of, row-fault, row-count, product-more, product-fits}
+use Rattle.tables.proofs.ClassRows.{rowFault, found-fault, found-count, product-more, product-fits}
 use Rattle.tables.proofs.scan.map_fault.Statement.{statement}
 use Rattle.tables.proofs.scan.map_fault.Tie as tie
 
@@ -78,17 +76,16 @@ enum-known-found c = search needs
 
 mul-states : tie.Need-mul-states Inv-loop μ-loop
 mul-states c =
-    let classes-of = c .before .before .before .classes-of in
     let args = c .before .before .before .before .before .before .before .before .before .before .args in
-    let run = c .before .before .before .before .before .before .before .loop in
+    let pre = c .before .before .before .before .before .before .before .before .before .before .pre in
+    let classes-of = c .before .before .before .classes-of in
     let class-row = c .before .before .before .before .class-row in
     let word-of = c .before .before .before .before .before .word-of in
     let found = c .before .found in
-    let pre = c .before .before .before .before .before .before .before .before .before .before .pre in
+    let run = c .before .before .before .before .before .before .before .loop in
     let loop-test = c .before .before .before .before .before .before .loop-test in
-    let is : classes-of .result ≡ classesOf (classAt (args .facts .now) (args .m) (run .v)) (domAt (args .facts .now) (run .v)) = row-of (args .facts .now) (classes-of .ensures) (class-row .ensures) (word-of .ensures) in
-    let count = row-count (classAt (args .facts .now) (args .m) (run .v)) (domAt (args .facts .now) (run .v)) (found .given .0 .0) (sym is ∙ found .given .1) in
     let head = head-clean (headed (args .c) (args .facts .now)) (pre .0) in
+    let count = found-count (args .facts .now) (classes-of .ensures) (class-row .ensures) (word-of .ensures) (found .given .0 .0) (found .given .1) in
     let small : found .given .0 .0 ≤ 8 = omega (arith, count .1, head .doms (run .v) (loop-test .taken)) in
     omega (arith, product-fits (run .states) (found .given .0 .0) (run .v) (run .inv .3) small (omega (arith, head .vars)))
 
@@ -98,16 +95,16 @@ enum-told c = search needs
 returns : tie.Need-returns Inv-loop μ-loop
 unfolding mapFault classesFault
 returns c =
-    let classes-of = c .before .before .classes-of in
     let args = c .before .before .before .before .before .before .before .before .before .args in
-    let run = c .before .before .before .before .before .before .loop in
+    let classes-of = c .before .before .classes-of in
     let class-row = c .before .before .before .class-row in
     let word-of = c .before .before .before .before .word-of in
     let enum-told = c .enum-told in
+    let run = c .before .before .before .before .before .before .loop in
     let loop-test = c .before .before .before .before .before .loop-test in
-    let is : classes-of .result ≡ classesOf (classAt (args .facts .now) (args .m) (run .v)) (domAt (args .facts .now) (run .v)) = row-of (args .facts .now) (classes-of .ensures) (class-row .ensures) (word-of .ensures) in
-    let here : rule (args .facts .now) (args .m) (8 + args .c .ops + args .m) (run .v) ≡ Fault (ClassMissing (8 + args .c .ops + args .m)) = row-fault (classAt (args .facts .now) (args .m) (run .v)) (domAt (args .facts .now) (run .v)) (8 + args .c .ops + args .m) ∙ ap (λ (k : Classes). faultIn k (8 + args .c .ops + args .m)) (sym is ∙ enum-told .given .1) in
-    sym (rw (walk-here (rule (args .facts .now) (args .m) (8 + args .c .ops + args .m)) (args .c .vars) (run .v) (ClassMissing (8 + args .c .ops + args .m)) (run .inv .1) (loop-test .taken) here))
+    let line : ℕ = 8 + args .c .ops + args .m in
+    let here = found-fault (args .facts .now) (classes-of .ensures) (class-row .ensures) (word-of .ensures) line (enum-told .given .1) in
+    sym (rw (walk-here (rule (args .facts .now) (args .m) line) (args .c .vars) (run .v) (ClassMissing line) (run .inv .1) (loop-test .taken) here))
 
 enum-told-2 : tie.Need-enum-told-2 Inv-loop μ-loop
 enum-told-2 c = search needs
@@ -115,16 +112,16 @@ enum-told-2 c = search needs
 returns-2 : tie.Need-returns-2 Inv-loop μ-loop
 unfolding mapFault classesFault
 returns-2 c =
-    let classes-of = c .before .before .classes-of in
     let args = c .before .before .before .before .before .before .before .before .before .args in
-    let run = c .before .before .before .before .before .before .loop in
+    let classes-of = c .before .before .classes-of in
     let class-row = c .before .before .before .class-row in
     let word-of = c .before .before .before .before .word-of in
     let enum-told2 = c .enum-told2 in
+    let run = c .before .before .before .before .before .before .loop in
     let loop-test = c .before .before .before .before .before .loop-test in
-    let is : classes-of .result ≡ classesOf (classAt (args .facts .now) (args .m) (run .v)) (domAt (args .facts .now) (run .v)) = row-of (args .facts .now) (classes-of .ensures) (class-row .ensures) (word-of .ensures) in
-    let here : rule (args .facts .now) (args .m) (8 + args .c .ops + args .m) (run .v) ≡ Fault (OutOfRange (8 + args .c .ops + args .m)) = row-fault (classAt (args .facts .now) (args .m) (run .v)) (domAt (args .facts .now) (run .v)) (8 + args .c .ops + args .m) ∙ ap (λ (k : Classes). faultIn k (8 + args .c .ops + args .m)) (sym is ∙ enum-told2 .given .1) in
-    sym (rw (walk-here (rule (args .facts .now) (args .m) (8 + args .c .ops + args .m)) (args .c .vars) (run .v) (OutOfRange (8 + args .c .ops + args .m)) (run .inv .1) (loop-test .taken) here))
+    let line : ℕ = 8 + args .c .ops + args .m in
+    let here = found-fault (args .facts .now) (classes-of .ensures) (class-row .ensures) (word-of .ensures) line (enum-told2 .given .1) in
+    sym (rw (walk-here (rule (args .facts .now) (args .m) line) (args .c .vars) (run .v) (OutOfRange line) (run .inv .1) (loop-test .taken) here))
 
 add-v : tie.Need-add-v Inv-loop μ-loop
 add-v c = search needs
@@ -134,20 +131,20 @@ loop-less c = search needs
 
 loop-again : tie.Need-loop-again Inv-loop μ-loop
 loop-again c =
-    let classes-of = c .before .before .before .classes-of in
     let args = c .before .before .before .before .before .before .before .before .before .before .args in
-    let run = c .before .before .before .before .before .before .before .loop in
+    let pre = c .before .before .before .before .before .before .before .before .before .before .pre in
+    let classes-of = c .before .before .before .classes-of in
     let class-row = c .before .before .before .before .class-row in
     let word-of = c .before .before .before .before .before .word-of in
     let found = c .before .found in
-    let pre = c .before .before .before .before .before .before .before .before .before .before .pre in
+    let run = c .before .before .before .before .before .before .before .loop in
     let loop-test = c .before .before .before .before .before .before .loop-test in
-    let is : classes-of .result ≡ classesOf (classAt (args .facts .now) (args .m) (run .v)) (domAt (args .facts .now) (run .v)) = row-of (args .facts .now) (classes-of .ensures) (class-row .ensures) (word-of .ensures) in
-    let count = row-count (classAt (args .facts .now) (args .m) (run .v)) (domAt (args .facts .now) (run .v)) (found .given .0 .0) (sym is ∙ found .given .1) in
     let head = head-clean (headed (args .c) (args .facts .now)) (pre .0) in
+    let count = found-count (args .facts .now) (classes-of .ensures) (class-row .ensures) (word-of .ensures) (found .given .0 .0) (found .given .1) in
     let small : found .given .0 .0 ≤ 8 = omega (arith, count .1, head .doms (run .v) (loop-test .taken)) in
-    let here : rule (args .facts .now) (args .m) (8 + args .c .ops + args .m) (run .v) ≡ Clean = row-fault (classAt (args .facts .now) (args .m) (run .v)) (domAt (args .facts .now) (run .v)) (8 + args .c .ops + args .m) ∙ ap (λ (k : Classes). faultIn k (8 + args .c .ops + args .m)) (sym is ∙ found .given .1) in
-    (omega arith, walk-more (rule (args .facts .now) (args .m) (8 + args .c .ops + args .m)) (run .v) (run .inv .1) here, rw add-one (ap₂ _*_ (run .inv .2) (count .0)), product-more (run .states) (found .given .0 .0) (run .v) (run .inv .3) small)
+    let line : ℕ = 8 + args .c .ops + args .m in
+    let here = found-fault (args .facts .now) (classes-of .ensures) (class-row .ensures) (word-of .ensures) line (found .given .1) in
+    (omega arith, walk-more (rule (args .facts .now) (args .m) line) (run .v) (run .inv .1) here, rw add-one (ap₂ _*_ (run .inv .2) (count .0)), product-more (run .states) (found .given .0 .0) (run .v) (run .inv .3) small)
 
 returns-3 : tie.Need-returns-3 Inv-loop μ-loop
 unfolding mapFault classesFault

@@ -1,17 +1,17 @@
 -- `scan::state_fault` meets its contract: the state is long enough, and the values passed so far are inside. Assumes nothing.
-use Prim.Native.Nat.{ℕ, _≤_, _<_, _-_}
-use mathlib.Core.Path.{_≡_, refl, sym, ap, _∙_}
+use Prim.Native.Nat.{ℕ, _≤_, _-_}
+use mathlib.Core.Path.{_≡_, sym}
 use mathlib.Core.Bool.{Bool, true, false}
 use mathlib.Core.List.{List}
 use native.Mathlib.Omega.{arith}
-use lib.Dec.{leb, ltb}
+use lib.Dec.{ltb}
 use lib.ListN.{length, getD}
 use borrow.Author.Needs.{needs}
 use borrow.Author.Tests.{lt-leb, le-leb, not-true, not-false}
-use Rattle.refusals.specs.declared.Refusal.the-variants.{TableTooShort, ValueOutside}
+use Rattle.refusals.specs.declared.Refusal.the-variants.{ValueOutside}
 use Rattle.tables.specs.declared.scan.Found.the-variants.{Clean}
 use Rattle.tables.specs.Layout.{domAt}
-use Rattle.tables.specs.Scan.{unless, _then_, each, stateFault}
+use Rattle.tables.specs.Scan.{each, stateFault}
 use Rattle.tables.proofs.Walks.{tests, tests-more, tests-here, walk-none, walk-end}
 use Rattle.tables.proofs.scan.state_fault.Statement.{statement}
 use Rattle.tables.proofs.scan.state_fault.Tie as tie

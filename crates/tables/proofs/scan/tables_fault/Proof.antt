@@ -1,11 +1,10 @@
 -- `scan::tables_fault` meets its contract: it hands on the first part that isn't clean. Assumes nothing.
-use Prim.Native.Nat.{ℕ, _≤_}
 use mathlib.Core.Path.{_≡_, sym, _∙_}
 use mathlib.Core.Bool.{true}
 use borrow.Author.Needs.{needs}
 use borrow.Author.Tests.{not-true, not-false}
 use Rattle.tables.specs.Task.{tables, taskOf}
-use Rattle.tables.specs.Scan.{roomy, tablesFault}
+use Rattle.tables.specs.Scan.{roomy}
 use Rattle.tables.proofs.Rules.{head-clean, lines-clean}
 use Rattle.tables.proofs.Lines.{room-decides, head-decides, lines-decide, shares-decide, split-decides, head-of, lines-of, shares-of, split-of}
 use Rattle.tables.proofs.scan.tables_fault.Statement.{statement}

@@ -1,0 +1,153 @@
+// THE DESK: every public entry and nothing else. No entry asks anything of its caller: whatever is handed in, there is an answer.
+// Beside each entry stands the theorem that no second outcome could meet its contract (proofs/Unique.antt).
+//
+// The lent tables of a task: `c` counts its variables, operators and maps; `facts` has at least 1,624 bytes, `costs` 64 words and `shares` 512 words,
+// laid out as crates/tables/specs/Layout.antt says. A lent state has a byte for each variable. A list of operators holds their numbers.
+// A refusal is one of the paper's list: `refusals::number` and `refusals::place` tell its number and its place.
+ghost use mathlib.Core.Path.{_≡_};
+ghost use Rattle.tables.specs.Task.{tables};
+ghost use Rattle.tables.specs.Scan.{tablesFault};
+ghost use Rattle.text.specs.Fields.{leaves};
+ghost use Rattle.text.specs.Grammar.{readText};
+ghost use Rattle.views.specs.Entries.{DistancesGiven, DistanceGiven, BoundGiven};
+ghost use Rattle.sequences.specs.Judging.{judgedOf};
+ghost use Rattle.sequences.specs.Choosing.{cheaperOf};
+ghost use Rattle.sequences.specs.Opening.{OpeningOf};
+ghost use Rattle.ledger.specs.Ledger.{begun, offered};
+use ledger::Offered;
+use ledger::Run;
+use meaning::OpNo;
+use sequences::choosing::Cheaper;
+use sequences::judging::Judged;
+use tables::Counts;
+use tables::scan::Found;
+use text::Reading;
+use views::BoundAnswer;
+use views::DistanceAnswer;
+use views::DistancesAnswer;
+
+// READS a task text into the lent tables: the task's counts, or why not.
+// Accepted: the tables hold the task's numbers, and 0 in every place beyond. Refused: every lent place is as it was.
+// `read-unique`.
+pub fn read(task: &[u8], facts: &mut [u8], costs: &mut [u32], shares: &mut [u32]) -> Reading
+    ensures { λ r. ⌜ leaves r (now (facts .exit)) (now (costs .exit)) (now (shares .exit)) ≡ readText (now (task .entry)) (now (facts .entry)) (now (costs .entry)) (now (shares .entry)) ⌝ }
+{
+    text::read(task, facts, costs, shares)
+}
+
+// CHECKS handed-in tables by the text's rules: clean, or the first fault with the line that the same task's text would have.
+// `check-unique`.
+pub fn check(c: Counts, facts: &[u8], costs: &[u32], shares: &[u32]) -> Found
+    ensures { λ r. ⌜ r ≡ tablesFault (tables c (now (facts .entry)) (now (costs .entry)) (now (shares .entry))) ⌝ }
+{
+    tables::scan::tables_fault(c, facts, costs, shares)
+}
+
+// The DISTANCES of a map at all its abstract states, into a lent table of at least 4,096 places (4,294,967,295 for none), with the count of rounds.
+// `distances-unique`.
+pub fn distances(
+    c: Counts,
+    facts: &[u8],
+    costs: &[u32],
+    shares: &[u32],
+    map: u32,
+    out: &mut [u32],
+) -> DistancesAnswer
+    ensures { λ r. ⌜ DistancesGiven (tables c (now (facts .entry)) (now (costs .entry)) (now (shares .entry))) map (now (out .entry)) r (now (out .exit)) ⌝ }
+{
+    views::distances(c, facts, costs, shares, map, out)
+}
+
+// The DISTANCE of a state's image in one map, or none.
+// `distance-at-unique`.
+pub fn distance_at(
+    c: Counts,
+    facts: &[u8],
+    costs: &[u32],
+    shares: &[u32],
+    map: u32,
+    state: &[u8],
+) -> DistanceAnswer
+    ensures { λ r. ⌜ DistanceGiven (tables c (now (facts .entry)) (now (costs .entry)) (now (shares .entry))) map (now (state .entry)) r ⌝ }
+{
+    views::distance_at(c, facts, costs, shares, map, state)
+}
+
+// The summed BOUND of a state: at most the cost of every sequence from there to the goal, of any length; none only where there is no such sequence.
+// `bound-unique`.
+pub fn bound(c: Counts, facts: &[u8], costs: &[u32], shares: &[u32], state: &[u8]) -> BoundAnswer
+    ensures { λ r. ⌜ BoundGiven (tables c (now (facts .entry)) (now (costs .entry)) (now (shares .entry))) (now (state .entry)) r ⌝ }
+{
+    views::bound(c, facts, costs, shares, state)
+}
+
+// JUDGES a sequence of operators from a state: passed with its cost, or the first refusal.
+// `judge-unique`.
+pub fn judge(
+    c: Counts,
+    facts: &[u8],
+    costs: &[u32],
+    shares: &[u32],
+    state: &[u8],
+    ops: &[u32],
+) -> Judged
+    ensures { λ r. ⌜ r ≡ judgedOf (tables c (now (facts .entry)) (now (costs .entry)) (now (shares .entry))) (now (state .entry)) (now (ops .entry)) ⌝ }
+{
+    sequences::judge(c, facts, costs, shares, state, ops)
+}
+
+// The CHEAPER of two lists of operators, each judged up to the first moment a goal holds: the first, the second or neither, with the cost.
+// `cheaper-unique`.
+pub fn cheaper(
+    c: Counts,
+    facts: &[u8],
+    costs: &[u32],
+    shares: &[u32],
+    state: &[u8],
+    a: &[u32],
+    b: &[u32],
+) -> Cheaper
+    ensures { λ r. ⌜ r ≡ cheaperOf (tables c (now (facts .entry)) (now (costs .entry)) (now (shares .entry))) (now (state .entry)) (now (a .entry)) (now (b .entry)) ⌝ }
+{
+    sequences::cheaper(c, facts, costs, shares, state, a, b)
+}
+
+// The OPENING PART of the cheaper list, of the caller's own memory; for neither, or refused input, the empty part at the start of the first list.
+// `opening-unique`.
+pub fn opening<'a>(
+    c: Counts,
+    facts: &[u8],
+    costs: &[u32],
+    shares: &[u32],
+    state: &[u8],
+    a: &'a [u32],
+    b: &'a [u32],
+) -> &'a [u32]
+    ensures { λ r. ⌜ OpeningOf (tables c (now (facts .entry)) (now (costs .entry)) (now (shares .entry))) (now (state .entry)) (a .entry) (b .entry) r ⌝ }
+{
+    sequences::opening(c, facts, costs, shares, state, a, b)
+}
+
+// BEGINS a run from a state: a fresh run, or a run of zeros with the refusal.
+// `begin-unique`.
+pub fn begin(c: Counts, facts: &[u8], costs: &[u32], shares: &[u32], start: &[u8]) -> Offered
+    ensures { λ r. ⌜ r ≡ begun (tables c (now (facts .entry)) (now (costs .entry)) (now (shares .entry))) (now (start .entry)) ⌝ }
+{
+    Run::begin(c, facts, costs, shares, start)
+}
+
+// OFFERS a step to a run: its number and its operator. The run comes back advanced if the step is accepted, and else as it was; a repeat changes nothing.
+// `offer-unique`.
+pub fn offer(
+    run: Run,
+    c: Counts,
+    facts: &[u8],
+    costs: &[u32],
+    shares: &[u32],
+    number: u32,
+    op: OpNo,
+) -> Offered
+    ensures { λ r. ⌜ r ≡ offered (tables c (now (facts .entry)) (now (costs .entry)) (now (shares .entry))) run number (op .0) ⌝ }
+{
+    run.offer(c, facts, costs, shares, number, op)
+}

@@ -1,0 +1,102 @@
+// The desk as a program: a task text on standard input; the bound of the initial state and each map's distance there on standard output, or the refusal.
+use desk::bound;
+use desk::distance_at;
+use desk::read;
+use io::print_decimal;
+use io::read_full;
+use io::write_all;
+use libc::STDOUT_FILENO;
+use refusals::Refusal;
+use refusals::number;
+use refusals::place;
+use tables::Counts;
+use tables::readers::INIT_ROW;
+use tables::readers::row_at;
+use text::Reading;
+use views::BoundAnswer;
+use views::DistanceAnswer;
+
+// A line: a name, '=' and a number.
+fn say(name: &[u8], x: u64) {
+    write_all(STDOUT_FILENO, name);
+    print_decimal(STDOUT_FILENO, x);
+    write_all(STDOUT_FILENO, b"\n");
+}
+
+// A line: a name, '=' and none.
+fn say_none(name: &[u8]) {
+    write_all(STDOUT_FILENO, name);
+    write_all(STDOUT_FILENO, b"none\n");
+}
+
+// A refusal's two lines.
+fn say_refused(r: Refusal) {
+    say(b"refused=", number(r) as u64);
+    say(b"place=", place(r) as u64);
+}
+
+// The line of the bound; whether there is more to say.
+fn say_bound(answer: BoundAnswer) -> bool {
+    match answer {
+        BoundAnswer::Of(b) => {
+            say(b"bound=", b);
+            true
+        }
+        BoundAnswer::Nowhere => {
+            say_none(b"bound=");
+            true
+        }
+        BoundAnswer::Refused(r) => {
+            say_refused(r);
+            false
+        }
+    }
+}
+
+// The line of a map's distance.
+fn say_map(answer: DistanceAnswer) {
+    match answer {
+        DistanceAnswer::Of(d) => say(b"map=", d as u64),
+        DistanceAnswer::Nowhere => say_none(b"map="),
+        DistanceAnswer::Refused(r) => say_refused(r),
+    }
+}
+
+// The task's initial state.
+fn init_of(facts: &[u8]) -> [u8; 8] {
+    let mut init = [0u8; 8];
+    let mut v = 0usize;
+    while v < 8 {
+        init[v] = row_at(facts, INIT_ROW, v as u32);
+        v += 1;
+    }
+    init
+}
+
+// The bound of the initial state, then each map's distance there, in order.
+fn say_task(c: Counts, facts: &[u8], costs: &[u32], shares: &[u32]) {
+    let init = init_of(facts);
+    if !say_bound(bound(c, facts, costs, shares, &init)) {
+        return;
+    }
+    let maps = c.maps;
+    let mut m = 0;
+    while m < maps {
+        say_map(distance_at(c, facts, costs, shares, m, &init));
+        m += 1;
+    }
+}
+
+fn main() {
+    // one byte more than a text may have, so that a longer one is seen to be longer
+    let mut task = [0u8; 16385];
+    let n = read_full(0, &mut task);
+    let mut facts = [0u8; 1624];
+    let mut costs = [0u32; 64];
+    let mut shares = [0u32; 512];
+    let answer = read(&task[..n], &mut facts, &mut costs, &mut shares);
+    match answer {
+        Reading::Accepted(c) => say_task(c, &facts, &costs, &shares),
+        Reading::Refused(r) => say_refused(r),
+    }
+}

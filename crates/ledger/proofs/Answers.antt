@@ -1,0 +1,92 @@
+-- Each case of an answer, and of a test, from the facts that a way through the code has. Assumes nothing.
+use Prim.Native.Nat.{ℕ, _+_, _-_, _≤_, _<_}
+use mathlib.Core.Path.{_≡_, refl}
+use mathlib.Core.List.{List}
+use mathlib.Core.Bool.{Bool, true, false}
+use native.Mathlib.Omega.{arith}
+use lib.Dec.{ltb, eqb}
+use lib.ListN.{getD}
+use borrow.Author.Tests.{lt-ltb, le-ltb, le-leb, lt-leb, eq-eqb, ne-eqb}
+use Rattle.refusals.specs.declared.Refusal.the-variants.{NoSuchOperator, MayNotRun, NotTheNext, OtherOperator, RunFull}
+use Rattle.tables.specs.declared.Counts.{Counts}
+use Rattle.tables.specs.Layout.{domAt}
+use Rattle.tables.specs.Steps.{mayRun}
+use Rattle.ledger.specs.declared.Run.{Run}
+use Rattle.ledger.specs.declared.Answer.{Answer}
+use Rattle.ledger.specs.declared.Answer.the-variants.{Accepted, Repeated, Refused}
+use Rattle.sequences.specs.Stepping.{steps}
+use Rattle.ledger.specs.Ledger.{canRun, startAt, oldStep, nextStep, judged}
+
+-- ---- a value of a start
+
+module _ (c : Counts) (facts : List ℕ) (v x : ℕ) where
+  pub start-within : (d : ℕ) → v < c .vars → d ≡ domAt facts v → ltb x d ≡ startAt c facts v x
+  unfolding startAt
+  start-within d h e = rw (lt-ltb v (c .vars) h, e) refl
+
+  pub start-beyond : c .vars ≤ v → eqb x 0 ≡ startAt c facts v x
+  unfolding startAt
+  start-beyond h = rw (le-ltb v (c .vars) h) refl
+
+-- ---- the operator exists and may run
+
+module _ (c : Counts) (facts : List ℕ) (r : Run) (o : ℕ) where
+  pub can-no : c .ops ≤ o → false ≡ canRun c facts r o
+  unfolding canRun
+  can-no h = rw (le-ltb o (c .ops) h) refl
+
+  pub can-may : (x : Bool) → o < c .ops → x ≡ mayRun c facts (r .now) o → x ≡ canRun c facts r o
+  unfolding canRun
+  can-may x h e = rw (lt-ltb o (c .ops) h) e
+
+-- ---- an old number, the next number
+
+module _ (r : Run) (number o : ℕ) where
+  pub old-same : getD (r .log) (number - 1) 0 ≡ o → Repeated ≡ oldStep r number o
+  unfolding oldStep
+  old-same e = rw (eq-eqb (getD (r .log) (number - 1) 0) o e) refl
+
+  pub old-other : (getD (r .log) (number - 1) 0 ≡ o → ⊥) → Refused (OtherOperator number) ≡ oldStep r number o
+  unfolding oldStep
+  old-other e = rw (ne-eqb (getD (r .log) (number - 1) 0) o e) refl
+
+module _ (c : Counts) (facts : List ℕ) (r : Run) (number o : ℕ) where
+  pub next-full : steps ≤ r .len → Refused (RunFull number) ≡ nextStep c facts r number o
+  unfolding nextStep
+  next-full h = rw (le-leb steps (r .len) h) refl
+
+  pub next-go : r .len < steps → canRun c facts r o ≡ true → Accepted ≡ nextStep c facts r number o
+  unfolding nextStep
+  next-go h e = rw (lt-leb steps (r .len) h, e) refl
+
+  pub next-not : r .len < steps → canRun c facts r o ≡ false → Refused (MayNotRun number) ≡ nextStep c facts r number o
+  unfolding nextStep
+  next-not h e = rw (lt-leb steps (r .len) h, e) refl
+
+  -- ---- the offer itself
+
+  pub judged-none : c .ops ≤ o → Refused (NoSuchOperator number) ≡ judged c facts r number o
+  unfolding judged
+  judged-none h = rw (le-leb (c .ops) o h) refl
+
+  module _ (exists : o < c .ops) where
+    pub judged-zero : number ≡ 0 → Refused (NotTheNext number) ≡ judged c facts r number o
+    unfolding judged
+    judged-zero e = rw (lt-leb (c .ops) o exists, eq-eqb number 0 e) refl
+
+    module _ (some : number ≡ 0 → ⊥) where
+      pub judged-beyond : r .len + 1 < number → Refused (NotTheNext number) ≡ judged c facts r number o
+      unfolding judged
+      judged-beyond h = rw (lt-leb (c .ops) o exists, ne-eqb number 0 some, lt-ltb (r .len + 1) number h) refl
+
+      pub judged-old : (x : Answer) → number ≤ r .len → x ≡ oldStep r number o → x ≡ judged c facts r number o
+      unfolding judged
+      judged-old x h e =
+          let g : number ≤ r .len + 1 = omega arith in
+          rw (lt-leb (c .ops) o exists, ne-eqb number 0 some, le-ltb (r .len + 1) number g, le-leb number (r .len) h) e
+
+      pub judged-next : (x : Answer) → number ≤ r .len + 1 → r .len < number → x ≡ nextStep c facts r number o
+          → x ≡ judged c facts r number o
+      unfolding judged
+      judged-next x g h e =
+          rw (lt-leb (c .ops) o exists, ne-eqb number 0 some, le-ltb (r .len + 1) number g, lt-leb number (r .len) h) e

@@ -1,0 +1,97 @@
+-- The run of case A and a run that is full, as the bench has them: every row of the table by one computation. Assumes nothing.
+use Prim.Native.Nat.{ℕ, _+_, _*_}
+use mathlib.Core.Path.{_≡_, refl}
+use mathlib.Core.List.{List, [], _∷_, _++_}
+use lib.ListN.{replicate}
+use Rattle.refusals.specs.declared.Refusal.the-variants.{NoSuchOperator, MayNotRun, NotTheNext, OtherOperator, RunFull}
+use Rattle.tables.specs.Layout.{Tables}
+use Rattle.tables.specs.Steps.{rowHolds, mayRun, filled, stepped}
+use Rattle.tables.specs.Scan.{each, factsFault, operatorFault, classesFault, mapFault, sharesFault, splitFault, taskFault, roomy, tablesFault, stateFault}
+use Rattle.ledger.specs.declared.Run.{Run}
+use Rattle.ledger.specs.declared.Answer.{Answer}
+use Rattle.ledger.specs.declared.Answer.the-variants.{Accepted, Repeated, Refused}
+use Rattle.sequences.specs.Stepping.{steps}
+use Rattle.ledger.specs.Ledger.{rest, gain, booked, fresh, advanced, canRun, replayed, given, startAt, startIn, sameTo, sameStates, sameSteps, sameRun, isRun, oldStep, nextStep, judged, answered, offered, startFrom, started, begun}
+
+-- rows of a width, each with what stands at its front and 0 after it
+abbrev row : ℕ → List ℕ → List ℕ
+row k xs = xs ++ replicate k 0
+
+-- the facts of a task of 3 variables and 4 operators: 60 further rows of preconditions and of effects; the classes of 3 maps; spare rows
+abbrev factsA : List ℕ
+factsA =
+    row 5 (2 ∷ 3 ∷ 3 ∷ []) ++ row 5 (0 ∷ 0 ∷ 0 ∷ []) ++ row 5 (2 ∷ 3 ∷ 3 ∷ [])
+    ++ row 5 (1 ∷ 0 ∷ 0 ∷ []) ++ row 5 (0 ∷ 1 ∷ 1 ∷ []) ++ row 5 (0 ∷ 2 ∷ 0 ∷ []) ++ row 485 (0 ∷ 0 ∷ 2 ∷ [])
+    ++ row 5 (2 ∷ 0 ∷ 0 ∷ []) ++ row 5 (0 ∷ 2 ∷ 2 ∷ []) ++ row 5 (0 ∷ 3 ∷ 0 ∷ []) ++ row 485 (0 ∷ 0 ∷ 3 ∷ [])
+    ++ row 62 (0 ∷ 1 ∷ [])
+    ++ row 8 [] ++ row 53 (0 ∷ 1 ∷ 2 ∷ [])
+    ++ row 16 [] ++ row 429 (0 ∷ 1 ∷ 2 ∷ [])
+
+unfoldable pub A : Tables
+A =
+    record {
+      counts = record { vars = 3; ops = 4; maps = 3 };
+      facts = factsA;
+      costs = row 60 (1 ∷ 1 ∷ 1 ∷ 1 ∷ []);
+      shares = row 60 (1 ∷ 0 ∷ 0 ∷ 0 ∷ []) ++ row 60 (0 ∷ 1 ∷ 1 ∷ 0 ∷ []) ++ row 380 (0 ∷ 0 ∷ 0 ∷ 1 ∷ []);
+    }
+
+-- one variable of two values, which stays 0: operator 0 wants 1 there, operator 1 may always run; its cost is 3 and its share 2
+unfoldable pub B : Tables
+B =
+    record {
+      counts = record { vars = 1; ops = 2; maps = 1 };
+      facts = row 7 (2 ∷ []) ++ row 16 [] ++ row 1599 (2 ∷ []);
+      costs = row 62 (1 ∷ 3 ∷ []);
+      shares = row 510 (0 ∷ 2 ∷ []);
+    }
+
+-- a run of B that is full
+unfoldable pub full : Run
+full =
+    record {
+      start = row 8 [];
+      log = replicate steps 1;
+      len = steps;
+      now = row 8 [];
+      columns = row 7 (steps * 2 ∷ []) ++ (steps ∷ []);
+    }
+
+-- an offer, what it is answered, and the columns then
+pub record Row : Type 0 where
+  pub number : ℕ
+  pub op : ℕ
+  pub answer : Answer
+  pub columns : List ℕ
+
+-- the rows as they come out, the offers made one after another
+unfoldable pub outcome : Tables → Run → List Row → List Row
+outcome t r [] = []
+outcome t r (x ∷ xs) =
+    let y = offered t r (x .number) (x .op) in
+    record { number = x .number; op = x .op; answer = y .answer; columns = y .run .columns } ∷ outcome t (y .run) xs
+
+unfoldable pub rowsA : List Row
+rowsA =
+    record { number = 1; op = 0; answer = Accepted; columns = row 8 (1 ∷ []) }
+    ∷ record { number = 1; op = 0; answer = Repeated; columns = row 8 (1 ∷ []) }
+    ∷ record { number = 1; op = 1; answer = Refused (OtherOperator 1); columns = row 8 (1 ∷ []) }
+    ∷ record { number = 3; op = 1; answer = Refused (NotTheNext 3); columns = row 8 (1 ∷ []) }
+    ∷ record { number = 0; op = 1; answer = Refused (NotTheNext 0); columns = row 8 (1 ∷ []) }
+    ∷ record { number = 2; op = 4; answer = Refused (NoSuchOperator 2); columns = row 8 (1 ∷ []) }
+    ∷ record { number = 2; op = 2; answer = Refused (MayNotRun 2); columns = row 8 (1 ∷ []) }
+    ∷ record { number = 2; op = 1; answer = Accepted; columns = row 7 (1 ∷ 1 ∷ []) }
+    ∷ []
+
+unfoldable pub rowsFull : List Row
+rowsFull =
+    record { number = steps + 1; op = 1; answer = Refused (RunFull (steps + 1)); columns = full .columns }
+    ∷ record { number = steps + 1; op = 0; answer = Refused (RunFull (steps + 1)); columns = full .columns }
+    ∷ record { number = steps; op = 1; answer = Repeated; columns = full .columns }
+    ∷ record { number = steps; op = 0; answer = Refused (OtherOperator steps); columns = full .columns }
+    ∷ []
+
+-- THE CASES HOLD: case A from its start, and the full run
+pub cases-hold : (outcome A (begun A (0 ∷ 0 ∷ 0 ∷ []) .run) rowsA ≡ rowsA) × (outcome B full rowsFull ≡ rowsFull)
+unfolding A B full outcome rowsA rowsFull rowHolds mayRun filled stepped each factsFault operatorFault classesFault mapFault sharesFault splitFault taskFault roomy tablesFault stateFault steps rest gain booked fresh advanced canRun replayed given startAt startIn sameTo sameStates sameSteps sameRun isRun oldStep nextStep judged answered offered startFrom started begun
+cases-hold = (refl, refl)

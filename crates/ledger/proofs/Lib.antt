@@ -1,0 +1,11 @@
+pub mod Gains
+pub mod Answers
+pub mod Runs
+pub mod Begun
+pub mod Accepted
+pub mod Entries
+pub mod Sequences
+pub mod Told
+pub mod History
+pub mod Sound
+pub mod Cases

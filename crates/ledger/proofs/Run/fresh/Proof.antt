@@ -1,0 +1,13 @@
+-- `Run::fresh` meets its contract. Assumes nothing.
+use Rattle.sequences.specs.Stepping.{steps}
+use Rattle.ledger.specs.Ledger.{fresh}
+use mathlib.Core.Path.{refl}
+use Rattle.ledger.proofs.Run.fresh.Statement.{statement}
+use Rattle.ledger.proofs.Run.fresh.Tie as tie
+
+returns : tie.Need-returns
+unfolding fresh steps
+returns c = refl
+
+pub fresh-spec : {M : Type 1} → statement M
+fresh-spec = tie.close (tie.spec returns)

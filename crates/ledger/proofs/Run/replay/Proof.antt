@@ -1,0 +1,87 @@
+-- `Run::replay` meets its contract: what is left of the log gives, from the run so far, what the whole log gives from the fresh run. Assumes nothing.
+use Prim.Native.Nat.{_+_, _-_, _≤_, ℕ}
+use Rattle.ledger.proofs.Gains.{fresh-bounded}
+use Rattle.ledger.proofs.Runs.{advanced-len, bounded-step, can-exists, given-end, given-next, given-stop}
+use Rattle.ledger.specs.Inside.{Bounded}
+use Rattle.sequences.specs.Stepping.{steps}
+use Rattle.ledger.specs.Ledger.{fresh, replayed}
+use Rattle.ledger.specs.declared.Run.{Run}
+use Rattle.tables.specs.Task.{tables}
+use borrow.Author.Needs.{needs}
+use borrow.Author.Tests.{not-false, not-true}
+use lib.ListN.{drop, length, take}
+use mathlib.Core.Path.{_∙_, _≡_, ap, refl, sym}
+use native.Mathlib.Omega.{arith}
+use Rattle.ledger.proofs.Run.replay.Statement.{statement}
+use Rattle.ledger.proofs.Run.replay.Tie as tie
+
+abbrev Inv-loop : tie.InvT-loop
+Inv-loop c facts costs shares len log run₀ i₀ run i = (i ≤ len) × (replayed (tables c facts costs shares) run₀ (take len log) ≡ replayed (tables c facts costs shares) run (drop i (take len log))) × Bounded run × (run .len ≡ i)
+
+abbrev μ-loop : tie.MeasureT-loop
+μ-loop c facts costs shares len log run₀ i₀ run i = len - i
+
+-- the log is as long as its type says
+log-long : (c : tie.Start Inv-loop μ-loop) → c .args .len ≤ length (c .args .t6)
+unfolding steps
+log-long c = omega (arith, c .good .1 .1 .1 .1 .1 .0, c .pre .1)
+
+fresh-requires : tie.Need-fresh-requires Inv-loop μ-loop
+fresh-requires c κs = search needs
+
+loop-holds : tie.Need-loop-holds Inv-loop μ-loop
+unfolding fresh
+loop-holds c = (omega arith, refl, rw (c .fresh .ensures) (fresh-bounded _), rw (c .fresh .ensures) refl)
+
+mul-t13 : tie.Need-mul-t13 Inv-loop μ-loop
+unfolding steps
+mul-t13 c = omega (arith, c .before .before .before .before .before .before .pre .1)
+
+array-read-t16 : tie.Need-array-read-t16 Inv-loop μ-loop
+unfolding steps
+array-read-t16 c = omega (arith, c .before .before .before .before .before .before .pre .1)
+
+can-run-requires : tie.Need-can-run-requires Inv-loop μ-loop
+can-run-requires c κs = c .before .before .before .before .before .before .pre .0 .ops
+
+returns : tie.Need-returns Inv-loop μ-loop
+returns c = given-stop _ _ _ _ (log-long (c .before .before .before .before .before .before .before .before)) _ _ _ (c .before .before .before .before .fresh .ensures) (c .before .before .before .loop .inv .1) (omega arith) (sym (c .before .can-run .ensures) ∙ not-true (c .before .can-run .result) (c .if1 .taken))
+
+advance-requires : tie.Need-advance-requires Inv-loop μ-loop
+advance-requires c κs = (c .before .before .before .before .before .before .before .before .pre .0, can-exists _ _ _ _ (sym (c .before .can-run .ensures) ∙ not-false (c .before .can-run .result) (c .if1 .left)), omega (arith, c .before .before .before .before .before .before .before .before .pre .1), c .before .before .before .loop .inv .2)
+
+add-i : tie.Need-add-i Inv-loop μ-loop
+add-i c = search needs
+
+loop-less : tie.Need-loop-less Inv-loop μ-loop
+loop-less c = search needs
+
+loop-again : tie.Need-loop-again Inv-loop μ-loop
+loop-again c =
+    let can = sym (c .before .before .can-run .ensures) ∙ not-false (c .before .before .can-run .result) (c .before .if1 .left) in (
+      omega arith,
+      rw (c .advance .ensures) (given-next _ _ _ _ (log-long (c .before .before .before .before .before .before .before .before .before)) _ _ _ (c .before .before .before .before .before .fresh .ensures) (c .before .before .before .before .loop .inv .1) (omega arith) can),
+      rw (c .advance .ensures) (bounded-step _ (c .before .before .before .before .before .before .before .before .before .pre .0) _ _ (can-exists _ _ _ _ can) (c .before .before .before .before .loop .inv .2)),
+      ap (λ (r : Run). r .len) (c .advance .ensures) ∙ advanced-len _ _ _ ∙ ap (λ (x : ℕ). x + 1) (c .before .before .before .before .loop .inv .3),
+    )
+
+returns-2 : tie.Need-returns-2 Inv-loop μ-loop
+returns-2 c = given-end _ _ _ _ (log-long (c .before .before .before .before .before .before)) _ _ (c .before .loop .i) (c .before .before .fresh .ensures) (c .before .loop .inv .1) (omega arith)
+
+pub replay-spec : {M : Type 1} → statement M
+replay-spec =
+    tie.close
+    (tie.spec
+    Inv-loop
+    μ-loop
+    fresh-requires
+    loop-holds
+    mul-t13
+    array-read-t16
+    can-run-requires
+    returns
+    advance-requires
+    add-i
+    loop-less
+    loop-again
+    returns-2)

@@ -1,0 +1,59 @@
+-- `compare::same_bytes` meets its contract: every place passed so far is the same. Assumes nothing.
+use Prim.Native.Nat.{_-_, _≤_}
+use Rattle.ledger.specs.Ledger.{sameAt, sameTo}
+use Rattle.meaning.specs.Views.{every}
+use Rattle.tables.proofs.Laws.{every-end, every-false, every-more}
+use borrow.Author.Needs.{needs}
+use borrow.Author.Tests.{eq-eqb, ne-eqb}
+use mathlib.Core.Bool.{true}
+use mathlib.Core.Path.{_≡_, refl, sym}
+use native.Mathlib.Omega.{arith}
+use Rattle.ledger.proofs.compare.same_bytes.Statement.{statement}
+use Rattle.ledger.proofs.compare.same_bytes.Tie as tie
+
+abbrev Inv-loop : tie.InvT-loop
+Inv-loop a b i₀ i = (i ≤ 8) × (every (sameAt a b) i ≡ true)
+
+abbrev μ-loop : tie.MeasureT-loop
+μ-loop a b i₀ i = 8 - i
+
+loop-holds : tie.Need-loop-holds Inv-loop μ-loop
+loop-holds c = (omega arith, refl)
+
+element-copy-out-if1 : tie.Need-element-copy-out-if1 Inv-loop μ-loop
+element-copy-out-if1 c = search needs
+
+element-copy-out-if1-2 : tie.Need-element-copy-out-if1-2 Inv-loop μ-loop
+element-copy-out-if1-2 c = search needs
+
+returns : tie.Need-returns Inv-loop μ-loop
+unfolding sameTo
+returns c = sym (every-false (sameAt (c .before .before .before .before .before .args .a .now) (c .before .before .before .before .before .args .b .now)) 8 (c .before .before .before .before .loop .i) (omega arith) (ne-eqb _ _ (c .if1 .taken)))
+
+add-i : tie.Need-add-i Inv-loop μ-loop
+add-i c = search needs
+
+loop-less : tie.Need-loop-less Inv-loop μ-loop
+loop-less c = search needs
+
+loop-again : tie.Need-loop-again Inv-loop μ-loop
+loop-again c = (omega arith, every-more (sameAt (c .before .before .before .before .before .args .a .now) (c .before .before .before .before .before .args .b .now)) (c .before .before .before .before .loop .i) (c .before .before .before .before .loop .inv .1) (eq-eqb _ _ (c .if1 .left)))
+
+returns-2 : tie.Need-returns-2 Inv-loop μ-loop
+unfolding sameTo
+returns-2 c = every-end (sameAt (c .before .before .args .a .now) (c .before .before .args .b .now)) 8 (c .before .loop .i) (c .before .loop .inv .1) (omega arith) (omega arith)
+
+pub same-bytes-spec : {M : Type 1} → statement M
+same-bytes-spec =
+    tie.close
+    (tie.spec
+    Inv-loop
+    μ-loop
+    loop-holds
+    element-copy-out-if1
+    element-copy-out-if1-2
+    returns
+    add-i
+    loop-less
+    loop-again
+    returns-2)

@@ -1,0 +1,63 @@
+-- `starts::start_in` meets its contract: every place passed so far is one of a start. Assumes nothing.
+use Prim.Native.Nat.{_-_, _≤_}
+use Rattle.ledger.specs.Ledger.{startIn, startsAt}
+use Rattle.meaning.specs.Views.{every}
+use Rattle.tables.proofs.Laws.{every-end, every-false, every-more}
+use borrow.Author.Needs.{needs}
+use borrow.Author.Tests.{not-false, not-true}
+use mathlib.Core.Bool.{true}
+use mathlib.Core.Path.{_∙_, _≡_, refl, sym}
+use native.Mathlib.Omega.{arith}
+use Rattle.ledger.proofs.starts.start_in.Statement.{statement}
+use Rattle.ledger.proofs.starts.start_in.Tie as tie
+
+abbrev Inv-loop : tie.InvT-loop
+Inv-loop c facts s v₀ v = (v ≤ 8) × (every (startsAt c facts s) v ≡ true)
+
+abbrev μ-loop : tie.MeasureT-loop
+μ-loop c facts s v₀ v = 8 - v
+
+loop-holds : tie.Need-loop-holds Inv-loop μ-loop
+loop-holds c = (omega arith, refl)
+
+cast-start-at : tie.Need-cast-start-at Inv-loop μ-loop
+cast-start-at c = search needs
+
+array-read-start-at : tie.Need-array-read-start-at Inv-loop μ-loop
+array-read-start-at c = search needs
+
+start-at-requires : tie.Need-start-at-requires Inv-loop μ-loop
+start-at-requires c κs = search needs
+
+returns : tie.Need-returns Inv-loop μ-loop
+unfolding startIn
+returns c = sym (every-false (startsAt (c .before .before .before .before .before .args .c) (c .before .before .before .before .before .args .facts .now) (c .before .before .before .before .before .args .t3)) 8 (c .before .before .before .loop .v) (omega arith) (sym (c .before .start-at .ensures) ∙ not-true (c .before .start-at .result) (c .if1 .taken)))
+
+add-v : tie.Need-add-v Inv-loop μ-loop
+add-v c = search needs
+
+loop-less : tie.Need-loop-less Inv-loop μ-loop
+loop-less c = search needs
+
+loop-again : tie.Need-loop-again Inv-loop μ-loop
+loop-again c = (omega arith, every-more (startsAt (c .before .before .before .before .before .args .c) (c .before .before .before .before .before .args .facts .now) (c .before .before .before .before .before .args .t3)) (c .before .before .before .loop .v) (c .before .before .before .loop .inv .1) (sym (c .before .start-at .ensures) ∙ not-false (c .before .start-at .result) (c .if1 .left)))
+
+returns-2 : tie.Need-returns-2 Inv-loop μ-loop
+unfolding startIn
+returns-2 c = every-end (startsAt (c .before .before .before .args .c) (c .before .before .before .args .facts .now) (c .before .before .before .args .t3)) 8 (c .before .loop .v) (c .before .loop .inv .1) (omega arith) (omega arith)
+
+pub start-in-spec : {M : Type 1} → statement M
+start-in-spec =
+    tie.close
+    (tie.spec
+    Inv-loop
+    μ-loop
+    loop-holds
+    cast-start-at
+    array-read-start-at
+    start-at-requires
+    returns
+    add-v
+    loop-less
+    loop-again
+    returns-2)

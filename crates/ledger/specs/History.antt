@@ -1,0 +1,75 @@
+-- What the offers alone say was really run, and what a run must tell of it at every moment.
+use Prim.Native.Nat.{ℕ, _+_, _≤_, _<_}
+use mathlib.Core.Path.{_≡_}
+use mathlib.Core.Bool.{Bool, _&&_, cond}
+use mathlib.Core.List.{List, [], _∷_, _++_}
+use lib.Dec.{ltb, eqb}
+use lib.ListN.{length, getD, take}
+use Rattle.meaning.specs.Sas.{State, Sas, Runs, end, paid}
+use Rattle.meaning.specs.Views.{complies}
+use Rattle.meaning.specs.Split.{Task}
+use Rattle.tables.specs.Layout.{Tables}
+use Rattle.tables.specs.Task.{stateOf}
+use Rattle.ledger.specs.declared.Run.{Run}
+use Rattle.sequences.specs.Stepping.{steps}
+use Rattle.ledger.specs.Ledger.{allColumns, gain, offered, begun}
+
+-- an offer: a step number and an operator
+pub record Offer : Type 0 where
+  pub number : ℕ
+  pub op : ℕ
+
+-- the operator exists and may run where the steps done lead
+unfoldable pub mayFollow : Sas → State → List ℕ → ℕ → Bool
+mayFollow S s done o = ltb o (S .ops) && complies S (S .pre o) (end S done s)
+
+-- an offer is a step really run after the steps done: it has the next number, there is room, and its operator may follow
+unfoldable pub reallyRuns : Sas → State → List ℕ → Offer → Bool
+reallyRuns S s done x =
+    eqb (x .number) (length done + 1) && ltb (length done) steps && mayFollow S s done (x .op)
+
+-- the steps that further offers add to the steps done
+unfoldable pub added : Sas → State → List ℕ → List Offer → List ℕ
+added S s done [] = []
+added S s done (x ∷ xs) =
+    cond (reallyRuns S s done x) (x .op ∷ added S s (done ++ (x .op ∷ [])) xs) (added S s done xs)
+
+-- THE STEPS REALLY RUN, told by the task, the start and the offers alone
+abbrev pub reallyRun : Sas → State → List Offer → List ℕ
+reallyRun S s xs = added S s [] xs
+
+-- the run after offers, each made to the run that the one before handed back
+unfoldable pub ran : Tables → Run → List Offer → Run
+ran t r [] = r
+ran t r (x ∷ xs) = ran t (offered t r (x .number) (x .op) .run) xs
+
+-- the run after a start and offers
+abbrev pub runAfter : Tables → List ℕ → List Offer → Run
+runAfter t s xs = ran t (begun t s .run) xs
+
+-- A RUN TELLS THE STEPS: its log is they, in order and each occurrence once; they may run one after another from the start and lead to the state now;
+-- and each column is what they add to it. Unused places are 0
+pub record Tells (T : Task) (s : State) (done : List ℕ) (r : Run) : Type 0 where
+  pub few : length done ≤ steps
+  pub len : r .len ≡ length done
+  pub log : take (length done) (r .log) ≡ done
+  pub log-unused : (i : ℕ) → length done ≤ i → getD (r .log) i 0 ≡ 0
+  pub legal : Runs (T .sas) done s
+  pub start : (v : ℕ) → v < T .sas .vars → stateOf (r .start) v ≡ s v
+  pub start-unused : (v : ℕ) → T .sas .vars ≤ v → stateOf (r .start) v ≡ 0
+  pub now : (v : ℕ) → v < T .sas .vars → stateOf (r .now) v ≡ end (T .sas) done s v
+  pub now-unused : (v : ℕ) → T .sas .vars ≤ v → stateOf (r .now) v ≡ 0
+  pub column : (c : ℕ) → c < allColumns → getD (r .columns) c 0 ≡ paid (gain T c) done
+
+-- TWO MOMENTS: the steps between run from the earlier state to the later one, and each column grew by what they add to it
+pub record Between (T : Task) (os : List ℕ) (earlier later : Run) : Type 0 where
+  pub legal : Runs (T .sas) os (stateOf (earlier .now))
+  pub now : (v : ℕ) → v < T .sas .vars → stateOf (later .now) v ≡ end (T .sas) os (stateOf (earlier .now)) v
+  pub column : (c : ℕ) → c < allColumns → getD (later .columns) c 0 ≡ getD (earlier .columns) c 0 + paid (gain T c) os
+
+-- a run as its type has it: the lengths of its lists
+pub record Sized (r : Run) : Type 0 where
+  pub start : length (r .start) ≡ 8
+  pub log : length (r .log) ≡ steps
+  pub now : length (r .now) ≡ 8
+  pub columns : length (r .columns) ≡ allColumns

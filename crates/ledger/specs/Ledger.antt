@@ -1,0 +1,154 @@
+-- The run and its ledger: what a step adds to the columns, what a start and a log give, and what an offer is answered and leaves behind.
+use Prim.Native.Nat.{ℕ, _+_, _-_}
+use mathlib.Core.Bool.{Bool, true, false, _&&_, _||_, cond}
+use mathlib.Core.List.{List, [], _∷_}
+use lib.Dec.{ltb, leb, eqb}
+use lib.ListN.{getD, set, take, replicate}
+use Rattle.refusals.specs.declared.Refusal.the-variants.{NoSuchOperator, MayNotRun, NotTheNext, OtherOperator, RunFull, NotARun}
+use Rattle.meaning.specs.Views.{every}
+use Rattle.meaning.specs.Split.{Task, sum}
+use Rattle.tables.specs.declared.Counts.{Counts}
+use Rattle.tables.specs.declared.scan.Found.{Found}
+use Rattle.tables.specs.declared.scan.Found.the-variants.{Clean, Fault}
+use Rattle.tables.specs.Layout.{Tables, domAt}
+use Rattle.tables.specs.Task.{taskOf, stateOf}
+use Rattle.tables.specs.Steps.{mayRun, filled, stepped}
+use Rattle.tables.specs.Scan.{_then_, tablesFault, stateFault}
+use Rattle.sequences.specs.Stepping.{steps}
+use Rattle.ledger.specs.declared.Run.{Run}
+use Rattle.ledger.specs.declared.Tried.{Tried}
+use Rattle.ledger.specs.declared.Answer.{Answer}
+use Rattle.ledger.specs.declared.Answer.the-variants.{Accepted, Repeated, Refused}
+use Rattle.ledger.specs.declared.Offered.{Offered}
+
+-- columns 0 to 7 are what the maps were paid, column 8 is the unshared one
+abbrev pub allColumns : ℕ
+allColumns = 9
+
+abbrev pub unshared : ℕ
+unshared = 8
+
+-- cost less shares
+unfoldable pub rest : Task → ℕ → ℕ
+rest T o = T .sas .cost o - sum (λ m. T .share m o) (T .maps)
+
+-- what operator o adds to a column: to a map's its share, to the unshared one cost less shares, to an unused one nothing
+unfoldable pub gain : Task → ℕ → ℕ → ℕ
+gain T column o = cond (ltb column (T .maps)) (T .share column o) (cond (eqb column unshared) (rest T o) 0)
+
+abbrev pub bookedAt : Task → List ℕ → ℕ → ℕ → ℕ
+bookedAt T columns o column = getD columns column 0 + gain T column o
+
+-- the columns after operator o
+unfoldable pub booked : Task → List ℕ → ℕ → List ℕ
+booked T columns o = filled (bookedAt T columns o) columns allColumns
+
+-- a fresh run: an empty log, columns of 0 and its start as the state now
+unfoldable pub fresh : List ℕ → Run
+fresh s = record { start = s; log = replicate steps 0; len = 0; now = s; columns = replicate allColumns 0 }
+
+-- the run with operator o run once more
+unfoldable pub advanced : Tables → Run → ℕ → Run
+advanced t r o =
+    record {
+      start = r .start;
+      log = set (r .log) (r .len) o;
+      len = r .len + 1;
+      now = stepped (t .counts) (t .facts) (r .now) o;
+      columns = booked (taskOf t) (r .columns) o;
+    }
+
+-- the operator exists and may run now
+unfoldable pub canRun : Counts → List ℕ → Run → ℕ → Bool
+canRun c facts r o = ltb o (c .ops) && mayRun c facts (r .now) o
+
+-- the run with a list of steps run, as far as each can
+unfoldable pub replayed : Tables → Run → List ℕ → Tried
+replayed t r [] = record { ok = true; run = r }
+replayed t r (o ∷ os) =
+    cond (canRun (t .counts) (t .facts) r o) (replayed t (advanced t r o) os) (record { ok = false; run = r })
+
+-- what a run's start and log give
+unfoldable pub given : Tables → Run → Tried
+given t r = replayed t (fresh (r .start)) (take (r .len) (r .log))
+
+-- a start: each value x in its variable v, and 0 beyond the variables
+unfoldable pub startAt : Counts → List ℕ → ℕ → ℕ → Bool
+startAt c facts v x = cond (ltb v (c .vars)) (ltb x (domAt facts v)) (eqb x 0)
+
+abbrev pub startsAt : Counts → List ℕ → List ℕ → ℕ → Bool
+startsAt c facts s v = startAt c facts v (getD s v 0)
+
+unfoldable pub startIn : Counts → List ℕ → List ℕ → Bool
+startIn c facts s = every (startsAt c facts s) 8
+
+-- two lists have the same numbers at the first k places; two runs are the same at every place
+abbrev pub sameAt : List ℕ → List ℕ → ℕ → Bool
+sameAt xs ys i = eqb (getD xs i 0) (getD ys i 0)
+
+unfoldable pub sameTo : ℕ → List ℕ → List ℕ → Bool
+sameTo k xs ys = every (sameAt xs ys) k
+
+unfoldable pub sameStates : Run → Run → Bool
+sameStates r q = sameTo 8 (r .start) (q .start) && sameTo 8 (r .now) (q .now)
+
+unfoldable pub sameSteps : Run → Run → Bool
+sameSteps r q = eqb (r .len) (q .len) && sameTo steps (r .log) (q .log)
+
+unfoldable pub sameRun : Run → Run → Bool
+sameRun r q = sameStates r q && sameSteps r q && sameTo allColumns (r .columns) (q .columns)
+
+-- the run is what its start and log give
+unfoldable pub isRun : Tables → Run → Bool
+isRun t r =
+    leb (r .len) steps && startIn (t .counts) (t .facts) (r .start) && given t r .ok && sameRun r (given t r .run)
+
+-- an old number: repeated with the logged operator, and 14 with another
+unfoldable pub oldStep : Run → ℕ → ℕ → Answer
+oldStep r number o = cond (eqb (getD (r .log) (number - 1) 0) o) Repeated (Refused (OtherOperator number))
+
+-- the next number: 15 if full, 12 if it may not run, else accepted
+unfoldable pub nextStep : Counts → List ℕ → Run → ℕ → ℕ → Answer
+nextStep c facts r number o =
+    cond (leb steps (r .len)) (Refused (RunFull number))
+    (cond (canRun c facts r o) Accepted (Refused (MayNotRun number)))
+
+-- an offer to a run: 10, then 13 at number 0 or beyond the next, then old or next
+unfoldable pub judged : Counts → List ℕ → Run → ℕ → ℕ → Answer
+judged c facts r number o =
+    cond (leb (c .ops) o) (Refused (NoSuchOperator number))
+    (cond (eqb number 0 || ltb (r .len + 1) number) (Refused (NotTheNext number))
+    (cond (leb number (r .len)) (oldStep r number o) (nextStep c facts r number o)))
+
+-- a fault refuses, before all that comes after it
+abbrev pub unlessFault : Found → Answer → Answer
+unlessFault Clean a = a
+unlessFault (Fault f) a = Refused f
+
+-- the answer to an offer: tables, then 17, then the offer itself
+unfoldable pub answered : Tables → Run → ℕ → ℕ → Answer
+answered t r number o =
+    unlessFault (tablesFault t) (cond (isRun t r) (judged (t .counts) (t .facts) r number o) (Refused NotARun))
+
+-- only an accepted offer moves the run
+abbrev pub moved : Tables → Run → ℕ → Answer → Run
+moved t r o Accepted = advanced t r o
+moved t r o Repeated = r
+moved t r o (Refused f) = r
+
+-- AN OFFER: the run after it together with the answer
+unfoldable pub offered : Tables → Run → ℕ → ℕ → Offered
+offered t r number o = record { run = moved t r o (answered t r number o); answer = answered t r number o }
+
+-- the start of a run from a lent state: its values, and 0 beyond the variables
+unfoldable pub startFrom : Counts → List ℕ → List ℕ
+startFrom c s = filled (stateOf s) (replicate 8 0) (c .vars)
+
+-- a refused start hands back a run of zeros
+unfoldable pub started : Found → Run → Offered
+started Clean r = record { run = r; answer = Accepted }
+started (Fault f) r = record { run = fresh (replicate 8 0); answer = Refused f }
+
+-- A START: tables, then the state
+unfoldable pub begun : Tables → List ℕ → Offered
+begun t s = started (tablesFault t then stateFault (t .counts) (t .facts) s) (fresh (startFrom (t .counts) s))

@@ -1,0 +1,34 @@
+// Whether two lists have the same numbers.
+ghost use mathlib.Core.Path.{_≡_};
+ghost use Prim.Native.Nat.{_≤_};
+ghost use lib.ListN.{length};
+ghost use Rattle.ledger.specs.Ledger.{sameTo};
+
+// Two states, at all their places.
+pub fn same_bytes(a: &[u8; 8], b: &[u8; 8]) -> bool
+    ensures { λ r. ⌜ r ≡ sameTo 8 (now (a .entry)) (now (b .entry)) ⌝ }
+{
+    let mut i: usize = 0;
+    while i < 8 {
+        if a[i] != b[i] {
+            return false;
+        }
+        i += 1;
+    }
+    true
+}
+
+// Two lists of words, at their first k places.
+pub fn same_words(a: &[u32], b: &[u32], k: usize) -> bool
+    requires { ⌜ (k ≤ length (now a)) × (k ≤ length (now b)) ⌝ }
+    ensures { λ r. ⌜ r ≡ sameTo k (now (a .entry)) (now (b .entry)) ⌝ }
+{
+    let mut i: usize = 0;
+    while i < k {
+        if a[i] != b[i] {
+            return false;
+        }
+        i += 1;
+    }
+    true
+}

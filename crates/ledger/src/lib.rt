@@ -1,0 +1,308 @@
+// The run and its ledger: a run goes in by value and comes back advanced or unchanged, with the answer beside it.
+ghost use mathlib.Core.Path.{_≡_};
+ghost use Prim.Native.Nat.{_≤_, _<_};
+ghost use lib.ListN.{take};
+ghost use Rattle.meaning.specs.Split.{Valid};
+ghost use Rattle.tables.specs.Task.{taskOf, tables};
+ghost use Rattle.sequences.specs.Stepping.{steps};
+ghost use Rattle.ledger.specs.Ledger.{fresh, advanced, canRun, replayed, sameStates, sameSteps, sameRun, isRun, oldStep, nextStep, judged, answered, offered, begun};
+ghost use Rattle.ledger.specs.Inside.{Bounded};
+
+pub mod columns;
+pub mod compare;
+pub mod starts;
+
+use crate::columns::columns_after;
+use crate::compare::same_bytes;
+use crate::compare::same_words;
+use crate::starts::start_fault;
+use crate::starts::start_from;
+use crate::starts::start_in;
+use meaning::OpNo;
+use refusals::Refusal;
+use sequences::STEPS;
+use tables::Counts;
+use tables::scan::Found;
+use tables::scan::tables_fault;
+use tables::steps::may_run;
+use tables::steps::state_after;
+
+// How many columns a run has: what each of 8 maps was paid, and the unshared one.
+pub const COLUMNS: usize = 9;
+
+// The unshared column.
+pub const UNSHARED: usize = 8;
+
+// A run: its start, the operators of its steps, how many they are, the state now, and the columns. Unused places are 0.
+pub struct Run {
+    pub start: [u8; 8],
+    pub log: [u32; STEPS],
+    pub len: u32,
+    pub now: [u8; 8],
+    pub columns: [u32; COLUMNS],
+}
+
+// What an offer, or a start, is answered.
+pub enum Answer {
+    Accepted,
+    Repeated,
+    Refused(Refusal),
+}
+
+// The run after an offer or a start, with the answer.
+pub struct Offered {
+    pub run: Run,
+    pub answer: Answer,
+}
+
+// A run as far as its log could be run, and whether that is the whole log.
+pub struct Tried {
+    pub ok: bool,
+    pub run: Run,
+}
+
+impl Run {
+    // An empty log, columns of 0 and the start as the state now.
+    fn fresh(start: [u8; 8]) -> Run
+        ensures { λ r. ⌜ r ≡ fresh start ⌝ }
+    {
+        Run {
+            start,
+            log: [0u32; STEPS],
+            len: 0,
+            now: start,
+            columns: [0u32; COLUMNS],
+        }
+    }
+
+    // The run with the operator run once more.
+    fn advance(mut self, c: Counts, facts: &[u8], costs: &[u32], shares: &[u32], op: OpNo) -> Run
+        requires { ⌜ Valid (taskOf (tables c (now facts) (now costs) (now shares))) × (op .0 < c .ops) × (self .len < steps) × Bounded self ⌝ }
+        ensures { λ r. ⌜ r ≡ advanced (tables c (now (facts .entry)) (now (costs .entry)) (now (shares .entry))) self (op .0) ⌝ }
+    {
+        let at = self.len as usize;
+        let state = self.now;
+        let columns = self.columns;
+        self.log[at] = op.0;
+        self.len = self.len + 1;
+        self.now = state_after(c, facts, state, op);
+        self.columns = columns_after(c, facts, costs, shares, columns, op);
+        self
+    }
+
+    // The operator exists and may run now.
+    fn can_run(self, c: Counts, facts: &[u8], op: OpNo) -> bool
+        requires { ⌜ c .ops ≤ 64 ⌝ }
+        ensures { λ r. ⌜ r ≡ canRun c (now (facts .entry)) self (op .0) ⌝ }
+    {
+        if c.ops <= op.0 {
+            return false;
+        }
+        may_run(c, facts, &self.now, op)
+    }
+
+    // The two runs have the same start and the same state now.
+    fn same_states(self, q: Run) -> bool
+        ensures { λ r. ⌜ r ≡ sameStates self q ⌝ }
+    {
+        if !same_bytes(&self.start, &q.start) {
+            return false;
+        }
+        same_bytes(&self.now, &q.now)
+    }
+
+    // The two runs have the same number of steps and the same log, its unused places too.
+    fn same_steps(self, q: Run) -> bool
+        ensures { λ r. ⌜ r ≡ sameSteps self q ⌝ }
+    {
+        if self.len != q.len {
+            return false;
+        }
+        same_words(&self.log, &q.log, STEPS)
+    }
+
+    // The two runs are the same at every place.
+    fn same(self, q: Run) -> bool
+        ensures { λ r. ⌜ r ≡ sameRun self q ⌝ }
+    {
+        if !self.same_states(q) {
+            return false;
+        }
+        if !self.same_steps(q) {
+            return false;
+        }
+        same_words(&self.columns, &q.columns, COLUMNS)
+    }
+
+    // The first steps of a log run again, from a fresh run and as far as each can.
+    fn replay(
+        c: Counts,
+        facts: &[u8],
+        costs: &[u32],
+        shares: &[u32],
+        start: [u8; 8],
+        log: [u32; STEPS],
+        len: usize,
+    ) -> Tried
+        requires { ⌜ Valid (taskOf (tables c (now facts) (now costs) (now shares))) × (len ≤ steps) ⌝ }
+        ensures { λ r. ⌜ r ≡ replayed (tables c (now (facts .entry)) (now (costs .entry)) (now (shares .entry))) (fresh start) (take len log) ⌝ }
+    {
+        let mut run = Run::fresh(start);
+        for i in 0..len {
+            let op = OpNo(log[i]);
+            if !run.can_run(c, facts, op) {
+                return Tried { ok: false, run };
+            }
+            run = run.advance(c, facts, costs, shares, op);
+        }
+        Tried { ok: true, run }
+    }
+
+    // The run is what its start and log give.
+    fn is_run(self, c: Counts, facts: &[u8], costs: &[u32], shares: &[u32]) -> bool
+        requires { ⌜ Valid (taskOf (tables c (now facts) (now costs) (now shares))) ⌝ }
+        ensures { λ r. ⌜ r ≡ isRun (tables c (now (facts .entry)) (now (costs .entry)) (now (shares .entry))) self ⌝ }
+    {
+        let len = self.len as usize;
+        if STEPS < len {
+            return false;
+        }
+        let start = self.start;
+        if !start_in(c, facts, start) {
+            return false;
+        }
+        let log = self.log;
+        let t = Run::replay(c, facts, costs, shares, start, log, len);
+        if !t.ok {
+            return false;
+        }
+        let q = t.run;
+        self.same(q)
+    }
+
+    // An old number: repeated with the logged operator, refused with another.
+    fn old_step(self, number: u32, op: OpNo) -> Answer
+        requires { ⌜ (1 ≤ number) × (number ≤ self .len) × (self .len ≤ steps) ⌝ }
+        ensures { λ r. ⌜ r ≡ oldStep self number (op .0) ⌝ }
+    {
+        let at = (number - 1) as usize;
+        if self.log[at] == op.0 {
+            return Answer::Repeated;
+        }
+        Answer::Refused(Refusal::OtherOperator(number))
+    }
+
+    // The next number: refused if the run is full or the operator may not run, else accepted.
+    fn next_step(self, c: Counts, facts: &[u8], number: u32, op: OpNo) -> Answer
+        requires { ⌜ c .ops ≤ 64 ⌝ }
+        ensures { λ r. ⌜ r ≡ nextStep c (now (facts .entry)) self number (op .0) ⌝ }
+    {
+        if STEPS <= self.len as usize {
+            return Answer::Refused(Refusal::RunFull(number));
+        }
+        if self.can_run(c, facts, op) {
+            return Answer::Accepted;
+        }
+        Answer::Refused(Refusal::MayNotRun(number))
+    }
+
+    // What an offer to a run is answered.
+    fn judge(self, c: Counts, facts: &[u8], number: u32, op: OpNo) -> Answer
+        requires { ⌜ (c .ops ≤ 64) × (self .len ≤ steps) ⌝ }
+        ensures { λ r. ⌜ r ≡ judged c (now (facts .entry)) self number (op .0) ⌝ }
+    {
+        if c.ops <= op.0 {
+            return Answer::Refused(Refusal::NoSuchOperator(number));
+        }
+        if number == 0 {
+            return Answer::Refused(Refusal::NotTheNext(number));
+        }
+        if self.len + 1 < number {
+            return Answer::Refused(Refusal::NotTheNext(number));
+        }
+        if number <= self.len {
+            return self.old_step(number, op);
+        }
+        self.next_step(c, facts, number, op)
+    }
+
+    // The answer to an offer: tables, then 17, then the offer itself.
+    fn answer(
+        self,
+        c: Counts,
+        facts: &[u8],
+        costs: &[u32],
+        shares: &[u32],
+        number: u32,
+        op: OpNo,
+    ) -> Answer
+        ensures { λ r. ⌜ r ≡ answered (tables c (now (facts .entry)) (now (costs .entry)) (now (shares .entry))) self number (op .0) ⌝ }
+    {
+        let found = tables_fault(c, facts, costs, shares);
+        match found {
+            Found::Clean => {
+                if !self.is_run(c, facts, costs, shares) {
+                    return Answer::Refused(Refusal::NotARun);
+                }
+                self.judge(c, facts, number, op)
+            }
+            Found::Fault(f) => Answer::Refused(f),
+        }
+    }
+
+    // An offer of a step: the run after it together with the answer. Only an accepted offer moves the run.
+    pub fn offer(
+        mut self,
+        c: Counts,
+        facts: &[u8],
+        costs: &[u32],
+        shares: &[u32],
+        number: u32,
+        op: OpNo,
+    ) -> Offered
+        ensures { λ r. ⌜ r ≡ offered (tables c (now (facts .entry)) (now (costs .entry)) (now (shares .entry))) self number (op .0) ⌝ }
+    {
+        let a = self.answer(c, facts, costs, shares, number, op);
+        match a {
+            Answer::Accepted => {
+                self = self.advance(c, facts, costs, shares, op);
+                Offered {
+                    run: self,
+                    answer: a,
+                }
+            }
+            Answer::Repeated => Offered {
+                run: self,
+                answer: a,
+            },
+            Answer::Refused(_) => Offered {
+                run: self,
+                answer: a,
+            },
+        }
+    }
+
+    // A fresh run from a lent state; or a run of zeros beside the refusal.
+    pub fn begin(c: Counts, facts: &[u8], costs: &[u32], shares: &[u32], start: &[u8]) -> Offered
+        ensures { λ r. ⌜ r ≡ begun (tables c (now (facts .entry)) (now (costs .entry)) (now (shares .entry))) (now (start .entry)) ⌝ }
+    {
+        let found = start_fault(c, facts, costs, shares, start);
+        match found {
+            Found::Clean => {
+                let s = start_from(c, start);
+                let run = Run::fresh(s);
+                Offered {
+                    run,
+                    answer: Answer::Accepted,
+                }
+            }
+            Found::Fault(f) => {
+                let run = Run::fresh([0u8; 8]);
+                Offered {
+                    run,
+                    answer: Answer::Refused(f),
+                }
+            }
+        }
+    }
+}

@@ -1,0 +1,106 @@
+-- Judging says passed exactly for the sequences that pass. Assumes nothing.
+use Prim.Native.Nat.{ℕ, suc, _+_, _≤_}
+use mathlib.Core.Path.{_≡_, refl, ap, _∙_}
+use mathlib.Core.Bool.{Bool, true, false, cond}
+use mathlib.Core.List.{List, [], _∷_}
+use mathlib.Core.Logic.{_↔_}
+use native.Mathlib.Omega.{arith}
+use lib.Dec.{leb}
+use lib.ListN.{length}
+use borrow.Author.Tests.{leb-true, le-leb, lt-ltb}
+use Rattle.refusals.specs.declared.Refusal.{Refusal}
+use Rattle.refusals.specs.declared.Refusal.the-variants.{SequenceTooLong, NoGoal}
+use Rattle.meaning.specs.Sas.{State, Sas, MayRun, after, Passes, paid}
+use Rattle.meaning.specs.Views.{complies}
+use Rattle.meaning.proofs.Facts.{complies-true, true-complies}
+use Rattle.tables.specs.declared.scan.Found.{Found}
+use Rattle.tables.specs.declared.scan.Found.the-variants.{Clean, Fault}
+use Rattle.tables.specs.Layout.{Tables}
+use Rattle.tables.specs.Task.{sasOf, stateOf}
+use Rattle.tables.specs.Scan.{_then_, tablesFault, stateFault}
+use Rattle.sequences.specs.declared.stepping.Stepped.{Stepped}
+use Rattle.sequences.specs.declared.stepping.Stepped.the-variants.{Ran, NoSuch, MayNot}
+use Rattle.sequences.specs.declared.judging.Judged.{Judged}
+use Rattle.sequences.specs.declared.judging.Judged.the-variants.{Passed, Refused}
+use Rattle.sequences.specs.Stepping.{steps, stepOf, inputFault}
+use Rattle.sequences.specs.Judging.{onto, walked, limited, unlessFault, judgedOf}
+use Rattle.sequences.proofs.Laws.{step-taken}
+
+-- ---- a test, a step and a fault that let pass
+
+cond-passed : (b : Bool) (j : Judged) (r : Refusal) (c : ℕ) → cond b j (Refused r) ≡ Passed c → (b ≡ true) × (j ≡ Passed c)
+cond-passed true j r c e = (refl, e)
+cond-passed false j r c e = absurd (let z : _≡_ {A = ℕ} 0 1 = cc in omega arith)
+
+onto-passed : (m : Stepped) (k : ℕ) (f : ℕ → Judged) (c : ℕ) → onto m k f ≡ Passed c → (x : ℕ) × (m ≡ Ran x) × (f x ≡ Passed c)
+onto-passed (Ran x) k f c e = (x, refl, e)
+onto-passed NoSuch k f c e = absurd (let z : _≡_ {A = ℕ} 0 1 = cc in omega arith)
+onto-passed MayNot k f c e = absurd (let z : _≡_ {A = ℕ} 0 1 = cc in omega arith)
+
+fault-passed : (f : Found) (j : Judged) (c : ℕ) → unlessFault f j ≡ Passed c → (f ≡ Clean) × (j ≡ Passed c)
+fault-passed Clean j c e = (refl, e)
+fault-passed (Fault r) j c e = absurd (let z : _≡_ {A = ℕ} 0 1 = cc in omega arith)
+
+both-clean : (f g : Found) → f then g ≡ Clean → (f ≡ Clean) × (g ≡ Clean)
+both-clean Clean g e = (refl, e)
+both-clean (Fault r) g e = absurd (let z : _≡_ {A = ℕ} 0 1 = cc in omega arith)
+
+-- what is handed in has no fault exactly if the tables have none and the state has none
+pub input-clean : (t : Tables) (s : List ℕ) → inputFault t s ≡ Clean → (tablesFault t ≡ Clean) × (stateFault (t .counts) (t .facts) s ≡ Clean)
+unfolding inputFault
+input-clean t s e = both-clean (tablesFault t) (stateFault (t .counts) (t .facts) s) e
+
+pub clean-input : (t : Tables) (s : List ℕ) → tablesFault t ≡ Clean → stateFault (t .counts) (t .facts) s ≡ Clean → inputFault t s ≡ Clean
+unfolding inputFault
+clean-input t s p q = rw (p, q)
+
+module _ (S : Sas) where
+  -- an operator that exists and may run is taken, at its cost
+  pub takes : (s : State) (o : ℕ) → suc o ≤ S .ops → MayRun S o s → stepOf S s o ≡ Ran (S .cost o)
+  unfolding stepOf
+  takes s o l r = rw (lt-ltb o (S .ops) l, true-complies S (S .pre o) s r)
+
+  pub passes-walked : (os : List ℕ) (s : State) (k p : ℕ) → Passes S os s → walked S k p s os ≡ Passed (p + paid (S .cost) os)
+  unfolding walked
+  passes-walked [] s k p h = rw (true-complies S (S .goal) s (h .1)) (ap Passed (omega arith))
+  passes-walked (o ∷ os) s k p h =
+      rw (takes s o (h .0 .0) (h .0 .1))
+      (passes-walked os (after S o s) (suc k) (p + S .cost o) (h .0 .2, h .1) ∙ ap Passed (omega arith))
+
+  pub walked-passes : (os : List ℕ) (s : State) (k p c : ℕ) → walked S k p s os ≡ Passed c → Passes S os s × (c ≡ p + paid (S .cost) os)
+  unfolding walked
+  walked-passes [] s k p c e =
+      let t = cond-passed (complies S (S .goal) s) (Passed p) (NoGoal k) c e in
+      let q : p ≡ c = cc in
+      ((tt, complies-true S (S .goal) s (t .0)), omega arith)
+  walked-passes (o ∷ os) s k p c e =
+      let t = onto-passed (stepOf S s o) (suc k) (λ x. walked S (suc k) (p + x) (after S o s) os) c e in
+      let u = step-taken S s o (t .0) (t .1) in
+      let r = walked-passes os (after S o s) (suc k) (p + t .0) c (t .2) in
+      (((u .exists, u .runs, r .0 .0), r .0 .1), omega (arith, r .1, u .cost))
+
+-- DEMAND 2: a sequence is passed with a cost exactly if tables and state are accepted, it is not too long, every step may run,
+-- the end meets the goal, and the cost is the sum of its operators' costs
+pub record Passing (t : Tables) (s ops : List ℕ) (c : ℕ) : Type 0 where
+  pub tables : tablesFault t ≡ Clean
+  pub state : stateFault (t .counts) (t .facts) s ≡ Clean
+  pub length : length ops ≤ steps
+  pub passes : Passes (sasOf t) ops (stateOf s)
+  pub cost : c ≡ paid (sasOf t .cost) ops
+
+pub passed-exactly : (t : Tables) (s ops : List ℕ) (c : ℕ) → (judgedOf t s ops ≡ Passed c) ↔ Passing t s ops c
+unfolding judgedOf limited
+passed-exactly t s ops c = (says, passes)
+  where
+    says : judgedOf t s ops ≡ Passed c → Passing t s ops c
+    says e =
+        let f = fault-passed (inputFault t s) (limited (sasOf t) (stateOf s) ops) c e in
+        let i = input-clean t s (f .0) in
+        let l = cond-passed (leb (length ops) steps) (walked (sasOf t) 0 0 (stateOf s) ops) SequenceTooLong c (f .1) in
+        let w = walked-passes (sasOf t) ops (stateOf s) 0 0 c (l .1) in
+        record { tables = i .0; state = i .1; length = leb-true (length ops) steps (l .0); passes = w .0; cost = omega (arith, w .1) }
+
+    passes : Passing t s ops c → judgedOf t s ops ≡ Passed c
+    passes h =
+        rw (clean-input t s (h .tables) (h .state), le-leb (length ops) steps (h .length))
+        (passes-walked (sasOf t) ops (stateOf s) 0 0 (h .passes) ∙ ap Passed (omega (arith, h .cost)))

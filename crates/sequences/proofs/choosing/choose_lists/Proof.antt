@@ -1,0 +1,36 @@
+-- `choosing::choose_lists` meets its contract: the copy of the state agrees with the lent one. Assumes nothing.
+use mathlib.Core.Path.{_∙_, ap₂}
+use borrow.Author.Needs.{needs}
+use Rattle.meaning.specs.Sas.{Sas}
+use Rattle.tables.specs.Task.{stateOf}
+use Rattle.sequences.specs.Choosing.{choiceOf}
+use Rattle.sequences.specs.Stepping.{sas}
+use Rattle.sequences.proofs.Laws.{reachedOf-same, same-copied}
+use Rattle.sequences.proofs.choosing.choose_lists.Statement.{statement}
+use Rattle.sequences.proofs.choosing.choose_lists.Tie as tie
+
+copy-requires : tie.Need-copy-requires
+copy-requires c κs = search needs
+
+reach-within-requires : tie.Need-reach-within-requires
+reach-within-requires c κs = search needs
+
+reach-within-requires-2 : tie.Need-reach-within-requires-2
+reach-within-requires-2 c κs = search needs
+
+choose-requires : tie.Need-choose-requires
+choose-requires c κs = search needs
+
+returns : tie.Need-returns
+returns c =
+    let a = c .before .before .before .before .before .before .before .before .before .args in
+    let S : Sas = sas (a .c) (a .facts .now) (a .costs .now) in
+    let h = same-copied S (a .s .now) (c .before .before .before .copy .result) (c .before .before .before .before .before .before .before .before .before .pre) (c .before .before .before .copy .ensures) in
+    c .choose .ensures
+    ∙ ap₂ choiceOf (c .before .before .reach-within .ensures ∙ reachedOf-same S (stateOf (c .before .before .before .copy .result)) (stateOf (a .s .now)) (a .a .now) h)
+    (c .before .reach-within2 .ensures ∙ reachedOf-same S (stateOf (c .before .before .before .copy .result)) (stateOf (a .s .now)) (a .b .now) h)
+
+pub choose-lists-spec : {M : Type 1} → statement M
+choose-lists-spec =
+    tie.close
+    (tie.spec copy-requires reach-within-requires reach-within-requires-2 choose-requires returns)

@@ -1,0 +1,4 @@
+pub mod Stepping
+pub mod Judging
+pub mod Choosing
+pub mod Opening

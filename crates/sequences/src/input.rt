@@ -1,0 +1,19 @@
+// What every entry is handed, tables and a state, is judged afresh before all else.
+ghost use mathlib.Core.Path.{_≡_};
+ghost use Rattle.tables.specs.Task.{tables};
+ghost use Rattle.sequences.specs.Stepping.{inputFault};
+use tables::Counts;
+use tables::scan::Found;
+use tables::scan::state_fault;
+use tables::scan::tables_fault;
+
+// The first fault of the tables, or else of the state.
+pub fn input_fault(c: Counts, facts: &[u8], costs: &[u32], shares: &[u32], s: &[u8]) -> Found
+    ensures { λ r. ⌜ r ≡ inputFault (tables c (now (facts .entry)) (now (costs .entry)) (now (shares .entry))) (now (s .entry)) ⌝ }
+{
+    let f = tables_fault(c, facts, costs, shares);
+    let Found::Clean = f else {
+        return f;
+    };
+    state_fault(c, facts, s)
+}

@@ -1,0 +1,157 @@
+-- The work area against the grammar's tables: a fact, a cost and a share stored in the area are stored in the tables that it stands for. Assumes nothing.
+use Prim.Native.Nat.{ℕ, zero, suc, _+_, _*_, _/_, _%_, _≤_, _<_, min}
+use native.Mathlib.Omega.{arith}
+use mathlib.Core.Path.{_≡_, refl, sym, ap, _∙_}
+use native.Mathlib.Nat.{zero-add}
+use mathlib.Core.List.{List}
+use lib.ListN.{length, getD, set, take, length-set}
+use lib.Seq.{getD-set-same, getD-set-other, take-set-le, take-set-lt, getD-take}
+use Rattle.tables.specs.declared.Counts.{Counts}
+use Rattle.tables.specs.Layout.{factsRoom, sharePlace, costAt, shareAt, domAt}
+use Rattle.text.specs.declared.Ctrl.{Ctrl}
+use Rattle.text.specs.Fields.{shareTotal, overLine}
+use Rattle.text.specs.Grammar.{putFact, putCost, putShare}
+use Rattle.text.specs.Machine.{mk, put, get3, put3, costByte, shareByte, costIn, shareIn, threes, over, dom}
+use Rattle.text.proofs.BridgeReading.{tablesOf}
+
+-- ---- numbers of 3 bytes
+get3-low : (w : List ℕ) (p i v : ℕ) → p < i → get3 (set w p v) i ≡ get3 w i
+unfolding get3
+get3-low w p i v h =
+    rw (getD-set-other w p i v 0 (λ e. omega arith), getD-set-other w p (i + 1) v 0 (λ e. omega arith), getD-set-other w p (i + 2) v 0 (λ e. omega arith))
+
+get3-high : (w : List ℕ) (p i v : ℕ) → i + 2 < p → get3 (set w p v) i ≡ get3 w i
+unfolding get3
+get3-high w p i v h =
+    rw (getD-set-other w p i v 0 (λ e. omega arith), getD-set-other w p (i + 1) v 0 (λ e. omega arith), getD-set-other w p (i + 2) v 0 (λ e. omega arith))
+
+three-bytes : (v : ℕ) → v < 16777216 → v % 256 + 256 * (v / 256 % 256) + 65536 * (v / 65536 % 256) ≡ v
+three-bytes v h = omega arith
+
+get3-put3 : (w : List ℕ) (i v : ℕ) → i + 2 < length w → v < 16777216 → get3 (put3 w i v) i ≡ v
+unfolding get3 put3 put
+get3-put3 w i v h q =
+    let a = v % 256 in
+    let b = v / 256 % 256 in
+    let c = v / 65536 % 256 in
+    let w₁ = set w i a in
+    let w₂ = set w₁ (i + 1) b in
+    let l₁ : length w₁ ≡ length w = length-set w i a in
+    let l₂ : length w₂ ≡ length w₁ = length-set w₁ (i + 1) b in
+    let e₀ : getD (set w₂ (i + 2) c) i 0 ≡ a =
+    getD-set-other w₂ (i + 2) i c 0 (λ e. omega arith) ∙ getD-set-other w₁ (i + 1) i b 0 (λ e. omega arith) ∙ getD-set-same w i a 0 (omega arith) in
+    let e₁ : getD (set w₂ (i + 2) c) (i + 1) 0 ≡ b = getD-set-other w₂ (i + 2) (i + 1) c 0 (λ e. omega arith) ∙ getD-set-same w₁ (i + 1) b 0 (omega arith) in
+    let e₂ : getD (set w₂ (i + 2) c) (i + 2) 0 ≡ c = getD-set-same w₂ (i + 2) c 0 (omega arith) in
+    rw (e₀, e₁, e₂) (three-bytes v q)
+
+threes-low : (n i : ℕ) (w : List ℕ) (p v : ℕ) → p < i → threes n i (set w p v) ≡ threes n i w
+unfolding threes
+threes-low zero i w p v h = refl
+threes-low (suc n) i w p v h = rw (get3-low w p i v h, threes-low n (i + 3) w p v (omega arith))
+
+threes-high : (n i : ℕ) (w : List ℕ) (p v : ℕ) → i + 3 * n ≤ p → threes n i (set w p v) ≡ threes n i w
+unfolding threes
+threes-high zero i w p v h = refl
+threes-high (suc n) i w p v h = rw (get3-high w p i v (omega arith), threes-high n (i + 3) w p v (omega arith))
+
+pub put-getD : (w : List ℕ) (p v i : ℕ) → i < p → getD (put w p v) i 0 ≡ getD w i 0
+unfolding put
+put-getD w p v i h = getD-set-other w p i (v % 256) 0 (λ e. omega arith)
+
+pub put-same : (w : List ℕ) (p v : ℕ) → p < length w → v < 256 → getD (put w p v) p 0 ≡ v
+unfolding put
+put-same w p v h q = getD-set-same w p (v % 256) 0 h ∙ (let e : v % 256 ≡ v = omega arith in e)
+
+pub put-length : (w : List ℕ) (p v : ℕ) → length (put w p v) ≡ length w
+unfolding put
+put-length w p v = length-set w p (v % 256)
+
+-- a number of 3 bytes leaves alone what lies before it and after it
+module _ (w : List ℕ) (p v : ℕ) where
+  put3-get-high : (i : ℕ) → i + 2 < p → get3 (put3 w p v) i ≡ get3 w i
+  unfolding put3 put
+  put3-get-high i h = get3-high _ (p + 2) i _ (omega arith) ∙ get3-high _ (p + 1) i _ (omega arith) ∙ get3-high w p i _ h
+
+  put3-low : (n i : ℕ) → p + 2 < i → threes n i (put3 w p v) ≡ threes n i w
+  unfolding put3 put
+  put3-low n i h = threes-low n i _ (p + 2) _ (omega arith) ∙ threes-low n i _ (p + 1) _ (omega arith) ∙ threes-low n i w p _ (omega arith)
+
+  put3-high : (n i : ℕ) → i + 3 * n ≤ p → threes n i (put3 w p v) ≡ threes n i w
+  unfolding put3 put
+  put3-high n i h = threes-high n i _ (p + 2) _ (omega arith) ∙ threes-high n i _ (p + 1) _ (omega arith) ∙ threes-high n i w p _ h
+
+  put3-take : (n : ℕ) → n ≤ p → take n (put3 w p v) ≡ take n w
+  unfolding put3 put
+  put3-take n h = take-set-le n _ (p + 2) _ (omega arith) ∙ take-set-le n _ (p + 1) _ (omega arith) ∙ take-set-le n w p _ h
+
+  pub put3-length : length (put3 w p v) ≡ length w
+  unfolding put3 put
+  put3-length = simp length-set
+
+  pub put3-getD : (i : ℕ) → i < p → getD (put3 w p v) i 0 ≡ getD w i 0
+  unfolding put3
+  put3-getD i h =
+      put-getD (put (put w p v) (p + 1) (v / 256)) (p + 2) (v / 65536) i (omega arith)
+      ∙ put-getD (put w p v) (p + 1) (v / 256) i (omega arith)
+      ∙ put-getD w p v i h
+
+threes-set : (n i : ℕ) (w : List ℕ) (o v p : ℕ) → p ≡ i + 3 * o → o < n → i + 3 * n ≤ length w → v < 16777216 → threes n i (put3 w p v) ≡ set (threes n i w) o v
+unfolding threes
+threes-set zero i w o v p e h g q = let n : ⊥ = omega arith in absurd n
+threes-set (suc n) i w zero v p e h g q =
+    let z : p ≡ i = omega arith in
+    rw z (rw (get3-put3 w i v (omega arith) q, put3-low w i v n (i + 3) (omega arith)))
+threes-set (suc n) i w (suc o) v p e h g q =
+    rw (put3-get-high w p v i (omega arith), threes-set n (i + 3) w o v p (omega arith) (omega arith) (omega arith) q)
+
+threes-get : (n i : ℕ) (w : List ℕ) (o p : ℕ) → p ≡ i + 3 * o → o < n → getD (threes n i w) o 0 ≡ get3 w p
+unfolding threes
+threes-get zero i w o p e h = let n : ⊥ = omega arith in absurd n
+threes-get (suc n) i w zero p e h = let z : p ≡ i = omega arith in rw z
+threes-get (suc n) i w (suc o) p e h = threes-get n (i + 3) w o p (omega arith) (omega arith)
+
+-- ---- the three laws
+module _ (n : Counts) (w : List ℕ) (long : length w ≡ 3352) where
+  pub fact-kept : (p v : ℕ) → p < factsRoom → v < 256 → tablesOf n (put w p v) ≡ putFact p v (tablesOf n w)
+  unfolding tablesOf put
+  fact-kept p v h q =
+      let e : v % 256 ≡ v = omega arith in
+      rw e (simp (take-set-lt 1624 w p v h, threes-low 64 1624 w p v h, threes-low 512 1816 w p v (omega arith)))
+
+  pub cost-kept : (o v : ℕ) → o < 64 → v < 16777216 → tablesOf n (put3 w (costByte o) v) ≡ putCost o v (tablesOf n w)
+  unfolding tablesOf
+  cost-kept o v h q =
+      simp (put3-take w (costByte o) v 1624 (omega arith), threes-set 64 1624 w o v (costByte o) refl h (omega arith) q, put3-low w (costByte o) v 512 1816 (omega arith))
+
+  pub share-kept : (i v : ℕ) → i < 512 → v < 16777216 → tablesOf n (put3 w (1816 + 3 * i) v) ≡ putShare i v (tablesOf n w)
+  unfolding tablesOf
+  share-kept i v h q =
+      simp (put3-take w (1816 + 3 * i) v 1624 (omega arith), put3-high w (1816 + 3 * i) v 64 1624 (omega arith), threes-set 512 1816 w i v (1816 + 3 * i) refl h (omega arith) q)
+
+-- what stands in the tables
+pub dom-of : (n : Counts) (w : List ℕ) (v : ℕ) → v < 1624 → domAt (tablesOf n w .facts) v ≡ dom w v
+unfolding tablesOf
+dom-of n w v h = ap (λ (i : ℕ). getD (take 1624 w) i 0) (zero-add v) ∙ getD-take 1624 w v 0 h
+
+-- ---- shares above costs, in the area and in its tables
+module _ (cost cost′ : ℕ → ℕ) (share share′ : ℕ → ℕ → ℕ) (most : ℕ) (same : (o : ℕ) → o < most → cost o ≡ cost′ o) where
+  total-same : (m o : ℕ) → ((i : ℕ) → i < m → share i o ≡ share′ i o) → shareTotal share m o ≡ shareTotal share′ m o
+  unfolding shareTotal
+  total-same zero o e = refl
+  total-same (suc m) o e = rw (total-same m o (λ i h. e i (omega arith)), e m (omega arith))
+
+  over-same : (m k o : ℕ) → o + k ≤ most → ((i j : ℕ) → i < m → j < most → share i j ≡ share′ i j) → overLine cost share m k o ≡ overLine cost′ share′ m k o
+  unfolding overLine
+  over-same m zero o h e = refl
+  over-same m (suc k) o h e = rw (total-same m o (λ i g. e i o g (omega arith)), same o (omega arith), over-same m k (o + 1) (omega arith) e)
+
+pub over-of : (c : Ctrl) (w : List ℕ) (n : Counts) → c .ops ≤ 64 → c .maps ≤ 8
+    → over (mk c w) ≡ overLine (costAt (tablesOf n w .costs)) (shareAt (tablesOf n w .shares)) (c .maps) (c .ops) 0
+unfolding over tablesOf
+over-of c w n h g =
+    let e : min (c .maps) 8 ≡ c .maps = omega arith in
+    let q : min (c .ops) 64 ≡ c .ops = omega arith in
+    rw (e, q)
+    (over-same (costIn w) (costAt (threes 64 1624 w)) (shareIn w) (shareAt (threes 512 1816 w)) 64
+    (λ o a. sym (threes-get 64 1624 w o (costByte o) refl a)) (c .maps) (c .ops) 0 (omega arith)
+    (λ i j a b. sym (threes-get 512 1816 w (sharePlace i j) (shareByte i j) refl (omega arith))))

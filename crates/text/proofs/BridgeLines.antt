@@ -1,0 +1,182 @@
+-- The lines of one number and those with a number for each variable, read as the grammar says. Assumes nothing.
+use Prim.Native.Nat.{ℕ, suc, _+_, _-_, _≤_, _<_, zero-le}
+use native.Mathlib.Omega.{arith}
+use mathlib.Core.Path.{_≡_, refl, sym, ap, _∙_}
+use native.Mathlib.Nat.{zero-add}
+use mathlib.Core.List.{List, [], _∷_}
+use mathlib.Core.Bool.{true, false}
+use lib.ListN.{getD}
+use lib.Dec.{eqb}
+use borrow.Author.Tests.{eq-eqb, ne-eqb}
+use Rattle.tables.specs.declared.Counts.{Counts}
+use Rattle.tables.specs.Layout.{Tables, domPlace, initPlace, domAt}
+use Rattle.text.specs.declared.Ctrl.{Ctrl}
+use Rattle.text.specs.Fields.{pick, comma, lineEnd, bytes}
+use Rattle.text.specs.Grammar.{
+  Next,
+  _▸_,
+  nothing,
+  ask,
+  keep,
+  lit,
+  within,
+  number,
+  row,
+  endOfLine,
+  line,
+  withCounts,
+  putFact,
+  editionLine,
+  varsLine,
+  domLine,
+  initLine,
+}
+use Rattle.text.specs.Machine.{
+  up,
+  dom,
+  keyByte,
+  fresh,
+  due,
+  opened,
+  withDigit,
+  leasts,
+  limit,
+  noted,
+  lastVar,
+  stored,
+  listOf,
+  toLine,
+  nextLine,
+  mark,
+  kind,
+  afterVar,
+  after,
+  dashHere,
+}
+use Rattle.text.proofs.BridgeReading.{tablesOf, reading, Bytes, kw, spelled, key-ok}
+use Rattle.text.proofs.BridgeNumbers.{beginsDash, pick-same, within-both, number-ok}
+use Rattle.text.proofs.BridgeArea.{fact-kept, dom-of}
+use Rattle.text.proofs.BridgeRows.{num, then-mark, no-fault, Fits, Known, known-put, known-dom, row-ok}
+
+-- the line end, and then what follows on the next line
+abbrev pub eol : Next → Next
+eol k u m U = lit (lineEnd ∷ []) u m U (λ u₁ m₁ U₁. k u₁ (m₁ + 1) U₁)
+
+-- no dash can stand for a number that is no fact's variable
+pub bare : (c : Ctrl) (t : List ℕ) → eqb (kind (c .field)) 2 ≡ false → beginsDash c t ≡ false
+unfolding dashHere withDigit pick
+bare c [] e = refl
+bare c (b ∷ t) e = rw e (pick-same (eqb b 45) false)
+
+-- ---- a line of one number
+module _ (l f : ℕ) (n : Counts) (w : List ℕ) (h : f ≡ 15 → ⊥) (c : f ≡ 13 → ⊥) (low : getD leasts f 0 ≤ 4294967295) (cap : limit (num l f 0 0 0 0 0 1 n) w ≤ 4294967295)
+    (e : eqb (kind f) 2 ≡ false) (keeps : ℕ → Tables → Tables) (k : Next) (d : ℕ → Ctrl)
+    (same : (z v : ℕ) → stored (withDigit (num l f 0 0 0 0 0 1 n) z v) w ≡ w)
+    (goes : (z v b : ℕ) → after (noted (withDigit (num l f 0 0 0 0 0 1 n) z v)) w b ≡ mark (noted (withDigit (num l f 0 0 0 0 0 1 n) z v)) b lineEnd (d v))
+    (ok : (v : ℕ) → within v (getD leasts f 0) (limit (num l f 0 0 0 0 0 1 n) w) ≡ true → (t : List ℕ) → Bytes t → reading (d v) w t ≡ k t (l + 1) (keeps v (tablesOf n w))) where
+  pub single-ok : (t : List ℕ) → Bytes t
+      → reading (num l f 0 0 0 0 0 1 n) w t ≡ number (getD leasts f 0) (limit (num l f 0 0 0 0 0 1 n) w) (λ v. keep (keeps v)) t l (tablesOf n w) (eol k)
+  unfolding keep withDigit
+  single-ok t a =
+      number-ok (num l f 0 0 0 0 0 1 n) w h low cap (λ v. keep (keeps v)) (tablesOf n w) (eol k)
+      (λ z v u y o b s.
+      then-mark (num l f 0 0 0 0 0 1 n) w z v lineEnd (d v) (keeps v (tablesOf n w)) (λ u₁ m₁ U₁. k u₁ (m₁ + 1) U₁) h y
+      (no-fault (num l f 0 0 0 0 0 1 n) w z v y c s zero-le) (goes z v) (λ u₁ b₁. rw (same z v) (ok v s u₁ b₁)) o b)
+      t a (bare (num l f 0 0 0 0 0 1 n) t e)
+
+-- edition=
+pub edition-ok : (n : Counts) (w : List ℕ) (k : Next) → ((t : List ℕ) → Bytes t → reading (kw 2 1 0 n 0) w t ≡ k t 2 (tablesOf n w))
+    → (t : List ℕ) → Bytes t → reading (kw 1 0 0 n 0) w t ≡ editionLine t 1 (tablesOf n w) k
+unfolding editionLine line endOfLine _▸_ nothing keep opened fresh pick limit stored withDigit noted after kind nextLine listOf toLine spelled keyByte
+edition-ok n w k ok =
+    key-ok 1 0 0 n w (λ z. omega arith) (tablesOf n w) _
+    (single-ok 1 0 n w (λ z. omega arith) (λ z. omega arith) (omega arith) (omega arith) refl (λ v T. T) k (λ v. kw 2 1 0 n 0) (λ z v. refl) (λ z v b. refl) (λ v q. ok))
+    0 (bytes "edition=") refl
+
+-- vars=
+abbrev pub withVars : ℕ → Counts → Counts
+withVars v n = record { vars = v; ops = n .ops; maps = n .maps }
+
+pub vars-ok : (n : Counts) (w : List ℕ) (k : Next)
+    → ((v : ℕ) → 1 ≤ v → v ≤ 8 → (t : List ℕ) → Bytes t → reading (kw 3 2 0 (withVars v n) 0) w t ≡ k t 3 (tablesOf (withVars v n) w))
+    → (t : List ℕ) → Bytes t → reading (kw 2 1 0 n 0) w t ≡ varsLine t 2 (tablesOf n w) k
+unfolding varsLine line endOfLine _▸_ keep opened fresh pick limit stored withDigit noted after kind nextLine listOf toLine spelled keyByte tablesOf
+vars-ok n w k ok =
+    key-ok 2 1 0 n w (λ z. omega arith) (tablesOf n w) _
+    (single-ok 2 1 n w (λ z. omega arith) (λ z. omega arith) (omega arith) (omega arith) refl
+    (λ v T. withCounts v (T .counts .ops) (T .counts .maps) T) k (λ v. kw 3 2 0 (withVars v n) 0) (λ z v. refl) (λ z v b. refl)
+    (λ v q. let g = within-both v 1 9 q in ok v (g .0) (omega arith)))
+    0 (bytes "vars=") refl
+
+-- ---- a line with a number for each variable
+data VarRow : ℕ → Type 0 where
+  domRow : VarRow 2
+  initRow : VarRow 3
+
+module _ (l z v b i : ℕ) (n : Counts) (w : List ℕ) (g : n .vars ≤ 8) where
+  vars-more : {f : ℕ} → VarRow f → i + 1 < n .vars
+      → after (noted (withDigit (num l f i 0 0 0 0 1 n) z v)) w b ≡ mark (noted (withDigit (num l f i 0 0 0 0 1 n) z v)) b comma (num l f (i + 1) 0 0 0 0 1 n)
+  unfolding after kind afterVar lastVar noted withDigit due pick
+  vars-more domRow h = let e : up i ≡ i + 1 = omega arith in rw (e, ne-eqb (i + 1) (n .vars) (λ q. omega arith))
+  vars-more initRow h = let e : up i ≡ i + 1 = omega arith in rw (e, ne-eqb (i + 1) (n .vars) (λ q. omega arith))
+
+  vars-last : {f : ℕ} → VarRow f → i + 1 ≡ n .vars
+      → after (noted (withDigit (num l f i 0 0 0 0 1 n) z v)) w b ≡ mark (noted (withDigit (num l f i 0 0 0 0 1 n) z v)) b lineEnd (kw (up l) (up f) 0 n 0)
+  unfolding after kind afterVar lastVar noted withDigit nextLine listOf toLine fresh pick
+  vars-last domRow h = let e : up i ≡ n .vars = omega arith in rw (eq-eqb (up i) (n .vars) e)
+  vars-last initRow h = let e : up i ≡ n .vars = omega arith in rw (eq-eqb (up i) (n .vars) e)
+
+-- dom=
+pub dom-ok : (n : Counts) → Fits n → (w : List ℕ) → Known 0 w → (k : Next)
+    → ((u : List ℕ) → Known (n .vars) u → (t : List ℕ) → Bytes t → reading (kw 4 3 0 n 0) u t ≡ k t 4 (tablesOf n u))
+    → (t : List ℕ) → Bytes t → reading (kw 3 2 0 n 0) w t ≡ domLine t 3 (tablesOf n w) k
+unfolding domLine line endOfLine _▸_ ask opened fresh pick limit stored withDigit kind spelled keyByte tablesOf
+dom-ok n fits w g k ok =
+    let one : suc (n .vars - 1) ≡ n .vars = let y = fits .low in omega arith in
+    key-ok 3 2 0 n w (λ z. omega arith) (tablesOf n w) _
+    (λ t a.
+    row-ok 3 2 0 n (λ i. i) (λ i. 0) (n .vars) (λ z. omega arith) (λ z. omega arith) (omega arith) (λ i U. 9) (λ i v. putFact (domPlace i) v) Known (eol k)
+    (λ i u. bare (num 3 2 i 0 0 0 0 1 n) u refl)
+    (λ i u y p. (refl, omega arith))
+    (λ i z v u y p q.
+    let s = within-both v 1 9 q in
+    let x = fits .high in
+    (fact-kept n u (p .long) i v (omega arith) (omega arith) ∙ ap (λ (j : ℕ). putFact j v (tablesOf n u)) (sym (zero-add i)), known-dom p v (omega arith) (s .0) (omega arith)))
+    (λ i z v b u y. vars-more 3 z v b i n u (fits .high) domRow y)
+    (λ i z v u t₁ y x o a₁ p e.
+    then-mark (num 3 2 i 0 0 0 0 1 n) u z v lineEnd (kw 4 3 0 n 0) _ (λ u₁ m₁ U₁. k u₁ (m₁ + 1) U₁) (λ q. omega arith) x e
+    (λ b. vars-last 3 z v b i n u (fits .high) domRow y) (ok _ (rw y at p)) o a₁)
+    (n .vars - 1) 0 (omega arith) w g t a
+    ∙ ap (λ (m : ℕ). row 1 (λ i U. 9) (λ i v. putFact (domPlace i) v) m 0 t 3 (tablesOf n w) (eol k)) one)
+    0 (bytes "dom=") refl
+
+-- init=
+pub init-ok : (n : Counts) → Fits n → (w : List ℕ) → Known (n .vars) w → (k : Next)
+    → ((u : List ℕ) → Known (n .vars) u → (t : List ℕ) → Bytes t → reading (kw 5 4 0 n 0) u t ≡ k t 5 (tablesOf n u))
+    → (t : List ℕ) → Bytes t → reading (kw 4 3 0 n 0) w t ≡ initLine t 4 (tablesOf n w) k
+unfolding initLine line endOfLine _▸_ ask opened fresh pick limit stored withDigit kind spelled keyByte tablesOf
+init-ok n fits w g k ok =
+    let one : suc (n .vars - 1) ≡ n .vars = let y = fits .low in omega arith in
+    key-ok 4 3 0 n w (λ z. omega arith) (tablesOf n w) _
+    (λ t a.
+    row-ok 4 3 0 n (λ i. i) (λ i. 0) (n .vars) (λ z. omega arith) (λ z. omega arith) (omega arith) (λ i U. domAt (U .facts) i) (λ i v. putFact (initPlace i) v)
+    (λ i u. Known (n .vars) u) (eol k)
+    (λ i u. bare (num 4 3 i 0 0 0 0 1 n) u refl)
+    (λ i u y p.
+    let x = fits .high in
+    let d : domAt (tablesOf n u .facts) i ≡ dom u i = dom-of n u i (omega arith) in
+    let s = p .doms i y in
+    (sym d, omega arith))
+    (λ i z v u y p q.
+    let x = fits .high in
+    let d : domAt (tablesOf n u .facts) i ≡ dom u i = dom-of n u i (omega arith) in
+    let r = p .doms i y in
+    let s = within-both v 0 (domAt (tablesOf n u .facts) i) q in
+    (fact-kept n u (p .long) (initPlace i) v (omega arith) (omega arith), known-put p (initPlace i) v (omega arith)))
+    (λ i z v b u y. vars-more 4 z v b i n u (fits .high) initRow y)
+    (λ i z v u t₁ y x o a₁ p e.
+    then-mark (num 4 3 i 0 0 0 0 1 n) u z v lineEnd (kw 5 4 0 n 0) _ (λ u₁ m₁ U₁. k u₁ (m₁ + 1) U₁) (λ q. omega arith) x e
+    (λ b. vars-last 4 z v b i n u (fits .high) initRow y) (ok _ p) o a₁)
+    (n .vars - 1) 0 (omega arith) w g t a
+    ∙ ap (λ (m : ℕ). row 0 (λ i U. domAt (U .facts) i) (λ i v. putFact (initPlace i) v) m 0 t 4 (tablesOf n w) (eol k)) one)
+    0 (bytes "init=") refl

@@ -1,0 +1,317 @@
+-- Every number of the text, whatever its field: the machine reads it as the grammar's `number` does. Assumes nothing.
+use Prim.Native.Nat.{ℕ, suc, _+_, _-_, _*_, _≤_, _<_, min}
+use native.Mathlib.Omega.{arith}
+use mathlib.Core.Path.{_≡_, refl, sym, ap, _∙_}
+use mathlib.Core.List.{List, [], _∷_}
+use mathlib.Core.Bool.{Bool, true, false}
+use lib.ListN.{getD, take, drop}
+use lib.Dec.{ltb, leb, eqb}
+use borrow.Author.Tests.{eq-eqb, ne-eqb, eqb-true, eqb-false, le-leb, lt-leb, lt-ltb, le-ltb, leb-true, leb-false, ltb-true, ltb-false}
+use Rattle.refusals.specs.declared.Refusal.the-variants.{OffForm, OutOfRange}
+use Rattle.tables.specs.Layout.{Tables}
+use Rattle.text.specs.declared.Ctrl.{Ctrl}
+use Rattle.text.specs.Fields.{pick, isDigit}
+use Rattle.text.specs.Grammar.{Verdict, refused, Next, Part, _▸_, demand, runLen, value, formed, within, number}
+use Rattle.text.specs.Machine.{
+  mk,
+  stopped,
+  more,
+  withDigit,
+  digit,
+  leasts,
+  limit,
+  inRange,
+  judged,
+  noted,
+  fault,
+  stored,
+  after,
+  closed,
+  dashHere,
+  atNumber,
+  live,
+  step,
+  feed,
+  ended,
+  refusalOf,
+}
+use Rattle.text.proofs.BridgeReading.{told, reading, Bytes, byte, bytes-drop, both-true, stops, stops-2, moves, cut-short}
+
+-- ---- a run's value, capped
+value-min : (t : List ℕ) (v : ℕ) → min (value (min v 4294967295) t) 4294967295 ≡ min (value v t) 4294967295
+unfolding value
+value-min [] v = omega arith
+value-min (b ∷ t) v =
+    sym (value-min t (10 * min v 4294967295 + (b - 48)))
+    ∙ ap (λ (x : ℕ). min (value x t) 4294967295) (omega arith)
+    ∙ value-min t (10 * v + (b - 48))
+
+more-low : (v d : ℕ) → more v d ≤ 4294967295
+unfolding more
+more-low v d = omega arith
+
+more-value : (v d : ℕ) (t : List ℕ) → min (value (more v d) t) 4294967295 ≡ min (value (10 * v + d) t) 4294967295
+unfolding more
+more-value v d t = value-min t (10 * v + d)
+
+more-zero : (d : ℕ) → d ≡ 0 → more 0 d ≡ 0
+unfolding more
+more-zero d e = omega arith
+
+run-two : (r d : ℕ) → (r + d ≡ 0 → ⊥) → _≡_ {A = ℕ} (pick (eqb (r + d) 0) 1 2) 2
+unfolding pick
+run-two r d h = simp (ne-eqb (r + d) 0 h)
+
+run-one : (d : ℕ) → d ≡ 0 → _≡_ {A = ℕ} (pick (eqb (0 + d) 0) 1 2) 1
+unfolding pick
+run-one d h = simp (eq-eqb (0 + d) 0 (omega arith))
+
+-- a capped value is in a range below the cap exactly if the value is
+leb-cap : (v lo : ℕ) → lo ≤ 4294967295 → leb lo (min v 4294967295) ≡ leb lo v
+leb-cap v lo a = go (leb lo v) refl
+  where
+    go : (q : Bool) → leb lo v ≡ q → leb lo (min v 4294967295) ≡ q
+    go true e = le-leb lo (min v 4294967295) (omega (arith, leb-true lo v e))
+    go false e = lt-leb lo (min v 4294967295) (omega (arith, leb-false lo v e))
+
+ltb-cap : (v lim : ℕ) → lim ≤ 4294967295 → ltb (min v 4294967295) lim ≡ ltb v lim
+ltb-cap v lim a = go (ltb v lim) refl
+  where
+    go : (q : Bool) → ltb v lim ≡ q → ltb (min v 4294967295) lim ≡ q
+    go true e = lt-ltb (min v 4294967295) lim (omega (arith, ltb-true v lim e))
+    go false e = le-ltb (min v 4294967295) lim (omega (arith, ltb-false v lim e))
+
+within-cap : (v lo lim : ℕ) → lo ≤ 4294967295 → lim ≤ 4294967295 → within (min v 4294967295) lo lim ≡ within v lo lim
+unfolding within
+within-cap v lo lim a b = rw (leb-cap v lo a, ltb-cap v lim b)
+
+within-low : (v lo lim : ℕ) → lim ≤ 4294967295 → v < lim → min v 4294967295 ≡ v
+within-low v lo lim a h = omega arith
+
+pub within-both : (v lo lim : ℕ) → within v lo lim ≡ true → (lo ≤ v) × (v < lim)
+unfolding within
+within-both v lo lim e =
+    let p = both-true (leb lo v) (ltb v lim) e in
+    (leb-true lo v (p .0), ltb-true v lim (p .1))
+
+-- ---- the digits that a text begins with
+pub data Stop : List ℕ → Type 0 where
+  nil : Stop []
+  other : {b : ℕ} {t : List ℕ} → isDigit b ≡ false → Stop (b ∷ t)
+
+run-hit : (b : ℕ) (t : List ℕ) → isDigit b ≡ true → runLen (b ∷ t) ≡ suc (runLen t)
+unfolding runLen pick
+run-hit b t e = simp e
+
+run-miss : (b : ℕ) (t : List ℕ) → isDigit b ≡ false → runLen (b ∷ t) ≡ 0
+unfolding runLen pick
+run-miss b t e = simp e
+
+stop-run : (t : List ℕ) → Stop (drop (runLen t) t)
+unfolding runLen
+stop-run [] = nil
+stop-run (b ∷ t) = split (isDigit b) refl (stop-run t)
+  where
+    split : (q : Bool) → isDigit b ≡ q → Stop (drop (runLen t) t) → Stop (drop (runLen (b ∷ t)) (b ∷ t))
+    split true q r = rw (run-hit b t q) r
+    split false q r = rw (run-miss b t q) (other q)
+
+stop-none : {t : List ℕ} → Stop t → runLen t ≡ 0
+unfolding runLen
+stop-none nil = refl
+stop-none (other {b = b} {t = t} e) = run-miss b t e
+
+digit-low : (b : ℕ) → isDigit b ≡ true → 48 ≤ b
+unfolding isDigit
+digit-low b e = leb-true 48 b (both-true (leb 48 b) (leb b 57) e .0)
+
+formed-nil : formed [] ≡ false
+unfolding formed runLen pick
+formed-nil = refl
+
+formed-off : (b : ℕ) (t : List ℕ) → isDigit b ≡ false → formed (b ∷ t) ≡ false
+unfolding formed pick
+formed-off b t e = rw (run-miss b t e)
+
+formed-zero : (b : ℕ) (t : List ℕ) → isDigit b ≡ true → b ≡ 48 → runLen t ≡ 0 → formed (b ∷ t) ≡ true
+unfolding formed pick
+formed-zero b t e z n = rw (run-hit b t e, n) (simp (eq-eqb b 48 z))
+
+formed-lead : (b : ℕ) (t : List ℕ) (n : ℕ) → isDigit b ≡ true → b ≡ 48 → runLen t ≡ suc n → formed (b ∷ t) ≡ false
+unfolding formed pick
+formed-lead b t n e z q =
+    rw (run-hit b t e, q) (simp (eq-eqb b 48 z, ne-eqb (suc (suc n)) 0 (λ o. omega arith), ne-eqb (suc (suc n)) 1 (λ o. omega arith)))
+
+formed-other : (b : ℕ) (t : List ℕ) → isDigit b ≡ true → (b ≡ 48 → ⊥) → formed (b ∷ t) ≡ true
+unfolding formed pick
+formed-other b t e z = rw (run-hit b t e) (simp (ne-eqb b 48 z, ne-eqb (suc (runLen t)) 0 (λ o. omega arith)))
+
+-- ---- the grammar's number, by the run's length
+module _ (lo lim : ℕ) (p : ℕ → Part) (l : ℕ) (T : Tables) (k : Next) where
+  -- a value that was read, judged by its range
+  unfoldable ranged : ℕ → List ℕ → Verdict
+  ranged v u = demand (within v lo lim) OutOfRange u l T (λ u₁ m U. p v u₁ m U k)
+
+  number-off : (t : List ℕ) → formed t ≡ false → number lo lim p t l T k ≡ refused (OffForm l)
+  unfolding number demand _▸_
+  number-off t e = simp e
+
+  number-in : (t : List ℕ) → formed t ≡ true → number lo lim p t l T k ≡ ranged (value 0 (take (runLen t) t)) (drop (runLen t) t)
+  unfolding number demand _▸_ ranged
+  number-in t e = simp e
+
+  number-run : (n : ℕ) (t : List ℕ) → formed t ≡ true → runLen t ≡ n → number lo lim p t l T k ≡ ranged (value 0 (take n t)) (drop n t)
+  number-run n t e r = number-in t e ∙ ap (λ (m : ℕ). ranged (value 0 (take m t)) (drop m t)) r
+
+  -- a lone zero, and any other run
+  number-zero : (b : ℕ) (t : List ℕ) → isDigit b ≡ true → b ≡ 48 → Stop t → number lo lim p (b ∷ t) l T k ≡ ranged 0 t
+  unfolding value
+  number-zero b t q z o =
+      number-run 1 (b ∷ t) (formed-zero b t q z (stop-none o)) (run-hit b t q ∙ ap suc (stop-none o))
+      ∙ ap (λ (v : ℕ). ranged v t) (let e : 10 * 0 + (b - 48) ≡ 0 = omega arith in e)
+
+  number-other : (b : ℕ) (t : List ℕ) → isDigit b ≡ true → (b ≡ 48 → ⊥)
+      → number lo lim p (b ∷ t) l T k ≡ ranged (value (10 * 0 + (b - 48)) (take (runLen t) t)) (drop (runLen t) t)
+  unfolding value
+  number-other b t q z = number-run (suc (runLen t)) (b ∷ t) (formed-other b t q z) (run-hit b t q)
+
+-- ---- the machine at a number; c says which number it is
+abbrev pub beginsDash : Ctrl → List ℕ → Bool
+beginsDash c [] = false
+beginsDash c (b ∷ t) = dashHere (withDigit c 0 0) b
+
+pub pick-same : (q b : Bool) → pick q b b ≡ b
+unfolding pick
+pick-same true b = refl
+pick-same false b = refl
+
+pub run-of : (c : Ctrl) (r v : ℕ) → withDigit c r v .run ≡ r
+unfolding withDigit
+run-of c r v = refl
+
+module _ (c : Ctrl) (w : List ℕ) where
+  digit-step : (r v b : ℕ) → isDigit b ≡ true → (r ≡ 1 → ⊥)
+      → step (mk (withDigit c r v) w) b ≡ mk (withDigit c (pick (eqb (r + (b - 48)) 0) 1 2) (more v (b - 48))) w
+  unfolding step live atNumber digit withDigit pick
+  digit-step r v b e h = simp (e, ne-eqb r 1 h)
+
+  digit-off : (v b : ℕ) → isDigit b ≡ true → step (mk (withDigit c 1 v) w) b ≡ mk (stopped (withDigit c 1 v) 2) w
+  unfolding step live atNumber digit withDigit pick
+  digit-off v b e = simp e
+
+  -- the digits of a run after one that is no leading zero
+  run-on : (t : List ℕ) (v : ℕ) → v ≤ 4294967295
+      → reading (withDigit c 2 v) w t ≡ reading (withDigit c 2 (min (value v (take (runLen t) t)) 4294967295)) w (drop (runLen t) t)
+  unfolding value runLen
+  run-on [] v h = ap (λ (x : ℕ). reading (withDigit c 2 x) w []) (omega arith)
+  run-on (b ∷ t) v h = split (isDigit b) refl (run-on t (more v (b - 48)) (more-low v (b - 48)))
+    where
+      split : (q : Bool) → isDigit b ≡ q
+          → reading (withDigit c 2 (more v (b - 48))) w t ≡ reading (withDigit c 2 (min (value (more v (b - 48)) (take (runLen t) t)) 4294967295)) w (drop (runLen t) t)
+          → reading (withDigit c 2 v) w (b ∷ t) ≡ reading (withDigit c 2 (min (value v (take (runLen (b ∷ t)) (b ∷ t))) 4294967295)) w (drop (runLen (b ∷ t)) (b ∷ t))
+      split true q r = rw (run-hit b t q) (moves _ _ w w b t (digit-step 2 v b q (λ z. omega arith))
+          ∙ ap (λ (x : ℕ). reading (withDigit c x (more v (b - 48))) w t) (run-two 2 (b - 48) (λ z. omega arith))
+          ∙ r
+          ∙ ap (λ (x : ℕ). reading (withDigit c 2 x) w (drop (runLen t) t)) (more-value v (b - 48) (take (runLen t) t)))
+      split false q r = rw (run-miss b t q) (ap (λ (x : ℕ). reading (withDigit c 2 x) w (b ∷ t)) (omega arith))
+
+  -- a byte that is no digit ends a run
+  no-dash : (r v b : ℕ) → (r ≡ 0 → ⊥) → dashHere (withDigit c r v) b ≡ false
+  unfolding dashHere withDigit pick
+  no-dash r v b z = simp (ne-eqb r 0 z, pick-same)
+
+  closes : (r v b : ℕ) → (r ≡ 0 → ⊥) → isDigit b ≡ false → step (mk (withDigit c r v) w) b ≡ closed (withDigit c r v) w b
+  unfolding step live atNumber withDigit pick
+  closes r v b z o = simp (o, no-dash r v b z)
+
+  -- a run with a fault of its own
+  pub faulty : (r v k : ℕ) {t : List ℕ} → (c .field ≡ 15 → ⊥) → (r ≡ 0 → ⊥) → Stop t → fault (withDigit c r v) w ≡ k → (k ≡ 0 → ⊥)
+      → reading (withDigit c r v) w t ≡ refused (refusalOf k (c .line))
+  unfolding reading told feed ended withDigit closed pick
+  faulty r v k h z nil e n = simp (ne-eqb (c .field) 15 h, e, ne-eqb k 0 n)
+  faulty r v k h z (other {b = b} {t = t} o) e n =
+      moves (withDigit c r v) (stopped (withDigit c r v) k) w w b t (closes r v b z o ∙ simp (e, ne-eqb k 0 n)) ∙ stops (withDigit c r v) k w t n
+
+  -- a run without a fault: the text must go on, and the byte is judged by `after`
+  pub sound-end : (r v : ℕ) → (c .field ≡ 15 → ⊥) → fault (withDigit c r v) w ≡ 0 → reading (withDigit c r v) w [] ≡ refused (OffForm (c .line))
+  unfolding reading told feed ended withDigit refusalOf pick
+  sound-end r v h e = simp (ne-eqb (c .field) 15 h, e)
+
+  pub sound-byte : (r v b : ℕ) (t : List ℕ) → (r ≡ 0 → ⊥) → isDigit b ≡ false → fault (withDigit c r v) w ≡ 0
+      → reading (withDigit c r v) w (b ∷ t) ≡ reading (after (noted (withDigit c r v)) w b) (stored (withDigit c r v) w) t
+  unfolding closed pick
+  sound-byte r v b t z o e = moves (withDigit c r v) _ w _ b t (closes r v b z o ∙ simp e)
+
+  -- a run out of its range
+  pub in-range : (r v : ℕ) → inRange (withDigit c r v) w ≡ within v (getD leasts (c .field) 0) (limit c w)
+  unfolding inRange within limit withDigit
+  in-range r v = refl
+
+  fault-3 : (r v : ℕ) → (r ≡ 0 → ⊥) → within v (getD leasts (c .field) 0) (limit c w) ≡ false → fault (withDigit c r v) w ≡ 3
+  unfolding fault judged pick
+  fault-3 r v z e = rw (in-range r v ∙ e) (simp (run-of c r v, ne-eqb r 0 z))
+
+  empty-byte : (b : ℕ) (t : List ℕ) → isDigit b ≡ false → dashHere (withDigit c 0 0) b ≡ false → reading (withDigit c 0 0) w (b ∷ t) ≡ refused (OffForm (c .line))
+  unfolding step live atNumber closed fault withDigit pick
+  empty-byte b t o d = moves (withDigit c 0 0) (stopped (withDigit c 0 0) 2) w w b t (simp (o, d)) ∙ stops-2 (withDigit c 0 0) w t
+
+module _ (c : Ctrl) (w : List ℕ) (h : c .field ≡ 15 → ⊥) (low : getD leasts (c .field) 0 ≤ 4294967295) (cap : limit c w ≤ 4294967295)
+    (p : ℕ → Part) (T : Tables) (k : Next)
+    (ok : (r v : ℕ) (t : List ℕ) → (r ≡ 0 → ⊥) → Stop t → Bytes t → within v (getD leasts (c .field) 0) (limit c w) ≡ true
+    → reading (withDigit c r v) w t ≡ p v t (c .line) T k) where
+  lo : ℕ
+  lo = getD leasts (c .field) 0
+
+  -- where a run has ended
+  closing : (r v : ℕ) (t : List ℕ) → (r ≡ 0 → ⊥) → Stop t → Bytes t → reading (withDigit c r (min v 4294967295)) w t ≡ ranged lo (limit c w) p (c .line) T k v t
+  unfolding ranged demand lo refusalOf pick
+  closing r v t z o a = split (within v lo (limit c w)) refl
+    where
+      same : within (min v 4294967295) lo (limit c w) ≡ within v lo (limit c w)
+      same = within-cap v lo (limit c w) low cap
+
+      split : (q : Bool) → within v lo (limit c w) ≡ q → reading (withDigit c r (min v 4294967295)) w t ≡ demand (within v lo (limit c w)) OutOfRange t (c .line) T (λ u₁ m U. p v u₁ m U k)
+      split true q = rw q (ap (λ (x : ℕ). reading (withDigit c r x) w t) (within-low v lo (limit c w) cap (within-both v lo (limit c w) q .1)) ∙ ok r v t z o a q)
+      split false q = rw q (faulty c w r (min v 4294967295) 3 h z o (fault-3 c w r (min v 4294967295) z (same ∙ q)) (λ y. omega arith))
+
+  -- after a leading zero
+  zero-then : (b : ℕ) (t : List ℕ) → isDigit b ≡ true → b ≡ 48 → Bytes t → reading (withDigit c 1 0) w t ≡ number lo (limit c w) p (b ∷ t) (c .line) T k
+  unfolding withDigit
+  zero-then b [] q z a = closing 1 0 [] (λ o. omega arith) nil a ∙ sym (number-zero lo (limit c w) p (c .line) T k b [] q z nil)
+  zero-then b (x ∷ t) q z a = split (isDigit x) refl
+    where
+      split : (y : Bool) → isDigit x ≡ y → reading (withDigit c 1 0) w (x ∷ t) ≡ number lo (limit c w) p (b ∷ x ∷ t) (c .line) T k
+      split true y =
+          moves _ (stopped (withDigit c 1 0) 2) w w x t (digit-off c w 0 x y) ∙ stops-2 (withDigit c 1 0) w t
+          ∙ sym (number-off lo (limit c w) p (c .line) T k (b ∷ x ∷ t) (formed-lead b (x ∷ t) (runLen t) q z (run-hit x t y)))
+      split false y = closing 1 0 (x ∷ t) (λ o. omega arith) (other y) a ∙ sym (number-zero lo (limit c w) p (c .line) T k b (x ∷ t) q z (other y))
+
+  pub number-ok : (t : List ℕ) → Bytes t → beginsDash c t ≡ false → reading (withDigit c 0 0) w t ≡ number (getD leasts (c .field) 0) (limit c w) p t (c .line) T k
+  unfolding lo withDigit
+  number-ok [] a d = cut-short (withDigit c 0 0) w refl h refl ∙ sym (number-off lo (limit c w) p (c .line) T k [] formed-nil)
+  number-ok (b ∷ t) (byte y a) d = split (isDigit b) refl
+    where
+      state : (q : isDigit b ≡ true) → reading (withDigit c 0 0) w (b ∷ t) ≡ reading (withDigit c (pick (eqb (0 + (b - 48)) 0) 1 2) (more 0 (b - 48))) w t
+      state q = moves _ _ w w b t (digit-step c w 0 0 b q (λ z. omega arith))
+
+      lead : (e : Bool) → eqb b 48 ≡ e → isDigit b ≡ true → reading (withDigit c 0 0) w (b ∷ t) ≡ number lo (limit c w) p (b ∷ t) (c .line) T k
+      lead true e q =
+          let z : b ≡ 48 = eqb-true b 48 e in
+          let y : b - 48 ≡ 0 = omega arith in
+          state q
+          ∙ ap (λ (x : ℕ). reading (withDigit c x (more 0 (b - 48))) w t) (run-one (b - 48) y)
+          ∙ ap (λ (x : ℕ). reading (withDigit c 1 x) w t) (more-zero (b - 48) y)
+          ∙ zero-then b t q z a
+      lead false e q =
+          let z : b ≡ 48 → ⊥ = eqb-false b 48 e in
+          let g : 48 ≤ b = digit-low b q in
+          state q
+          ∙ ap (λ (x : ℕ). reading (withDigit c x (more 0 (b - 48))) w t) (run-two 0 (b - 48) (λ o. z (omega arith)))
+          ∙ run-on c w t (more 0 (b - 48)) (more-low 0 (b - 48))
+          ∙ ap (λ (x : ℕ). reading (withDigit c 2 x) w (drop (runLen t) t)) (more-value 0 (b - 48) (take (runLen t) t))
+          ∙ closing 2 (value (10 * 0 + (b - 48)) (take (runLen t) t)) (drop (runLen t) t) (λ o. omega arith) (stop-run t) (bytes-drop (runLen t) a)
+          ∙ sym (number-other lo (limit c w) p (c .line) T k b t q z)
+
+      split : (q : Bool) → isDigit b ≡ q → reading (withDigit c 0 0) w (b ∷ t) ≡ number lo (limit c w) p (b ∷ t) (c .line) T k
+      split true q = lead (eqb b 48) refl q
+      split false q = empty-byte c w b t q d ∙ sym (number-off lo (limit c w) p (c .line) T k (b ∷ t) (formed-off b t q))

@@ -1,0 +1,234 @@
+-- The goal, the operators and lines of the same kind, read as the grammar says. Assumes nothing.
+use Prim.Native.Nat.{ℕ, zero, suc, _+_, _≤_, _<_, zero-le}
+use native.Mathlib.Omega.{arith}
+use mathlib.Core.Path.{_≡_, refl, sym, ap, _∙_}
+use mathlib.Core.List.{List, [], _∷_}
+use mathlib.Core.Bool.{Bool, true, false}
+use lib.Dec.{ltb, eqb}
+use borrow.Author.Tests.{eq-eqb, ne-eqb, lt-ltb, le-ltb}
+use Rattle.tables.specs.declared.Counts.{Counts}
+use Rattle.tables.specs.Layout.{Tables, goalPlace, prePlace, effPlace}
+use Rattle.text.specs.declared.Ctrl.{Ctrl}
+use Rattle.text.specs.Fields.{pick, lineEnd, semicolon, bytes}
+use Rattle.text.specs.Grammar.{
+  Next,
+  Part,
+  _▸_,
+  ask,
+  keep,
+  lit,
+  endOfLine,
+  line,
+  lines,
+  withCounts,
+  factList,
+  goalLine,
+  opsLine,
+  operator,
+  opLines,
+}
+use Rattle.text.specs.Machine.{
+  up,
+  put3,
+  costByte,
+  keyByte,
+  fresh,
+  due,
+  opened,
+  withDigit,
+  limit,
+  noted,
+  stored,
+  listOf,
+  toLine,
+  rowOr,
+  nextLine,
+  listEnd,
+  kind,
+  afterValue,
+  after,
+  dashHere,
+  dashed,
+}
+use Rattle.text.proofs.BridgeReading.{tablesOf, reading, Bytes, kw, spelled, key-ok}
+use Rattle.text.proofs.BridgeNumbers.{within-both}
+use Rattle.text.proofs.BridgeArea.{cost-kept}
+use Rattle.text.proofs.BridgeRows.{num, then-mark, no-fault, Fits, Known, known-put3}
+use Rattle.text.proofs.BridgeLines.{eol, bare, single-ok}
+use Rattle.text.proofs.BridgeFacts.{number-at, FactList, list-ok}
+
+pick-self : (q : Bool) → pick q true false ≡ q
+unfolding pick
+pick-self true = refl
+pick-self false = refl
+
+-- ---- the three lists of facts: the goal's, and an operator's preconditions and effects
+goal-list : (n : Counts) → FactList 5 4 5 0 n goalPlace lineEnd (kw 6 6 0 n 0)
+unfolding limit stored withDigit noted after kind afterValue listEnd listOf nextLine toLine due dashHere dashed fresh pick
+goal-list n =
+    record {
+      var15 = λ z. omega arith;
+      var13 = λ z. omega arith;
+      val15 = λ z. omega arith;
+      val13 = λ z. omega arith;
+      var-least = refl;
+      val-least = refl;
+      var-limit = λ m w. refl;
+      val-limit = λ v w. refl;
+      var-kept = λ m z v w. refl;
+      val-kept = λ v z y w. refl;
+      var-after = λ m z v b w. refl;
+      val-after = λ v z y b w. refl;
+      val-bare = λ v t. bare (num 5 5 v 0 0 0 0 1 n) t refl;
+      var-dash = λ b. pick-self (eqb b 45);
+      dash-ends = λ b. refl;
+      room = λ v q. (omega arith, omega arith);
+    }
+
+pre-list : (l r : ℕ) (n : Counts) → r < 64 → FactList l 8 9 r n (prePlace r) semicolon (num l 10 0 0 0 r 0 1 n)
+unfolding limit stored withDigit noted after kind afterValue listEnd listOf due dashHere dashed fresh pick
+pre-list l r n h =
+    record {
+      var15 = λ z. omega arith;
+      var13 = λ z. omega arith;
+      val15 = λ z. omega arith;
+      val13 = λ z. omega arith;
+      var-least = refl;
+      val-least = refl;
+      var-limit = λ m w. refl;
+      val-limit = λ v w. refl;
+      var-kept = λ m z v w. refl;
+      val-kept = λ v z y w. refl;
+      var-after = λ m z v b w. refl;
+      val-after = λ v z y b w. refl;
+      val-bare = λ v t. bare (num l 9 v 0 0 r 0 1 n) t refl;
+      var-dash = λ b. pick-self (eqb b 45);
+      dash-ends = λ b. refl;
+      room = λ v q. (omega arith, omega arith);
+    }
+
+-- the line after a row's: another of the same field f while rows are left, else field g
+abbrev pub afterRow : ℕ → ℕ → ℕ → ℕ → ℕ → Counts → Ctrl
+afterRow l f g r N n = pick (ltb (up r) N) (kw (up l) f (up r) n 0) (kw (up l) g 0 n 0)
+
+eff-list : (l r : ℕ) (n : Counts) → r < 64 → FactList l 10 11 r n (effPlace r) lineEnd (afterRow l 7 12 r (n .ops) n)
+unfolding limit stored withDigit noted after kind afterValue listEnd listOf nextLine toLine rowOr due dashHere dashed fresh pick
+eff-list l r n h =
+    record {
+      var15 = λ z. omega arith;
+      var13 = λ z. omega arith;
+      val15 = λ z. omega arith;
+      val13 = λ z. omega arith;
+      var-least = refl;
+      val-least = refl;
+      var-limit = λ m w. refl;
+      val-limit = λ v w. refl;
+      var-kept = λ m z v w. refl;
+      val-kept = λ v z y w. refl;
+      var-after = λ m z v b w. refl;
+      val-after = λ v z y b w. refl;
+      val-bare = λ v t. bare (num l 11 v 0 0 r 0 1 n) t refl;
+      var-dash = λ b. pick-self (eqb b 45);
+      dash-ends = λ b. refl;
+      room = λ v q. (omega arith, omega arith);
+    }
+
+-- goal=
+pub goal-ok : (n : Counts) → Fits n → (w : List ℕ) → Known (n .vars) w → (k : Next)
+    → ((u : List ℕ) → Known (n .vars) u → (t : List ℕ) → Bytes t → reading (kw 6 6 0 n 0) u t ≡ k t 6 (tablesOf n u))
+    → (t : List ℕ) → Bytes t → reading (kw 5 4 0 n 0) w t ≡ goalLine t 5 (tablesOf n w) k
+unfolding goalLine line endOfLine _▸_ opened fresh pick spelled keyByte
+goal-ok n fits w p k ok =
+    key-ok 5 4 0 n w (λ z. omega arith) (tablesOf n w) _
+    (list-ok 5 4 5 0 n goalPlace lineEnd (kw 6 6 0 n 0) (goal-list n) fits (λ u m U. k u (m + 1) U) ok w p)
+    0 (bytes "goal=") refl
+
+-- ops=
+abbrev pub withOps : ℕ → Counts → Counts
+withOps v n = record { vars = n .vars; ops = v; maps = n .maps }
+
+pub ops-ok : (n : Counts) (w : List ℕ) (k : Next)
+    → ((v : ℕ) → v ≤ 64 → (t : List ℕ) → Bytes t → reading (kw 7 (pick (eqb v 0) 12 7) 0 (withOps v n) 0) w t ≡ k t 7 (tablesOf (withOps v n) w))
+    → (t : List ℕ) → Bytes t → reading (kw 6 6 0 n 0) w t ≡ opsLine t 6 (tablesOf n w) k
+unfolding opsLine line endOfLine _▸_ keep opened fresh pick limit stored withDigit noted after kind nextLine listOf toLine spelled keyByte tablesOf
+ops-ok n w k ok =
+    key-ok 6 6 0 n w (λ z. omega arith) (tablesOf n w) _
+    (single-ok 6 6 n w (λ z. omega arith) (λ z. omega arith) (omega arith) (omega arith) refl
+    (λ v T. withCounts (T .counts .vars) v (T .counts .maps) T) k (λ v. kw 7 (pick (eqb v 0) 12 7) 0 (withOps v n) 0) (λ z v. refl) (λ z v b. refl)
+    (λ v q. let g = within-both v 0 65 q in ok v (omega arith)))
+    0 (bytes "ops=") refl
+
+-- op=
+operator-ok : (l r : ℕ) (n : Counts) → Fits n → r < 64 → (w : List ℕ) → Known (n .vars) w → (k : Next)
+    → ((u : List ℕ) → Known (n .vars) u → (t : List ℕ) → Bytes t → reading (afterRow l 7 12 r (n .ops) n) u t ≡ k t (l + 1) (tablesOf n u))
+    → (t : List ℕ) → Bytes t → reading (kw l 7 r n 0) w t ≡ line "op=" (operator r) t l (tablesOf n w) k
+unfolding line operator endOfLine _▸_ keep opened fresh pick limit stored withDigit noted after kind due spelled keyByte
+operator-ok l r n fits h w p k ok =
+    key-ok l 7 r n w (λ z. omega arith) (tablesOf n w) _
+    (λ t a.
+    number-at (num l 7 0 0 0 r 0 1 n) w 0 1000001 refl refl (λ z. omega arith) (omega arith) (omega arith) _ (tablesOf n w) _
+    (λ z v u y o b s q.
+    let x = fits .high in
+    then-mark (num l 7 0 0 0 r 0 1 n) w z v semicolon (num l 8 0 0 0 r 0 1 n) _ _ (λ i. omega arith) y
+    (no-fault (num l 7 0 0 0 r 0 1 n) w z v y (λ i. omega arith) s zero-le)
+    (λ i. refl)
+    (list-ok l 8 9 r n (prePlace r) semicolon (num l 10 0 0 0 r 0 1 n) (pre-list l r n h) fits (λ u₁ m₁ U. factList (effPlace r) u₁ m₁ U (eol k))
+    (list-ok l 10 11 r n (effPlace r) lineEnd (afterRow l 7 12 r (n .ops) n) (eff-list l r n h) fits (λ u₁ m₁ U. k u₁ (m₁ + 1) U) ok)
+    (put3 w (costByte r) v) (known-put3 p (costByte r) v (omega arith)))
+    o b
+    ∙ ap (λ (T : Tables). lit (semicolon ∷ []) u l T (λ u₁ m₁ U. factList (prePlace r) u₁ m₁ U (λ u₂ m₂ U₂. lit (semicolon ∷ []) u₂ m₂ U₂ (λ u₃ m₃ U₃. factList (effPlace r) u₃ m₃ U₃ (eol k)))))
+    (cost-kept n w (p .long) r v h (omega (arith, within-both v 0 1000001 q))))
+    t a (bare (num l 7 0 0 0 r 0 1 n) t refl))
+    0 (bytes "op=") refl
+
+-- ---- lines of one kind: N rows of field f, each read by `one`, up to line E, where field g follows
+module _ (f g N E : ℕ) (n : Counts) (j : ℕ) (p : ℕ → Part) (k : Next) (few : N ≤ 64) (low : E ≤ 999999)
+    (one : (l r : ℕ) → r < N → (w : List ℕ) → Known j w → (k₁ : Next)
+    → ((u : List ℕ) → Known j u → (t : List ℕ) → Bytes t → reading (afterRow l f g r N n) u t ≡ k₁ t (l + 1) (tablesOf n u))
+    → (t : List ℕ) → Bytes t → reading (kw l f r n 0) w t ≡ p r t l (tablesOf n w) k₁)
+    (done : (w : List ℕ) → Known j w → (t : List ℕ) → Bytes t → reading (kw E g 0 n 0) w t ≡ k t E (tablesOf n w)) where
+  after-last : (l r : ℕ) → r + 1 ≡ N → l + 1 ≡ E → afterRow l f g r N n ≡ kw E g 0 n 0
+  unfolding pick
+  after-last l r e q =
+      let y : up l ≡ E = omega arith in
+      rw (y, le-ltb (up r) N (omega arith))
+
+  after-more : (l r : ℕ) → r + 1 < N → l + 1 < E → afterRow l f g r N n ≡ kw (l + 1) f (r + 1) n 0
+  unfolding pick
+  after-more l r e q =
+      let y : up l ≡ l + 1 = omega arith in
+      let x : up r ≡ r + 1 = omega arith in
+      rw (x, y, lt-ltb (r + 1) N e)
+
+  pub lines-ok : (m r l : ℕ) → r + suc m ≡ N → l + suc m ≡ E → (w : List ℕ) → Known j w → (t : List ℕ) → Bytes t
+      → reading (kw l f r n 0) w t ≡ lines p (suc m) r t l (tablesOf n w) k
+  unfolding lines _▸_
+  lines-ok zero r l e q w h t a =
+      let y : l + 1 ≡ E = omega arith in
+      one l r (omega arith) w h k (λ u i t₁ a₁. rw (after-last l r (omega arith) y) (rw y (done u i t₁ a₁))) t a
+  lines-ok (suc m) r l e q w h t a =
+      one l r (omega arith) w h (λ u₁ m₁ U. lines p (suc m) (r + 1) u₁ m₁ U k)
+      (λ u i t₁ a₁. rw (after-more l r (omega arith) (omega arith)) (lines-ok m (r + 1) (l + 1) (omega arith) (omega arith) u i t₁ a₁)) t a
+
+pub op-lines-ok : (n : Counts) → Fits n → (w : List ℕ) → Known (n .vars) w → (k : Next)
+    → ((u : List ℕ) → Known (n .vars) u → (t : List ℕ) → Bytes t → reading (kw (7 + n .ops) 12 0 n 0) u t ≡ k t (7 + n .ops) (tablesOf n u))
+    → (t : List ℕ) → Bytes t → reading (kw 7 (pick (eqb (n .ops) 0) 12 7) 0 n 0) w t ≡ opLines t 7 (tablesOf n w) k
+unfolding opLines ask tablesOf lines pick
+op-lines-ok n fits w p k ok t a = split (n .ops) refl
+  where
+    part : ℕ → Part
+    part r = line "op=" (operator r)
+
+    split : (N : ℕ) → n .ops ≡ N → reading (kw 7 (pick (eqb (n .ops) 0) 12 7) 0 n 0) w t ≡ lines part (n .ops) 0 t 7 (tablesOf n w) k
+    split zero e =
+        let f : _≡_ {A = ℕ} (pick (eqb (n .ops) 0) 12 7) 12 = rw (eq-eqb (n .ops) 0 e) in
+        let y : 7 + n .ops ≡ 7 = omega arith in
+        ap (λ (x : ℕ). reading (kw 7 x 0 n 0) w t) f
+        ∙ (rw y at (ok w p t a))
+        ∙ sym (ap (λ (m : ℕ). lines part m 0 t 7 (tablesOf n w) k) e)
+    split (suc m) e =
+        let f : _≡_ {A = ℕ} (pick (eqb (n .ops) 0) 12 7) 7 = rw (ne-eqb (n .ops) 0 (λ z. omega arith)) in
+        let y = fits .ops in
+        ap (λ (x : ℕ). reading (kw 7 x 0 n 0) w t) f
+        ∙ lines-ok 7 12 (n .ops) (7 + n .ops) n (n .vars) part k y (omega arith) (λ l r h. operator-ok l r n fits (omega arith)) ok m 0 7 (omega arith) (omega arith) w p t a
+        ∙ sym (ap (λ (x : ℕ). lines part x 0 t 7 (tablesOf n w) k) e)

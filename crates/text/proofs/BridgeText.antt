@@ -1,0 +1,120 @@
+-- The machine reads every text as the grammar says: verdict, answer and lent tables. Assumes nothing.
+use Prim.Native.Nat.{ℕ, zero, suc, _+_, _≤_, _<_, zero-le}
+use native.Mathlib.Omega.{arith}
+use mathlib.Core.Path.{_≡_, refl, ap, _∙_}
+use mathlib.Core.List.{List, [], _∷_}
+use mathlib.Core.Bool.{Bool, true, false}
+use lib.ListN.{length, getD, take, replicate, length-replicate}
+use lib.Dec.{eqb}
+use borrow.Author.Tests.{ne-eqb}
+use Rattle.tables.specs.declared.Counts.{Counts}
+use Rattle.tables.specs.Layout.{Tables}
+use Rattle.text.specs.Fields.{pick, Outcome, admitted}
+use Rattle.text.specs.Grammar.{Verdict, _▸_, domLine, initLine, goalLine, opsLine, opLines, mapsLine, mapLines, shareLines, taskLines, settled, theEnd, noTask, verdict, outcome, readText}
+use Rattle.text.specs.Machine.{St, mk, get3, threes, keyByte, stopped, inKey, live, step, feed, start, ended, over, countsOf, written, done, areaRoom, readAll}
+use Rattle.text.proofs.BridgeReading.{tablesOf, told, reading, Bytes, none, byte, stops-2, moves, kw}
+use Rattle.text.proofs.BridgeArea.{over-of}
+use Rattle.text.proofs.BridgeRows.{Fits, Known}
+use Rattle.text.proofs.BridgeLines.{edition-ok, vars-ok, dom-ok, init-ok, withVars}
+use Rattle.text.proofs.BridgeOps.{goal-ok, ops-ok, op-lines-ok, withOps}
+use Rattle.text.proofs.BridgeShares.{maps-ok, map-lines-ok, share-lines-ok, withMaps}
+
+-- ---- after the last line
+stop-end : (l b : ℕ) (n : Counts) (w : List ℕ) → b < 256 → step (mk (kw l 15 0 n 0) w) b ≡ mk (stopped (kw l 15 0 n 0) 2) w
+unfolding step live inKey keyByte pick
+stop-end l b n w h = rw (ne-eqb b 256 (λ q. omega arith))
+
+end-ok : (l : ℕ) (n : Counts) → Fits n → (w t : List ℕ) → Bytes t → reading (kw l 15 0 n 0) w t ≡ theEnd t l (tablesOf n w)
+unfolding reading told feed ended theEnd countsOf tablesOf pick
+end-ok l n fits w [] a = ap (λ (o : ℕ). settled o (tablesOf n w)) (over-of (kw l 15 0 n 0) w n (fits .ops) (fits .maps))
+end-ok l n fits w (b ∷ t) (byte h a) = moves (kw l 15 0 n 0) (stopped (kw l 15 0 n 0) 2) w w b t (stop-end l b n w h) ∙ stops-2 (kw l 15 0 n 0) w t
+
+-- ---- before the first line
+zeros-at : (n i : ℕ) → _≡_ {A = ℕ} (getD (replicate n 0) i 0) 0
+zeros-at zero i = refl
+zeros-at (suc n) zero = refl
+zeros-at (suc n) (suc i) = zeros-at n i
+
+zeros-take : (n m : ℕ) → n ≤ m → _≡_ {A = List ℕ} (take n (replicate m 0)) (replicate n 0)
+zeros-take zero m h = refl
+zeros-take (suc n) zero h = let q : ⊥ = omega arith in absurd q
+zeros-take (suc n) (suc m) h = ap (λ (l : List ℕ). 0 ∷ l) (zeros-take n m (omega arith))
+
+zeros-get3 : (m i : ℕ) → get3 (replicate m 0) i ≡ 0
+unfolding get3
+zeros-get3 m i = rw (zeros-at m i, zeros-at m (i + 1), zeros-at m (i + 2))
+
+zeros-threes : (n i m : ℕ) → threes n i (replicate m 0) ≡ replicate n 0
+unfolding threes
+zeros-threes zero i m = refl
+zeros-threes (suc n) i m = rw (zeros-get3 m i, zeros-threes n (i + 3) m)
+
+noCounts : Counts
+noCounts = record { vars = 0; ops = 0; maps = 0 }
+
+empty-area : (m : ℕ) → 1624 ≤ m → tablesOf noCounts (replicate m 0) ≡ noTask
+unfolding tablesOf noTask noCounts
+empty-area m h = rw (zeros-take 1624 m h, zeros-threes 64 1624 m, zeros-threes 512 1816 m)
+
+-- ---- all lines of a text
+from-maps : (l : ℕ) (n : Counts) → Fits n → l ≤ 80 → (w : List ℕ) → Known (n .vars) w → (t : List ℕ) → Bytes t
+    → reading (kw l 12 0 n 0) w t ≡ (mapsLine ▸ mapLines ▸ shareLines) t l (tablesOf n w) theEnd
+unfolding _▸_
+from-maps l n fits h w g =
+    maps-ok l n w _ (omega arith)
+    (λ v low high.
+    let n₁ = withMaps v n in
+    let f : Fits n₁ = record { low = fits .low; high = fits .high; ops = fits .ops; maps = high } in
+    map-lines-ok (l + 1) n₁ f low (omega arith) w g _
+    (λ u g₁. share-lines-ok (l + 1 + v) n₁ f low (omega arith) u g₁ theEnd (λ u₁ g₂. end-ok (l + 1 + v + v) n₁ f u₁)))
+
+from-dom : (n : Counts) → Fits n → (w : List ℕ) → Known 0 w → (t : List ℕ) → Bytes t
+    → reading (kw 3 2 0 n 0) w t ≡ (domLine ▸ initLine ▸ goalLine ▸ opsLine ▸ opLines ▸ mapsLine ▸ mapLines ▸ shareLines) t 3 (tablesOf n w) theEnd
+unfolding _▸_
+from-dom n fits w g =
+    dom-ok n fits w g _
+    (λ u₁ g₁. init-ok n fits u₁ g₁ _
+    (λ u₂ g₂. goal-ok n fits u₂ g₂ _
+    (λ u₃ g₃. ops-ok n u₃ _
+    (λ v h.
+    let n₁ = withOps v n in
+    let f : Fits n₁ = record { low = fits .low; high = fits .high; ops = h; maps = fits .maps } in
+    op-lines-ok n₁ f u₃ g₃ _ (λ u₄ g₄. from-maps (7 + v) n₁ f (omega arith) u₄ g₄)))))
+
+lines-all : (w : List ℕ) → Known 0 w → (t : List ℕ) → Bytes t → reading (kw 1 0 0 noCounts 0) w t ≡ taskLines t 1 (tablesOf noCounts w) theEnd
+unfolding taskLines _▸_ noCounts
+lines-all w g =
+    edition-ok noCounts w _
+    (vars-ok noCounts w _ (λ v low high. from-dom (withVars v noCounts) (record { low = low; high = high; ops = zero-le; maps = zero-le }) w g))
+
+-- the machine's verdict is the grammar's
+pub verdict-is : (text : List ℕ) → Bytes text → reading start (replicate areaRoom 0) text ≡ verdict text
+unfolding start verdict noCounts
+verdict-is text a =
+    lines-all (replicate areaRoom 0) (record { long = length-replicate {A = ℕ} areaRoom 0; doms = λ v h. let q : ⊥ = omega arith in absurd q }) text a
+    ∙ ap (λ (T : Tables). taskLines text 1 T theEnd) (empty-area areaRoom (omega arith))
+
+-- ---- what is left behind
+done-is : (s : St) (f c h : List ℕ) → done s f c h ≡ outcome (told s) f c h
+unfolding done told outcome settled written tablesOf countsOf pick
+done-is s f c h = split (eqb (ended (s .ctrl) (s .area)) 0) refl (over s) refl
+  where
+    split : (q : Bool) → eqb (ended (s .ctrl) (s .area)) 0 ≡ q → (o : ℕ) → over s ≡ o → done s f c h ≡ outcome (told s) f c h
+    split false q o e = rw q
+    split true q zero e = rw (q, e)
+    split true q (suc o) e = rw (q, e, ne-eqb (suc o) 0 (λ z. omega arith))
+
+pub read-bytes : (text f c s : List ℕ) → Bytes text → readAll text f c s ≡ readText text f c s
+unfolding readAll readText reading
+read-bytes text f c s a =
+    ap (λ (o : Outcome). admitted text f c s o)
+    (done-is (feed (mk start (replicate areaRoom 0)) text) f c s ∙ ap (λ (v : Verdict). outcome v f c s) (verdict-is text a))
+
+-- a text of bytes, place by place
+pub bytes-of : (t : List ℕ) → ((i : ℕ) → i < length t → getD t i 0 < 256) → Bytes t
+bytes-of [] h = none
+bytes-of (b ∷ t) h = byte (h 0 (omega arith)) (bytes-of t (λ i q. h (suc i) (omega arith)))
+
+-- THE THEOREM: on every text of bytes the machine leaves behind what the grammar says
+pub read-is : (text f c s : List ℕ) → ((i : ℕ) → i < length text → getD text i 0 < 256) → readAll text f c s ≡ readText text f c s
+read-is text f c s h = read-bytes text f c s (bytes-of text h)

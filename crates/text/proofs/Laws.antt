@@ -1,0 +1,55 @@
+-- Small laws that the proofs of the reader share. Assumes nothing.
+use Prim.Native.Nat.{ℕ, zero, suc, _<_, _≤_, _+_, _*_, _-_, min}
+use native.Mathlib.Nat.{le-of-suc-le-suc, mul-le-mul-right}
+use native.Mathlib.Omega.{arith}
+use native.Mathlib.Numerals.{add-one}
+use mathlib.Core.Path.{_≡_, refl, sym, ap, _∙_}
+use lib.Dec.{eqb}
+use mathlib.Core.List.{List, [], _∷_, _++_}
+use lib.ListN.{length, getD, drop, take, set}
+use lib.Seq.{drop-cons}
+use borrow.Author.Tests.{le-leb, lt-leb}
+use Rattle.text.specs.Fields.{pick, shareTotal, overLine}
+use Rattle.text.specs.Machine.{St, step, feed}
+
+-- within a list the default is not read
+pub getD-any : (l : List ℕ) (i d e : ℕ) → i < length l → getD l i d ≡ getD l i e
+getD-any [] i d e h = let z : ⊥ = omega arith in absurd z
+getD-any (x ∷ l) zero d e h = refl
+getD-any (x ∷ l) (suc i) d e h = getD-any l i d e (le-of-suc-le-suc h)
+
+-- a product whose first factor is small fits
+pub small-product : (p n : ℕ) → p ≤ 4096 → n < 4294967296 → p * n < 17592186044416
+small-product p n h k = let m = mul-le-mul-right n h in omega arith
+
+-- the loop over a piece takes one byte off what is left
+pub feed-next : (s : St) (t : List ℕ) (i : ℕ) → i < length t → feed (step s (getD t i 0)) (drop (i + 1) t) ≡ feed s (drop i t)
+unfolding feed
+feed-next s t i h = rw (add-one, drop-cons t i 0)
+
+-- a test of a field that is known
+pub at-field : {f g : ℕ} (k : ℕ) → f ≡ g → eqb f k ≡ eqb g k
+at-field k h = ap (λ (x : ℕ). eqb x k) h
+
+-- the total of one map more
+pub total-next : (share : ℕ → ℕ → ℕ) (m o : ℕ) → shareTotal share (m + 1) o ≡ shareTotal share m o + share m o
+unfolding shareTotal
+total-next share m o = rw add-one
+
+-- the walk over the operators: one that keeps to its cost is passed, one that does not is told, and at the end there is none
+module _ (cost : ℕ → ℕ) (share : ℕ → ℕ → ℕ) (maps : ℕ) where
+  one-less : (n o : ℕ) → o < n → n - o ≡ suc (n - (o + 1))
+  one-less n o h = omega arith
+
+  pub over-passed : (n o : ℕ) → o < n → shareTotal share maps o ≤ cost o
+      → overLine cost share maps (n - o) o ≡ overLine cost share maps (n - (o + 1)) (o + 1)
+  unfolding overLine pick
+  over-passed n o h k = rw (one-less n o h, le-leb _ _ k)
+
+  pub over-told : (n o : ℕ) → o < n → cost o < shareTotal share maps o → overLine cost share maps (n - o) o ≡ 7 + o
+  unfolding overLine pick
+  over-told n o h k = rw (one-less n o h, lt-leb _ _ k)
+
+  pub over-none : (n o : ℕ) → n ≤ o → overLine cost share maps (n - o) o ≡ 0
+  unfolding overLine
+  over-none n o h = let e : n - o ≡ 0 = omega arith in rw e

@@ -1,0 +1,28 @@
+-- `text::area::put_byte` meets its contract: past the end nothing is stored. Assumes nothing.
+use Prim.Native.Nat.{_%_}
+use Rattle.text.specs.Machine.{put}
+use borrow.Author.Needs.{needs}
+use lib.Seq.{set-out}
+use mathlib.Core.Path.{refl, sym}
+use Rattle.text.proofs.area.put_byte.Statement.{statement}
+use Rattle.text.proofs.area.put_byte.Tie as tie
+
+cast-w : tie.Need-cast-w
+cast-w c = search needs
+
+slice-write-w : tie.Need-slice-write-w
+slice-write-w c = search needs
+
+same-length : tie.Need-same-length
+same-length c = search needs
+
+returns : tie.Need-returns
+unfolding put
+returns c = refl
+
+returns-2 : tie.Need-returns-2
+unfolding put
+returns-2 c = sym (set-out (c .before .args .w .now) (c .before .args .i) (c .before .args .v % 256) (c .if1 .left))
+
+pub put-byte-spec : {M : Type 1} → statement M
+put-byte-spec = tie.close (tie.spec cast-w slice-write-w same-length returns returns-2)

@@ -1,0 +1,12 @@
+-- `text::control::grow` meets its contract: the control with another run. Assumes nothing.
+use Rattle.text.specs.Machine.{withDigit}
+use mathlib.Core.Path.{refl}
+use Rattle.text.proofs.control.grow.Statement.{statement}
+use Rattle.text.proofs.control.grow.Tie as tie
+
+returns : tie.Need-returns
+unfolding withDigit
+returns c = refl
+
+pub grow-spec : {M : Type 1} → statement M
+grow-spec = tie.close (tie.spec returns)

@@ -1,0 +1,23 @@
+-- `text::fields::before_byte` meets its contract: only after the last class of a list. Assumes nothing.
+use Rattle.text.specs.Fields.{pick}
+use Rattle.text.specs.Machine.{before}
+use borrow.Author.Needs.{needs}
+use Rattle.text.proofs.fields.before_byte.Statement.{statement}
+use Rattle.text.proofs.fields.before_byte.Tie as tie
+
+last-class-requires : tie.Need-last-class-requires
+last-class-requires c κs = search needs
+
+class-fault-requires : tie.Need-class-fault-requires
+class-fault-requires c κs = search needs
+
+returns : tie.Need-returns
+unfolding before pick
+returns c = simp (← c .before .before .last-class .ensures, c .before .if1 .taken) (c .class-fault .ensures)
+
+returns-2 : tie.Need-returns-2
+unfolding before pick
+returns-2 c = simp (← c .before .last-class .ensures, c .if1 .left)
+
+pub before-byte-spec : {M : Type 1} → statement M
+before-byte-spec = tie.close (tie.spec last-class-requires class-fault-requires returns returns-2)

@@ -1,0 +1,48 @@
+-- `text::fields::class_fault` meets its contract: a missing class, then too many states. Assumes nothing.
+use Rattle.text.specs.Fields.{pick}
+use Rattle.text.specs.Machine.{classFault}
+use borrow.Author.Needs.{needs}
+use borrow.Author.Tests.{le-ltb, lt-ltb}
+use Rattle.text.proofs.fields.class_fault.Statement.{statement}
+use Rattle.text.proofs.fields.class_fault.Tie as tie
+
+none-missing-requires : tie.Need-none-missing-requires
+none-missing-requires c κs = search needs
+
+last-var-requires : tie.Need-last-var-requires
+last-var-requires c κs = search needs
+
+width-of-requires : tie.Need-width-of-requires
+width-of-requires c κs = search needs
+
+multiply-requires : tie.Need-multiply-requires
+multiply-requires c κs = search needs
+
+returns : tie.Need-returns
+unfolding classFault pick
+returns c = simp (← c .before .before .before .before .before .before .none-missing .ensures, c .before .before .before .before .before .if1 .taken, ← c .before .before .before .before .last-var .ensures, c .before .before .before .if2 .taken, ← c .before .before .width-of .ensures, ← c .before .multiply .ensures, lt-ltb _ _ (c .if3 .taken))
+
+returns-2 : tie.Need-returns-2
+unfolding classFault pick
+returns-2 c = simp (← c .before .before .before .before .before .before .none-missing .ensures, c .before .before .before .before .before .if1 .taken, ← c .before .before .before .before .last-var .ensures, c .before .before .before .if2 .taken, ← c .before .before .width-of .ensures, ← c .before .multiply .ensures, le-ltb _ _ (c .if3 .left))
+
+returns-3 : tie.Need-returns-3
+unfolding classFault pick
+returns-3 c = simp (← c .before .before .before .none-missing .ensures, c .before .before .if1 .taken, ← c .before .last-var .ensures, c .if2 .left)
+
+returns-4 : tie.Need-returns-4
+unfolding classFault pick
+returns-4 c = simp (← c .before .none-missing .ensures, c .if1 .left)
+
+pub class-fault-spec : {M : Type 1} → statement M
+class-fault-spec =
+    tie.close
+    (tie.spec
+    none-missing-requires
+    last-var-requires
+    width-of-requires
+    multiply-requires
+    returns
+    returns-2
+    returns-3
+    returns-4)

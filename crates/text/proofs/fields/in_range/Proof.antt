@@ -1,0 +1,24 @@
+-- `text::fields::in_range` meets its contract: between the two. Assumes nothing.
+use Rattle.text.specs.Fields.{pick}
+use Rattle.text.specs.Machine.{inRange}
+use borrow.Author.Needs.{needs}
+use borrow.Author.Tests.{le-leb, lt-leb}
+use Rattle.text.proofs.fields.in_range.Statement.{statement}
+use Rattle.text.proofs.fields.in_range.Tie as tie
+
+least-of-requires : tie.Need-least-of-requires
+least-of-requires c κs = search needs
+
+limit-of-requires : tie.Need-limit-of-requires
+limit-of-requires c κs = search needs
+
+returns : tie.Need-returns
+unfolding inRange pick
+returns c = simp (← c .before .before .before .before .least-of .ensures, le-leb _ _ (c .before .before .if1 .taken), ← c .before .limit-of .ensures)
+
+returns-2 : tie.Need-returns-2
+unfolding inRange pick
+returns-2 c = simp (← c .before .before .least-of .ensures, lt-leb _ _ (c .if1 .left))
+
+pub in-range-spec : {M : Type 1} → statement M
+in-range-spec = tie.close (tie.spec least-of-requires limit-of-requires returns returns-2)

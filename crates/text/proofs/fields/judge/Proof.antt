@@ -1,0 +1,25 @@
+-- `text::fields::judge` meets its contract: range, then order. Assumes nothing.
+use Rattle.text.specs.Fields.{pick}
+use Rattle.text.specs.Machine.{judged}
+use borrow.Author.Needs.{needs}
+use borrow.Author.Tests.{le-leb, lt-leb}
+use Rattle.text.proofs.fields.judge.Statement.{statement}
+use Rattle.text.proofs.fields.judge.Tie as tie
+
+in-range-requires : tie.Need-in-range-requires
+in-range-requires c κs = search needs
+
+returns : tie.Need-returns
+unfolding judged pick
+returns c = simp (← c .before .before .before .in-range .ensures, c .before .before .if1 .taken, le-leb _ _ (c .if2 .taken))
+
+returns-2 : tie.Need-returns-2
+unfolding judged pick
+returns-2 c = simp (← c .before .before .before .in-range .ensures, c .before .before .if1 .taken, lt-leb _ _ (c .if2 .left))
+
+returns-3 : tie.Need-returns-3
+unfolding judged pick
+returns-3 c = simp (← c .before .in-range .ensures, c .if1 .left)
+
+pub judge-spec : {M : Type 1} → statement M
+judge-spec = tie.close (tie.spec in-range-requires returns returns-2 returns-3)

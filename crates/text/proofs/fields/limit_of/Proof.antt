@@ -1,0 +1,29 @@
+-- `text::fields::limit_of` meets its contract: by what the table says. Assumes nothing.
+use Rattle.text.specs.Fields.{pick}
+use Rattle.text.specs.Machine.{limit}
+use borrow.Author.Needs.{needs}
+use borrow.Author.Tests.{eq-eqb, ne-eqb}
+use Rattle.text.proofs.fields.limit_of.Statement.{statement}
+use Rattle.text.proofs.fields.limit_of.Tie as tie
+
+bound-of-requires : tie.Need-bound-of-requires
+bound-of-requires c κs = search needs
+
+values-of-requires : tie.Need-values-of-requires
+values-of-requires c κs = search needs
+
+returns : tie.Need-returns
+unfolding limit pick
+returns c = simp (← c .before .before .bound-of .ensures, eq-eqb _ _ (c .before .if1 .taken)) (c .values-of .ensures)
+
+returns-2 : tie.Need-returns-2
+unfolding limit pick
+returns-2 c = simp (← c .before .before .bound-of .ensures, ne-eqb _ _ (c .before .if1 .left), eq-eqb _ _ (c .if2 .taken))
+
+returns-3 : tie.Need-returns-3
+unfolding limit pick
+returns-3 c = simp (← c .before .before .bound-of .ensures, ne-eqb _ _ (c .before .if1 .left), ne-eqb _ _ (c .if2 .left))
+
+pub limit-of-spec : {M : Type 1} → statement M
+limit-of-spec =
+    tie.close (tie.spec bound-of-requires values-of-requires returns returns-2 returns-3)

@@ -1,0 +1,15 @@
+-- `text::mask::none_missing` meets its contract: the width beside the count of ones. Assumes nothing.
+use Rattle.text.specs.Machine.{gapless}
+use borrow.Author.Needs.{needs}
+use Rattle.text.proofs.mask.none_missing.Statement.{statement}
+use Rattle.text.proofs.mask.none_missing.Tie as tie
+
+width-of-requires : tie.Need-width-of-requires
+width-of-requires c κs = search needs
+
+returns : tie.Need-returns
+unfolding gapless
+returns c = simp (← c .width-of .ensures)
+
+pub none-missing-spec : {M : Type 1} → statement M
+none-missing-spec = tie.close (tie.spec width-of-requires returns)

@@ -1,0 +1,91 @@
+-- `text::step::after_number` meets its contract: by the kind of the field. Assumes nothing.
+use Rattle.text.specs.Fields.{pick}
+use Rattle.text.specs.Machine.{after}
+use borrow.Author.Needs.{needs}
+use borrow.Author.Tests.{ne-eqb}
+use Rattle.text.proofs.step.after_number.Statement.{statement}
+use Rattle.text.proofs.step.after_number.Tie as tie
+
+kind-of-requires : tie.Need-kind-of-requires
+kind-of-requires c κs = search needs
+
+after-var-requires : tie.Need-after-var-requires
+after-var-requires c κs = search needs
+
+one-more-requires : tie.Need-one-more-requires
+one-more-requires c κs = search needs
+
+await-number-requires : tie.Need-await-number-requires
+await-number-requires c κs = search needs
+
+expect-requires : tie.Need-expect-requires
+expect-requires c κs = search needs
+
+after-value-requires : tie.Need-after-value-requires
+after-value-requires c κs = search needs
+
+await-number-requires-2 : tie.Need-await-number-requires-2
+await-number-requires-2 c κs = search needs
+
+expect-requires-2 : tie.Need-expect-requires-2
+expect-requires-2 c κs = search needs
+
+after-class-requires : tie.Need-after-class-requires
+after-class-requires c κs = search needs
+
+after-share-requires : tie.Need-after-share-requires
+after-share-requires c κs = search needs
+
+end-line-requires : tie.Need-end-line-requires
+end-line-requires c κs = search needs
+
+returns : tie.Need-returns
+unfolding after pick
+returns c = simp (← c .before .before .kind-of .ensures, c .before .match .keys1) (c .after-var .ensures)
+
+returns-2 : tie.Need-returns-2
+unfolding after pick
+returns-2 c = simp (← c .before .before .before .before .kind-of .ensures, c .before .before .before .match .keys2, ← c .before .before .one-more .ensures, ← c .before .await-number .ensures) (c .expect .ensures)
+
+returns-3 : tie.Need-returns-3
+unfolding after pick
+returns-3 c = simp (← c .before .before .kind-of .ensures, c .before .match .keys3) (c .after-value .ensures)
+
+returns-4 : tie.Need-returns-4
+unfolding after pick
+returns-4 c = simp (← c .before .before .before .kind-of .ensures, c .before .before .match .keys4, ← c .before .await-number2 .ensures) (c .expect2 .ensures)
+
+returns-5 : tie.Need-returns-5
+unfolding after pick
+returns-5 c = simp (← c .before .before .kind-of .ensures, c .before .match .keys5) (c .after-class .ensures)
+
+returns-6 : tie.Need-returns-6
+unfolding after pick
+returns-6 c = simp (← c .before .before .kind-of .ensures, c .before .match .keys6) (c .after-share .ensures)
+
+returns-7 : tie.Need-returns-7
+unfolding after pick
+returns-7 c = simp (← c .before .before .kind-of .ensures, ne-eqb _ _ (c .before .match .rest .0 .0 .0 .0 .0 .1), ne-eqb _ _ (c .before .match .rest .0 .0 .0 .0 .1), ne-eqb _ _ (c .before .match .rest .0 .0 .0 .1), ne-eqb _ _ (c .before .match .rest .0 .0 .1), ne-eqb _ _ (c .before .match .rest .0 .1), ne-eqb _ _ (c .before .match .rest .1)) (c .end-line .ensures)
+
+pub after-number-spec : {M : Type 1} → statement M
+after-number-spec =
+    tie.close
+    (tie.spec
+    kind-of-requires
+    after-var-requires
+    one-more-requires
+    await-number-requires
+    expect-requires
+    after-value-requires
+    await-number-requires-2
+    expect-requires-2
+    after-class-requires
+    after-share-requires
+    end-line-requires
+    returns
+    returns-2
+    returns-3
+    returns-4
+    returns-5
+    returns-6
+    returns-7)

@@ -1,0 +1,38 @@
+-- `text::step::after_share` meets its contract: within a row, and after it. Assumes nothing.
+use Rattle.text.specs.Fields.{pick}
+use Rattle.text.specs.Machine.{afterShare}
+use borrow.Author.Needs.{needs}
+use borrow.Author.Tests.{eq-eqb, ne-eqb}
+use Rattle.text.proofs.step.after_share.Statement.{statement}
+use Rattle.text.proofs.step.after_share.Tie as tie
+
+one-more-requires : tie.Need-one-more-requires
+one-more-requires c κs = search needs
+
+end-line-requires : tie.Need-end-line-requires
+end-line-requires c κs = search needs
+
+await-number-requires : tie.Need-await-number-requires
+await-number-requires c κs = search needs
+
+expect-requires : tie.Need-expect-requires
+expect-requires c κs = search needs
+
+returns : tie.Need-returns
+unfolding afterShare pick
+returns c = simp (← c .before .before .before .one-more .ensures, eq-eqb _ _ (c .before .if1 .taken)) (c .end-line .ensures)
+
+returns-2 : tie.Need-returns-2
+unfolding afterShare pick
+returns-2 c = simp (← c .before .before .before .before .one-more .ensures, ne-eqb _ _ (c .before .before .if1 .left), ← c .before .await-number .ensures) (c .expect .ensures)
+
+pub after-share-spec : {M : Type 1} → statement M
+after-share-spec =
+    tie.close
+    (tie.spec
+    one-more-requires
+    end-line-requires
+    await-number-requires
+    expect-requires
+    returns
+    returns-2)

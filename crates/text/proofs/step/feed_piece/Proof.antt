@@ -1,0 +1,57 @@
+-- `text::step::feed_piece` meets its contract: the invariant is by what is left of the piece. Assumes nothing.
+use Prim.Native.Nat.{_+_, _-_, _≤_, ℕ}
+use Rattle.text.proofs.Laws.{feed-next}
+use Rattle.text.specs.Machine.{St, feed, mk}
+use borrow.Author.Needs.{needs}
+use lib.ListN.{drop, drop-of-length-le, length}
+use mathlib.Core.List.{List}
+use mathlib.Core.Path.{_∙_, _≡_, ap, refl, sym}
+use native.Mathlib.Omega.{arith}
+use Rattle.text.proofs.step.feed_piece.Statement.{statement}
+use Rattle.text.proofs.step.feed_piece.Tie as tie
+
+abbrev Inv-loop : tie.InvT-loop
+Inv-loop s w₀ k₀ i₀ w k i = (i ≤ length s) × (length w ≡ length w₀) × (feed (mk k w) (drop i s) ≡ feed (mk k₀ w₀) s)
+
+abbrev μ-loop : tie.MeasureT-loop
+μ-loop s w₀ k₀ i₀ w k i = length s - i
+
+loop-holds : tie.Need-loop-holds Inv-loop μ-loop
+loop-holds c = (omega arith, refl, refl)
+
+shared-slice-read-step-byte : tie.Need-shared-slice-read-step-byte Inv-loop μ-loop
+shared-slice-read-step-byte c = omega arith
+
+step-byte-requires : tie.Need-step-byte-requires Inv-loop μ-loop
+step-byte-requires c κs = search needs
+
+add-i : tie.Need-add-i Inv-loop μ-loop
+add-i c = omega arith
+
+loop-less : tie.Need-loop-less Inv-loop μ-loop
+loop-less c = omega arith
+
+loop-again : tie.Need-loop-again Inv-loop μ-loop
+loop-again c = let run = c .before .before .before .before .before .before .loop in let s = c .before .before .before .before .before .before .before .before .before .args .s .now in (omega arith, c .before .before .step-byte .kept .1 .1 .0 ∙ run .inv .1, ap (λ (x : St). feed x (drop (run .i + 1) s)) (c .before .before .step-byte .ensures) ∙ feed-next _ s (run .i) (c .before .before .before .before .before .loop-test .taken) ∙ run .inv .2)
+
+same-length : tie.Need-same-length Inv-loop μ-loop
+same-length c = c .before .loop .inv .1
+
+returns : tie.Need-returns Inv-loop μ-loop
+unfolding feed
+returns c = let s = c .before .before .before .before .args .s .now in let h : length s ≤ c .before .loop .i = omega arith in ap (λ (l : List ℕ). feed (mk (c .before .loop .k) (c .before .loop .w)) l) (sym (drop-of-length-le s h)) ∙ c .before .loop .inv .2
+
+pub feed-piece-spec : {M : Type 1} → statement M
+feed-piece-spec =
+    tie.close
+    (tie.spec
+    Inv-loop
+    μ-loop
+    loop-holds
+    shared-slice-read-step-byte
+    step-byte-requires
+    add-i
+    loop-less
+    loop-again
+    same-length
+    returns)

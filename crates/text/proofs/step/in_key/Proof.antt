@@ -1,0 +1,43 @@
+-- `text::step::in_key` meets its contract: the keyword's own byte, and its last. Assumes nothing.
+use Rattle.text.specs.Fields.{pick}
+use Rattle.text.specs.Machine.{inKey}
+use borrow.Author.Needs.{needs}
+use borrow.Author.Tests.{eq-eqb, ne-eqb}
+use Rattle.text.proofs.step.in_key.Statement.{statement}
+use Rattle.text.proofs.step.in_key.Tie as tie
+
+key-byte-requires : tie.Need-key-byte-requires
+key-byte-requires c κs = search needs
+
+stop-requires : tie.Need-stop-requires
+stop-requires c κs = search needs
+
+returns : tie.Need-returns
+unfolding inKey pick
+returns c = simp (← c .before .before .key-byte .ensures, ne-eqb _ _ (c .before .if1 .taken)) (c .stop .ensures)
+
+open-line-requires : tie.Need-open-line-requires
+open-line-requires c κs = search needs
+
+next-key-requires : tie.Need-next-key-requires
+next-key-requires c κs = search needs
+
+returns-2 : tie.Need-returns-2
+unfolding inKey pick
+returns-2 c = simp (← c .before .before .before .key-byte .ensures, eq-eqb _ _ (c .before .before .if1 .left), eq-eqb _ _ (c .before .if2 .taken)) (c .open-line .ensures)
+
+returns-3 : tie.Need-returns-3
+unfolding inKey pick
+returns-3 c = simp (← c .before .before .before .key-byte .ensures, eq-eqb _ _ (c .before .before .if1 .left), ne-eqb _ _ (c .before .if2 .left)) (c .next-key .ensures)
+
+pub in-key-spec : {M : Type 1} → statement M
+in-key-spec =
+    tie.close
+    (tie.spec
+    key-byte-requires
+    stop-requires
+    returns
+    open-line-requires
+    next-key-requires
+    returns-2
+    returns-3)

@@ -1,0 +1,38 @@
+-- `text::step::list_end` meets its contract: by the list. Assumes nothing.
+use Rattle.text.specs.Fields.{pick}
+use Rattle.text.specs.Machine.{listEnd}
+use borrow.Author.Needs.{needs}
+use borrow.Author.Tests.{eq-eqb, ne-eqb}
+use Rattle.text.proofs.step.list_end.Statement.{statement}
+use Rattle.text.proofs.step.list_end.Tie as tie
+
+list-of-requires : tie.Need-list-of-requires
+list-of-requires c κs = search needs
+
+await-number-requires : tie.Need-await-number-requires
+await-number-requires c κs = search needs
+
+expect-requires : tie.Need-expect-requires
+expect-requires c κs = search needs
+
+end-line-requires : tie.Need-end-line-requires
+end-line-requires c κs = search needs
+
+returns : tie.Need-returns
+unfolding listEnd pick
+returns c = simp (← c .before .before .before .list-of .ensures, eq-eqb _ _ (c .before .before .if1 .taken), ← c .before .await-number .ensures) (c .expect .ensures)
+
+returns-2 : tie.Need-returns-2
+unfolding listEnd pick
+returns-2 c = simp (← c .before .before .list-of .ensures, ne-eqb _ _ (c .before .if1 .left)) (c .end-line .ensures)
+
+pub list-end-spec : {M : Type 1} → statement M
+list-end-spec =
+    tie.close
+    (tie.spec
+    list-of-requires
+    await-number-requires
+    expect-requires
+    end-line-requires
+    returns
+    returns-2)

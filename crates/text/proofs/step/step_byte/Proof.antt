@@ -1,0 +1,28 @@
+-- `text::step::step_byte` meets its contract: unless the reading has stopped. Assumes nothing.
+use Rattle.text.specs.Fields.{pick}
+use Rattle.text.specs.Machine.{step}
+use borrow.Author.Needs.{needs}
+use borrow.Author.Tests.{eq-eqb, ne-eqb}
+use Rattle.text.proofs.step.step_byte.Statement.{statement}
+use Rattle.text.proofs.step.step_byte.Tie as tie
+
+word-requires : tie.Need-word-requires
+word-requires c κs = search needs
+
+live-step-requires : tie.Need-live-step-requires
+live-step-requires c κs = search needs
+
+same-length : tie.Need-same-length
+same-length c = search needs
+
+returns : tie.Need-returns
+unfolding step pick
+returns c = simp (eq-eqb _ _ (c .before .before .before .before .before .if1 .taken), ← c .before .before .before .before .word .ensures .0) (c .before .before .live-step .ensures)
+
+returns-2 : tie.Need-returns-2
+unfolding step pick
+returns-2 c = simp (ne-eqb _ _ (c .if1 .left))
+
+pub step-byte-spec : {M : Type 1} → statement M
+step-byte-spec =
+    tie.close (tie.spec word-requires live-step-requires same-length returns returns-2)

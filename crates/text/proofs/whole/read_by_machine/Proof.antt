@@ -1,0 +1,72 @@
+-- `text::whole::read_by_machine` meets its contract: a short table, a long text, or what the machine says. Assumes nothing.
+use Rattle.text.specs.Fields.{admitted, pick}
+use Rattle.text.specs.Machine.{St, areaRoom, done, feed, mk, readAll}
+use Rattle.text.specs.declared.Ctrl.{Ctrl}
+use borrow.Author.Needs.{needs}
+use borrow.Author.Tests.{le-ltb, lt-ltb}
+use lib.ListN.{replicate}
+use mathlib.Core.Path.{_∙_, ap}
+use Rattle.text.proofs.whole.read_by_machine.Statement.{statement}
+use Rattle.text.proofs.whole.read_by_machine.Tie as tie
+
+returns : tie.Need-returns
+unfolding readAll admitted pick
+returns c = simp (lt-ltb _ _ (c .if1 .taken))
+
+returns-2 : tie.Need-returns-2
+unfolding readAll admitted pick
+returns-2 c = simp (le-ltb _ _ (c .before .if1 .left), lt-ltb _ _ (c .if2 .taken))
+
+returns-3 : tie.Need-returns-3
+unfolding readAll admitted pick
+returns-3 c = simp (le-ltb _ _ (c .before .before .if1 .left), le-ltb _ _ (c .before .if2 .left), lt-ltb _ _ (c .if3 .taken))
+
+returns-4 : tie.Need-returns-4
+unfolding readAll admitted pick
+returns-4 c = simp (le-ltb _ _ (c .before .before .before .if1 .left), le-ltb _ _ (c .before .before .if2 .left), le-ltb _ _ (c .before .if3 .left), lt-ltb _ _ (c .if4 .taken))
+
+start-of-text-requires : tie.Need-start-of-text-requires
+start-of-text-requires c κs = search needs
+
+slice-aggregate-feed-piece : tie.Need-slice-aggregate-feed-piece
+slice-aggregate-feed-piece c = search needs
+
+feed-piece-requires : tie.Need-feed-piece-requires
+feed-piece-requires c κs = search needs
+
+slice-aggregate-finish : tie.Need-slice-aggregate-finish
+slice-aggregate-finish c = search needs
+
+finish-requires : tie.Need-finish-requires
+finish-requires c κs = search needs
+
+same-length : tie.Need-same-length
+same-length c = search needs
+
+same-length-2 : tie.Need-same-length-2
+same-length-2 c = search needs
+
+same-length-3 : tie.Need-same-length-3
+same-length-3 c = search needs
+
+returns-5 : tie.Need-returns-5
+unfolding readAll admitted pick
+returns-5 c = simp (le-ltb _ _ (c .before .before .before .before .before .before .before .before .before .before .before .before .before .before .before .before .before .before .if1 .left), le-ltb _ _ (c .before .before .before .before .before .before .before .before .before .before .before .before .before .before .before .before .before .if2 .left), le-ltb _ _ (c .before .before .before .before .before .before .before .before .before .before .before .before .before .before .before .before .if3 .left), le-ltb _ _ (c .before .before .before .before .before .before .before .before .before .before .before .before .before .before .before .if4 .left)) (c .before .before .before .before .before .before .finish .ensures ∙ ap (λ (x : St). done x (c .before .before .before .before .before .before .before .before .before .before .before .before .before .before .before .before .before .before .before .before .before .before .before .args .facts .now) (c .before .before .before .before .before .before .before .before .before .before .before .before .before .before .before .before .before .before .before .before .before .before .before .args .costs .now) (c .before .before .before .before .before .before .before .before .before .before .before .before .before .before .before .before .before .before .before .before .before .before .before .args .shares .now)) (c .before .before .before .before .before .before .before .before .before .before .before .before .feed-piece .ensures ∙ ap (λ (k : Ctrl). feed (mk k (replicate areaRoom 0)) (c .before .before .before .before .before .before .before .before .before .before .before .before .before .before .before .before .before .before .before .before .before .before .before .args .text .now)) (c .before .before .before .before .before .before .before .before .before .before .before .before .before .before .start-of-text .ensures)))
+
+pub read-by-machine-spec : {M : Type 1} → statement M
+read-by-machine-spec =
+    tie.close
+    (tie.spec
+    returns
+    returns-2
+    returns-3
+    returns-4
+    start-of-text-requires
+    slice-aggregate-feed-piece
+    feed-piece-requires
+    slice-aggregate-finish
+    finish-requires
+    same-length
+    same-length-2
+    same-length-3
+    returns-5)

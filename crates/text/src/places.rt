@@ -1,0 +1,48 @@
+// Where a task's numbers stand in the work area.
+ghost use mathlib.Core.Path.{_≡_};
+ghost use Prim.Native.Nat.{ℕ, _+_, _*_, _<_};
+ghost use Rattle.tables.specs.Layout.{initPlace, goalPlace, prePlace, effPlace, classPlace, sharePlace};
+ghost use Rattle.text.specs.Machine.{costByte, shareByte};
+use crate::area::wide;
+
+pub fn init_place(v: u32) -> usize
+    ensures { λ r. ⌜ r ≡ initPlace v ⌝ }
+{
+    8 + wide(v)
+}
+
+pub fn goal_place(v: u32) -> usize
+    ensures { λ r. ⌜ r ≡ goalPlace v ⌝ }
+{
+    16 + wide(v)
+}
+
+pub fn pre_place(o: u32, v: u32) -> usize
+    ensures { λ r. ⌜ r ≡ prePlace o v ⌝ }
+{
+    24 + (wide(o) * 8 + wide(v))
+}
+
+pub fn eff_place(o: u32, v: u32) -> usize
+    ensures { λ r. ⌜ r ≡ effPlace o v ⌝ }
+{
+    536 + (wide(o) * 8 + wide(v))
+}
+
+pub fn class_place(m: u32, v: u32, x: u32) -> usize
+    ensures { λ r. ⌜ r ≡ classPlace m v x ⌝ }
+{
+    1048 + (wide(m) * 64 + (wide(v) * 8 + wide(x)))
+}
+
+pub fn cost_byte(o: u32) -> usize
+    ensures { λ r. ⌜ (r ≡ costByte o) × (r < 1099511627776) ⌝ }
+{
+    1624 + 3 * wide(o)
+}
+
+pub fn share_byte(m: u32, o: u32) -> usize
+    ensures { λ r. ⌜ (r ≡ shareByte m o) × (r < 1099511627776) ⌝ }
+{
+    1816 + 3 * (wide(m) * 64 + wide(o))
+}

@@ -1,0 +1,104 @@
+//! Writes vectors in the form of the script.
+
+use crate::run::Run;
+use crate::script::*;
+use crate::tables::{counts_of, text_of, write_tables, Lent};
+use crate::task::{State, Task};
+
+/// One vector: what it tries, and its lines after the reset.
+pub struct Vector {
+    title: String,
+    body: Vec<u8>,
+}
+
+/// The tables of a task, as long as the task needs them.
+pub struct Tables {
+    pub facts: Vec<u8>,
+    pub costs: Vec<u32>,
+    pub shares: Vec<u32>,
+}
+
+pub fn tables_of(task: &Task) -> Tables {
+    let room = |k: u32| ARRAYS[k as usize].2;
+    let mut tables = Tables { facts: vec![0; room(FACTS)], costs: vec![0; room(COSTS)], shares: vec![0; room(SHARES)] };
+    write_tables(task, &mut tables.facts, &mut tables.costs, &mut tables.shares);
+    tables
+}
+
+pub fn text_of_task(task: &Task) -> Vec<u8> {
+    let tables = tables_of(task);
+    text_of(Lent { counts: counts_of(task), facts: &tables.facts, costs: &tables.costs, shares: &tables.shares })
+}
+
+/// The script of the vectors, numbered from 1.
+pub fn script_of(vectors: &[Vector]) -> Vec<u8> {
+    let mut script = Vec::new();
+    for (i, vector) in vectors.iter().enumerate() {
+        script.extend_from_slice(format!("z\n# {} {}\n", i + 1, vector.title).as_bytes());
+        script.extend_from_slice(&vector.body);
+    }
+    script
+}
+
+impl Vector {
+    pub fn new(title: &str) -> Vector {
+        Vector { title: title.to_string(), body: Vec::new() }
+    }
+
+    /// Lines as they stand, parted by a semicolon.
+    pub fn lines(mut self, lines: &str) -> Vector {
+        for line in lines.split(';') {
+            self.body.extend_from_slice(line.trim().as_bytes());
+            self.body.push(b'\n');
+        }
+        self
+    }
+
+    pub fn text(mut self, text: &[u8]) -> Vector {
+        self.body.extend_from_slice(format!("t {}\n", text.len()).as_bytes());
+        self.body.extend_from_slice(text);
+        self.body.push(b'\n');
+        self
+    }
+
+    pub fn task(self, task: &Task) -> Vector {
+        self.text(&text_of_task(task)).lines("R")
+    }
+
+    /// The places of an array from the given one on, as many to a line as it holds.
+    pub fn set(mut self, k: u32, place: usize, values: &[u32]) -> Vector {
+        for (i, chunk) in values.chunks(NUMBERS - 2).enumerate() {
+            let mut line = format!("s {} {}", k, place + i * (NUMBERS - 2));
+            for value in chunk {
+                line += &format!(" {}", value);
+            }
+            self = self.lines(&line);
+        }
+        self
+    }
+
+    /// The same, lent with just these places.
+    pub fn lend(self, k: u32, values: &[u32]) -> Vector {
+        self.set(k, 0, values).lines(&format!("l {} {}", k, values.len()))
+    }
+
+    pub fn state(self, state: &State) -> Vector {
+        let values: Vec<u32> = state.iter().map(|value| *value as u32).collect();
+        self.set(STATE, 0, &values)
+    }
+
+    /// The fields of a run, one by one; of the log no more than an accepted offer can have written.
+    pub fn run(self, run: &Run) -> Vector {
+        let written = run.log.len().min(run.len as usize + 1);
+        self.set(START, 0, &run.start.map(u32::from))
+            .set(LOG, 0, &run.log[..written])
+            .set(LEN, 0, &[run.len])
+            .set(NOW, 0, &run.now.map(u32::from))
+            .set(COLUMN, 0, &run.columns)
+    }
+
+    /// Something in every place of the tables and of the distance table.
+    pub fn dirty(self) -> Vector {
+        self.lines("e 0 201; e 1 4000000000; e 2 4000000001; e 3 4000000002")
+    }
+}

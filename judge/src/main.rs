@@ -1,0 +1,69 @@
+//! The judge: a second program, written from the rules alone, that says what the desk must answer.
+
+mod builder;
+mod cases;
+mod desk;
+mod edges;
+mod edits;
+mod kinds;
+mod limits;
+mod random;
+mod rng;
+mod run;
+mod script;
+mod sequence;
+mod space;
+mod tables;
+mod task;
+#[cfg(test)]
+mod tests;
+mod text;
+
+use std::io::{Read, Write};
+
+const USAGE: &str = "\
+judge vectors SEED COUNT   writes a script of so many vectors
+judge long                 writes the script of the vectors that take long
+judge expect < SCRIPT      writes what the program of the vectors must print
+judge desk < TEXT          writes what the desk program must write
+";
+
+fn input() -> Vec<u8> {
+    let mut bytes = Vec::new();
+    std::io::stdin().read_to_end(&mut bytes).expect("standard input can be read");
+    bytes
+}
+
+/// The cases by name, then vectors by chance, as many as are asked for.
+fn vectors(seed: u64, count: usize) -> Vec<u8> {
+    let mut vectors = cases::bench();
+    vectors.extend(edges::edges());
+    vectors.extend(edits::edits());
+    let mut rng = rng::Rng::new(seed);
+    for i in 0..count.saturating_sub(vectors.len()) {
+        vectors.push(kinds::by_chance(&mut rng, i));
+    }
+    vectors.truncate(count);
+    builder::script_of(&vectors)
+}
+
+/// The output for the words of the command line, if they make sense.
+fn output(words: &[&str]) -> Option<Vec<u8>> {
+    match words {
+        ["vectors", seed, count] => Some(vectors(seed.parse().ok()?, count.parse().ok()?)),
+        ["long"] => Some(builder::script_of(&edges::long())),
+        ["expect"] => Some(script::expect(&input())),
+        ["desk"] => Some(desk::program(&input()).into_bytes()),
+        _ => None,
+    }
+}
+
+fn main() {
+    let words: Vec<String> = std::env::args().skip(1).collect();
+    let words: Vec<&str> = words.iter().map(String::as_str).collect();
+    let Some(output) = output(&words) else {
+        eprint!("{}", USAGE);
+        std::process::exit(2);
+    };
+    std::io::stdout().write_all(&output).expect("standard output can be written");
+}

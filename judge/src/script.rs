@@ -1,0 +1,284 @@
+//! The script of the vectors: what the program holds, and what it prints for each line (docs/VECTORS.md).
+
+use crate::desk::{self, Answer};
+use crate::limits::*;
+use crate::run::Run;
+use crate::tables::{Counts, Lent};
+
+/// The longest line, without its line end.
+pub const LINE: usize = 200;
+/// The most numbers on a line.
+pub const NUMBERS: usize = 16;
+/// The room of the text buffer.
+pub const BUFFER: usize = 16_500;
+/// So many changed places of an array are printed one by one; a call's further ones make one line.
+pub const SHOWN: usize = 64;
+
+pub const FACTS: u32 = 0;
+pub const COSTS: u32 = 1;
+pub const SHARES: u32 = 2;
+pub const OUT: u32 = 3;
+pub const STATE: u32 = 4;
+pub const FIRST: u32 = 5;
+pub const SECOND: u32 = 6;
+pub const START: u32 = 7;
+pub const LOG: u32 = 8;
+pub const LEN: u32 = 9;
+pub const NOW: u32 = 10;
+pub const COLUMN: u32 = 11;
+
+/// The arrays by number: name, places, places lent after a reset, greatest value.
+pub const ARRAYS: [(&str, usize, usize, u32); 12] = [
+    ("facts", 1_700, FACTS_ROOM, 255),
+    ("costs", 80, COSTS_ROOM, u32::MAX),
+    ("shares", 600, SHARES_ROOM, u32::MAX),
+    ("out", 4_200, OUT_ROOM, u32::MAX),
+    ("state", 16, VARS, 255),
+    ("first", 400, 0, u32::MAX),
+    ("second", 400, 0, u32::MAX),
+    ("start", VARS, VARS, 255),
+    ("log", STEPS, STEPS, u32::MAX),
+    ("len", 1, 1, u32::MAX),
+    ("now", VARS, VARS, 255),
+    ("column", MAPS + 1, MAPS + 1, u32::MAX),
+];
+
+/// All that the program holds.
+pub struct Bench {
+    arrays: Vec<Vec<u32>>,
+    lent: Vec<usize>,
+    text: Vec<u8>,
+    counts: Counts,
+    printed: Vec<u8>,
+}
+
+/// A line taken apart: its letter and its numbers; none if it is malformed.
+fn parsed(line: &[u8]) -> Option<(u8, Vec<u32>)> {
+    let (letter, rest) = line.split_first()?;
+    let mut numbers = Vec::new();
+    let mut words = rest.split(|byte| *byte == b' ');
+    if !words.next()?.is_empty() {
+        return None;
+    }
+    for word in words {
+        numbers.push(number(word)?);
+    }
+    (numbers.len() <= NUMBERS).then_some((*letter, numbers))
+}
+
+/// One to ten digits that fit.
+fn number(word: &[u8]) -> Option<u32> {
+    if word.is_empty() || word.len() > 10 || !word.iter().all(u8::is_ascii_digit) {
+        return None;
+    }
+    std::str::from_utf8(word).ok()?.parse().ok()
+}
+
+/// What a script prints.
+pub fn expect(script: &[u8]) -> Vec<u8> {
+    let mut bench = Bench::new();
+    let mut rest = script;
+    while let Some(end) = rest.iter().position(|byte| *byte == b'\n') {
+        let (line, after) = (&rest[..end], &rest[end + 1..]);
+        rest = bench.line(line, after);
+    }
+    bench.printed
+}
+
+impl Bench {
+    pub fn new() -> Bench {
+        let mut bench = Bench { arrays: Vec::new(), lent: Vec::new(), text: Vec::new(), counts: Counts::default(), printed: Vec::new() };
+        bench.reset();
+        bench
+    }
+
+    fn reset(&mut self) {
+        self.arrays = ARRAYS.iter().map(|(_, places, _, _)| vec![0; *places]).collect();
+        self.lent = ARRAYS.iter().map(|(_, _, lent, _)| *lent).collect();
+        self.text = Vec::new();
+        self.counts = Counts::default();
+    }
+
+    fn print(&mut self, line: &str) {
+        self.printed.extend_from_slice(line.as_bytes());
+        self.printed.push(b'\n');
+    }
+
+    /// Carries out one line and hands back what follows it.
+    fn line<'a>(&mut self, line: &[u8], after: &'a [u8]) -> &'a [u8] {
+        if line.len() <= LINE && line.first() == Some(&b'#') {
+            self.printed.extend_from_slice(line);
+            self.printed.push(b'\n');
+            return after;
+        }
+        let command = if line.len() <= LINE { parsed(line) } else { None };
+        if let Some((b't', [length])) = command.as_ref().map(|(letter, numbers)| (*letter, &numbers[..])) {
+            return self.load(*length as usize, after);
+        }
+        let known = command.is_some_and(|(letter, numbers)| self.set(letter, &numbers) || self.call(letter, &numbers));
+        if !known {
+            self.print("bad");
+        }
+        after
+    }
+
+    /// The raw bytes of a text, and the byte after them.
+    fn load<'a>(&mut self, length: usize, after: &'a [u8]) -> &'a [u8] {
+        let text = &after[..length.min(after.len())];
+        self.text = text[..text.len().min(BUFFER)].to_vec();
+        &after[after.len().min(length + 1)..]
+    }
+
+    /// The commands that set and show; false if it is none of them.
+    fn set(&mut self, letter: u8, numbers: &[u32]) -> bool {
+        match (letter, numbers) {
+            (b'z', []) => self.reset(),
+            (b'n', [vars, ops, maps]) => self.counts = Counts { vars: *vars, ops: *ops, maps: *maps },
+            (b'l', [k, length]) => self.lend(*k as usize, *length as usize),
+            (b's', [k, place, values @ ..]) if !values.is_empty() => self.write(*k as usize, *place as usize, values),
+            (b'e', [k, value]) => {
+                let places = ARRAYS.get(*k as usize).map_or(0, |array| array.1);
+                self.write(*k as usize, 0, &vec![*value; places]);
+            }
+            (b'p', [k, place]) => self.show(*k as usize, *place as usize),
+            (b'q', []) => {
+                let Counts { vars, ops, maps } = self.counts;
+                self.print(&format!("counts {} {} {}", vars, ops, maps));
+            }
+            _ => return false,
+        }
+        true
+    }
+
+    /// Only what a caller lends has a length to set, and none is beyond its array.
+    fn lend(&mut self, k: usize, length: usize) {
+        if k <= SECOND as usize && length <= ARRAYS[k].1 {
+            self.lent[k] = length;
+        }
+    }
+
+    /// Places beyond the array, and values that a place can't hold, are ignored.
+    fn write(&mut self, k: usize, place: usize, values: &[u32]) {
+        let Some(array) = self.arrays.get_mut(k) else { return };
+        for (i, value) in values.iter().enumerate() {
+            if place + i < array.len() && *value <= ARRAYS[k].3 {
+                array[place + i] = *value;
+            }
+        }
+    }
+
+    fn show(&mut self, k: usize, place: usize) {
+        if let Some(value) = self.arrays.get(k).and_then(|array| array.get(place)).copied() {
+            self.print_place(k, place, value);
+        }
+    }
+
+    fn print_place(&mut self, k: usize, place: usize, value: u32) {
+        if k == LEN as usize {
+            self.print(&format!("len {}", value));
+        } else {
+            self.print(&format!("{} {} {}", ARRAYS[k].0, place, value));
+        }
+    }
+
+    fn bytes(&self, k: u32) -> Vec<u8> {
+        self.words(k).iter().map(|value| *value as u8).collect()
+    }
+
+    /// The places lent of an array.
+    fn words(&self, k: u32) -> &[u32] {
+        &self.arrays[k as usize][..self.lent[k as usize]]
+    }
+
+    fn put(&mut self, k: u32, values: &[u32]) {
+        self.arrays[k as usize][..values.len()].copy_from_slice(values);
+    }
+
+    fn run(&self) -> Run {
+        Run {
+            start: self.bytes(START).try_into().unwrap(),
+            log: self.words(LOG).try_into().unwrap(),
+            len: self.words(LEN)[0],
+            now: self.bytes(NOW).try_into().unwrap(),
+            columns: self.words(COLUMN).try_into().unwrap(),
+        }
+    }
+
+    fn put_run(&mut self, run: &Run) {
+        self.put(START, &run.start.map(u32::from));
+        self.put(LOG, &run.log);
+        self.put(LEN, &[run.len]);
+        self.put(NOW, &run.now.map(u32::from));
+        self.put(COLUMN, &run.columns);
+    }
+
+    /// The desk's entries; false if it is none of them.
+    fn call(&mut self, letter: u8, numbers: &[u32]) -> bool {
+        let before = self.arrays.clone();
+        let Some(answer) = self.answer(letter, numbers) else { return false };
+        self.print(&answer.to_string());
+        for (k, old) in before.iter().enumerate() {
+            self.print_changes(k, old);
+        }
+        true
+    }
+
+    fn answer(&mut self, letter: u8, numbers: &[u32]) -> Option<Answer> {
+        let facts = self.bytes(FACTS);
+        let (state, a, b) = (self.bytes(STATE), self.words(FIRST), self.words(SECOND));
+        let (costs, shares) = (self.words(COSTS), self.words(SHARES));
+        let lent = Lent { counts: self.counts, facts: &facts, costs, shares };
+        Some(match (letter, numbers) {
+            (b'R', []) => self.read(),
+            (b'K', []) => desk::check(lent),
+            (b'D', [map]) => {
+                let mut out = self.words(OUT).to_vec();
+                let answer = desk::distances(lent, *map, &mut out);
+                self.put(OUT, &out);
+                answer
+            }
+            (b'A', [map]) => desk::distance_at(lent, *map, &state),
+            (b'B', []) => desk::bound(lent, &state),
+            (b'J', []) => desk::judge(lent, &state, a),
+            (b'C', []) => desk::cheaper(lent, &state, a, b),
+            (b'P', []) => desk::opening(lent, &state, a, b),
+            (b'G', []) => {
+                let (run, answer) = desk::begin(lent, &state);
+                self.put_run(&run);
+                answer
+            }
+            (b'O', [number, op]) => {
+                let (run, answer) = desk::offer(&self.run(), lent, *number, *op);
+                self.put_run(&run);
+                answer
+            }
+            _ => return None,
+        })
+    }
+
+    /// An accepted text's counts become the bench's.
+    fn read(&mut self) -> Answer {
+        let (mut facts, mut costs, mut shares) = (self.bytes(FACTS), self.words(COSTS).to_vec(), self.words(SHARES).to_vec());
+        let answer = desk::read(&self.text, &mut facts, &mut costs, &mut shares);
+        self.put(FACTS, &facts.into_iter().map(u32::from).collect::<Vec<_>>());
+        self.put(COSTS, &costs);
+        self.put(SHARES, &shares);
+        if let Answer::Read(counts) = answer {
+            self.counts = counts;
+        }
+        answer
+    }
+
+    /// The changed places in rising order: the first ones singly, the further ones counted and digested.
+    fn print_changes(&mut self, k: usize, old: &[u32]) {
+        let changed: Vec<(usize, u32)> = self.arrays[k].iter().copied().enumerate().filter(|(i, value)| old[*i] != *value).collect();
+        for (place, value) in changed.iter().take(SHOWN) {
+            self.print_place(k, *place, *value);
+        }
+        if changed.len() > SHOWN {
+            let digest =
+                changed[SHOWN..].iter().fold(0, |digest, (place, value)| (31 * digest + *place as u64 + u64::from(*value)) % 1_000_003);
+            self.print(&format!("{} more {} {}", ARRAYS[k].0, changed.len() - SHOWN, digest));
+        }
+    }
+}
