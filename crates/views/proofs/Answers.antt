@@ -1,23 +1,23 @@
 -- What is promised of an accepted task is so, and there is no second answer: distances and rounds, the distance of a state, its bound.
 -- Assumes nothing.
-use mathlib.Core.Path.{_≡_, refl, sym, ap, ap₂, _∙_, subst}
+use mathlib.Core.Path.{_≡_, refl, sym, ap₂, _∙_, subst}
 use mathlib.Core.List.{List}
 use Prim.Native.Nat.{ℕ, zero, suc, _≤_, _<_}
 use native.Mathlib.Nat.{le-refl}
 use native.Mathlib.Decide.{decLt}
 use native.Mathlib.Omega.{arith}
-use lib.ListN.{length, getD}
+use lib.ListN.{getD}
 use lib.Seq.{ext-getD}
-use Rattle.graph.specs.Cost.{Cost, none, fin, _⊑_}
+use Rattle.graph.specs.Cost.{Cost}
 use Rattle.graph.proofs.Theorems.{rounds-unique}
-use Rattle.meaning.specs.Sas.{State, IsState, Passes, paid}
+use Rattle.meaning.specs.Sas.{State, IsState}
 use Rattle.meaning.specs.Views.{α, abstractStates, IsDistanceAt, viewGraph}
 use Rattle.meaning.specs.Split.{Task, view, Valid}
 use Rattle.meaning.specs.Bound.{distance, away, join, summed, bound}
 use Rattle.meaning.proofs.Induced.{α-below}
 use Rattle.meaning.proofs.Bounds.{view-onto}
 use Rattle.meaning.proofs.Theorems.{distance-is-least, distance-unique, round-holds-distances, rounds-at-most-states}
-use Rattle.views.specs.Said.{said, read}
+use Rattle.views.specs.Said.{read}
 use Rattle.views.specs.Sweeps.{Counted}
 use Rattle.views.specs.Entries.{DistancesOf, IsAway, IsBound}
 use Rattle.views.proofs.Saids.{said-inj}
@@ -52,7 +52,7 @@ module _ (T : Task) (ok : Valid T) (m : ℕ) (lm : m < T .maps) where
   pub distances-rounds-most : (out out′ : List ℕ) (r : ℕ) → DistancesOf T m out r out′ → r ≤ abstractStates (T .sas) (view T m)
   distances-rounds-most out out′ r D = rounds-at-most-states T ok m lm r (D .rounds)
 
-  image-inside : (s : State) → IsState (T .sas) s → α (T .sas) (view T m) s < abstractStates (T .sas) (view T m)
+  pub image-inside : (s : State) → IsState (T .sas) s → α (T .sas) (view T m) s < abstractStates (T .sas) (view T m)
   image-inside s h = α-below (T .sas) (view T m) (ok .proper) (view-onto T ok m lm) s h
 
   -- the distance of a state's image

@@ -1,21 +1,19 @@
 -- Laws of the task of a map's classes: numbers of classes, facts seen by classes, and images. Assumes nothing.
 use mathlib.Core.Path.{_≡_, refl, sym, ap, ap₂, _∙_, subst}
 use mathlib.Core.List.{List, []}
-use Prim.Native.Nat.{ℕ, zero, suc, _+_, _*_, _-_, _%_, _≤_, _<_, max, zero-le}
+use Prim.Native.Nat.{ℕ, zero, suc, _+_, _*_, _-_, _%_, _≤_, _<_, zero-le}
 use native.Mathlib.Nat.{le-refl, mod-eq-of-lt, mul-add-mod-self-right}
 use native.Mathlib.Numerals.{add-one}
 use native.Mathlib.Omega.{arith}
 use lib.ListN.{getD}
 use Rattle.meaning.specs.Numbering.{size, Positive, Digits}
 use Rattle.meaning.specs.Sas.{IsState}
-use Rattle.meaning.specs.Views.{seen, image, α}
+use Rattle.meaning.specs.Views.{seen, image}
 use Rattle.meaning.specs.Split.{countOf, Valid}
-use Rattle.meaning.proofs.Induced.{seen-below}
 use Rattle.meaning.proofs.Bounds.{view-onto}
 use Rattle.tables.specs.declared.Counts.{Counts}
-use Rattle.tables.specs.Layout.{place, rowAt, domAt, preAt, effAt, goalAt, effRow, preRow, goalRow, classRow, classAt}
+use Rattle.tables.specs.Layout.{rowAt, domAt, classRow, classAt}
 use Rattle.tables.specs.Task.{stateOf}
-use Rattle.views.specs.Walks.{Walkable}
 use Rattle.views.specs.Sweeps.{Made}
 use Rattle.views.specs.Classes.{unpriced, viewOf, SeenAt, Classed}
 use Rattle.views.proofs.Walking.{size-le, Numbered, numbered-next}

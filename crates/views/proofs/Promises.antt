@@ -2,15 +2,15 @@
 -- the bound. Assumes nothing.
 use mathlib.Core.Path.{_≡_, refl, sym, ap, _∙_, subst}
 use mathlib.Core.List.{List}
-use Prim.Native.Nat.{ℕ, _≤_, _<_}
+use Prim.Native.Nat.{ℕ, _≤_}
 use native.Mathlib.Omega.{arith}
 use Rattle.graph.specs.Cost.{Cost, none, fin, _⊑_}
 use Rattle.refusals.specs.declared.Refusal.{Refusal}
 use Rattle.meaning.specs.Sas.{Passes, paid}
-use Rattle.meaning.specs.Views.{abstractStates}
+use Rattle.meaning.specs.Views.{α, abstractStates}
 use Rattle.meaning.specs.Split.{view}
 use Rattle.meaning.specs.Bound.{bound}
-use Rattle.meaning.proofs.Bounds.{admissible, none-so-none}
+use Rattle.meaning.proofs.Bounds.{admissible}
 use Rattle.tables.specs.declared.scan.Found.{Found}
 use Rattle.tables.specs.declared.scan.Found.the-variants.{Clean, Fault}
 use Rattle.tables.specs.Layout.{Tables}
@@ -20,8 +20,8 @@ use Rattle.views.specs.declared.DistancesAnswer.the-variants as distance
 use Rattle.views.specs.declared.DistanceAnswer.{DistanceAnswer}
 use Rattle.views.specs.declared.BoundAnswer.{BoundAnswer}
 use Rattle.views.specs.declared.BoundAnswer.the-variants as bounds
+use Rattle.views.specs.Said.{read}
 use Rattle.views.specs.Entries.{
-  askedFault,
   distancesFault,
   distanceFault,
   boundFault,
@@ -35,8 +35,8 @@ use Rattle.views.specs.Entries.{
   DistanceGiven,
   BoundGiven,
 }
-use Rattle.views.proofs.Answers.{distances-only, distances-rounds-most, away-only, bound-is, bound-only}
-use Rattle.views.proofs.Judging.{asked-clean, distances-clean, distance-clean, bound-clean}
+use Rattle.views.proofs.Answers.{image-inside, distances-only, distances-rounds-most, away-only, bound-is, bound-only}
+use Rattle.views.proofs.Judging.{judged-clean, distances-clean, distance-clean, bound-clean}
 
 -- two outcomes that are judged alike are the same: refused they are told by the fault, and accepted they are settled
 judged-only : {A : Type 0} (x y : A) (g : Found) (R S : Refusal → Type 0) (P Q : Type 0) → ((f : Refusal) → R f → S f → x ≡ y)
@@ -81,22 +81,40 @@ bound-unique t s x y =
     let c = bound-clean t s e in
     p .1 ∙ ap boundSaid (bound-only (taskOf t) (c .0) (stateOf s) (c .1) (p .0) (q .0) (p .2) (q .2)) ∙ sym (q .1))
 
+-- where rounds are answered, nothing was at fault and the table holds the distances
+pub rounds-given : (t : Tables) (m : ℕ) (out out′ : List ℕ) (r : ℕ) → DistancesGiven t m out (distances.Rounds r) out′
+    → (distancesFault t m out ≡ Clean) × DistancesOf (taskOf t) m out r out′
+rounds-given t m out out′ r = pick (distancesFault t m out)
+  where
+    pick : (g : Found)
+        → Judged g (λ f. (distances.Rounds r ≡ distances.Refused f) × (out′ ≡ out))
+        ((k : ℕ) × (distances.Rounds r ≡ distances.Rounds k) × DistancesOf (taskOf t) m out k out′)
+        → (g ≡ Clean) × DistancesOf (taskOf t) m out r out′
+    pick Clean p =
+        let q = p .1 in
+        let k : p .0 ≡ r = cc in
+        (refl, subst (λ (x : ℕ). DistancesOf (taskOf t) m out x out′) k (p .2))
+    pick (Fault f) p =
+        let q = p .0 in
+        absurd (let z : _≡_ {A = ℕ} 0 1 = cc in omega arith)
+
 -- the rounds never pass the number of abstract states
 pub rounds-within-states : (t : Tables) (m : ℕ) (out out′ : List ℕ) (r : ℕ) → DistancesGiven t m out (distances.Rounds r) out′
     → r ≤ abstractStates (sasOf t) (view (taskOf t) m)
-rounds-within-states t m out out′ r = pick (distancesFault t m out) refl
-  where
-    pick : (g : Found) → distancesFault t m out ≡ g
-        → Judged g (λ f. (distances.Rounds r ≡ distances.Refused f) × (out′ ≡ out)) ((k : ℕ) × (distances.Rounds r ≡ distances.Rounds k) × DistancesOf (taskOf t) m out k out′)
-        → r ≤ abstractStates (sasOf t) (view (taskOf t) m)
-    pick Clean e p =
-        let c = distances-clean t m out e in
-        let q = p .1 in
-        let k : r ≡ p .0 = cc in
-        omega (arith, distances-rounds-most (taskOf t) (c .0) m (c .1) out out′ (p .0) (p .2))
-    pick (Fault f) e p =
-        let q = p .0 in
-        absurd (let z : _≡_ {A = ℕ} 0 1 = cc in omega arith)
+rounds-within-states t m out out′ r given =
+    let D = rounds-given t m out out′ r given in
+    let c = distances-clean t m out (D .0) in
+    distances-rounds-most (taskOf t) (c .0) m (c .1) out out′ r (D .1)
+
+-- a state's distance is what the map's table says of its image
+pub distance-in-table : (t : Tables) (m : ℕ) (out out′ s : List ℕ) (r : ℕ) → DistancesGiven t m out (distances.Rounds r) out′
+    → distanceFault t m s ≡ Clean → DistanceGiven t m s (distanceSaid (read out′ (α (sasOf t) (view (taskOf t) m) (stateOf s))))
+distance-in-table t m out out′ s r given e =
+    let D = rounds-given t m out out′ r given in
+    let c = distance-clean t m s e in
+    let a = α (sasOf t) (view (taskOf t) m) (stateOf s) in
+    judged-clean (distanceFault t m s) _ _ e
+    (read out′ a, refl, D .1 .distances a (image-inside (taskOf t) (c .0) m (c .1) (stateOf s) (c .2)))
 
 -- DEMAND 3, over the answers of `bound`
 module _ (t : Tables) (s : List ℕ) where

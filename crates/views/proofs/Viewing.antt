@@ -1,11 +1,11 @@
 -- The task of a map's classes spells the map's view: what is walked there are the view's least costs and rounds. Assumes nothing.
-use mathlib.Core.Path.{_≡_, refl, sym, ap, _∙_, subst}
+use mathlib.Core.Path.{_≡_, refl, ap, _∙_}
 use mathlib.Core.List.{List, []}
 use Prim.Native.Nat.{ℕ, _-_, _≤_, _<_, zero-le}
 use native.Mathlib.Omega.{arith}
 use lib.ListN.{getD}
 use Rattle.meaning.specs.Sas.{IsState}
-use Rattle.meaning.specs.Views.{seen, α, abstractStates, Onto, classTask, viewGraph}
+use Rattle.meaning.specs.Views.{seen, Onto, classTask, viewGraph}
 use Rattle.meaning.specs.Split.{countOf, view, Valid}
 use Rattle.meaning.specs.Bound.{distance, away}
 use Rattle.meaning.proofs.Induced.{seen-below, α-below}

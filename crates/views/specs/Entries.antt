@@ -48,7 +48,7 @@ noSuchMap t m = unless (ltb m (t .counts .maps)) (OutOfRange 0)
 unfoldable pub askedFault : Tables → ℕ → Found
 askedFault t m = tablesFault t then noSuchMap t m
 
--- 8 for every lent table before all
+-- 8 for every lent table before all: for the distance table here, and for the others as the first of the tables' faults
 unfoldable pub distancesFault : Tables → ℕ → List ℕ → Found
 distancesFault t m out = unless (leb 4096 (length out)) TableTooShort then askedFault t m
 

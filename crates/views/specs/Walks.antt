@@ -3,7 +3,6 @@
 use mathlib.Core.Path.{_≡_}
 use mathlib.Core.List.{List, []}
 use Prim.Native.Nat.{ℕ, _≤_, _<_}
-use lib.ListN.{getD}
 use Rattle.graph.specs.Graph.{Next, stop, to, Graph}
 use Rattle.meaning.specs.Numbering.{size, number, digit}
 use Rattle.meaning.specs.Views.{toIf, space}

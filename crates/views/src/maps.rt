@@ -5,7 +5,7 @@ ghost use Prim.Native.Nat.{ℕ, _+_, _≤_, _<_};
 ghost use lib.ListN.{length, getD};
 ghost use Rattle.meaning.specs.Sas.{IsState};
 ghost use Rattle.meaning.specs.Split.{Valid};
-ghost use Rattle.meaning.specs.Bound.{away, join, summed};
+ghost use Rattle.meaning.specs.Bound.{away};
 ghost use Rattle.tables.specs.Layout.{shareAt};
 ghost use Rattle.tables.specs.Task.{taskOf, tables, stateOf};
 ghost use Rattle.views.specs.Said.{said};

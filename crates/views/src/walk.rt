@@ -1,8 +1,8 @@
 // One step among numbered states. The facts stand in the lent tables' layout; their values may be classes.
 ghost use mathlib.Core.Path.{_≡_};
-ghost use Prim.Native.Nat.{ℕ, _≤_, _<_};
+ghost use Prim.Native.Nat.{_≤_, _<_};
 ghost use Rattle.meaning.specs.Numbering.{size, Positive, Digits};
-ghost use Rattle.tables.specs.Layout.{domAt, effRow};
+ghost use Rattle.tables.specs.Layout.{domAt};
 ghost use Rattle.tables.specs.Task.{stateOf};
 ghost use Rattle.tables.specs.Steps.{valueAfter};
 ghost use Rattle.views.specs.Walks.{Walkable, Spells, nextOf, numberAfter, stepOf};

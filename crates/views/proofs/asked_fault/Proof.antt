@@ -21,22 +21,27 @@ returns : tie.Need-returns
 unfolding askedFault
 returns c =
     let a = c .before .before .before .before .before .before .args in
+    let tables-fault = c .before .before .tables-fault in
     let t = tables (a .c) (a .facts .now) (a .costs .now) (a .shares .now) in
-    hands-on (tablesFault t) (noSuchMap t (a .map)) (c .before .before .tables-fault .result) (c .enum-told2 .given .0 .0) (c .before .before .tables-fault .ensures) (c .enum-told2 .given .1)
+    hands-on (tablesFault t) (noSuchMap t (a .map)) (tables-fault .result) (c .enum-told2 .given .0 .0) (tables-fault .ensures) (c .enum-told2 .given .1)
 
 returns-2 : tie.Need-returns-2
 unfolding askedFault
 returns-2 c =
     let a = c .before .before .before .before .before .before .before .before .args in
+    let tables-fault = c .before .before .before .before .tables-fault in
+    let enum-told = c .before .before .enum-told in
     let t = tables (a .c) (a .facts .now) (a .costs .now) (a .shares .now) in
-    map-there t (a .map) (c .if1 .taken) ∙ goes-on (tablesFault t) (noSuchMap t (a .map)) (c .before .before .before .before .tables-fault .result) (c .before .before .before .before .tables-fault .ensures) (c .before .before .enum-told .given .1)
+    map-there t (a .map) (c .if1 .taken) ∙ goes-on (tablesFault t) (noSuchMap t (a .map)) (tables-fault .result) (tables-fault .ensures) (enum-told .given .1)
 
 returns-3 : tie.Need-returns-3
 unfolding askedFault
 returns-3 c =
     let a = c .before .before .before .before .before .before .before .before .args in
+    let tables-fault = c .before .before .before .before .tables-fault in
+    let enum-told = c .before .before .enum-told in
     let t = tables (a .c) (a .facts .now) (a .costs .now) (a .shares .now) in
-    map-missing t (a .map) (c .if1 .left) ∙ goes-on (tablesFault t) (noSuchMap t (a .map)) (c .before .before .before .before .tables-fault .result) (c .before .before .before .before .tables-fault .ensures) (c .before .before .enum-told .given .1)
+    map-missing t (a .map) (c .if1 .left) ∙ goes-on (tablesFault t) (noSuchMap t (a .map)) (tables-fault .result) (tables-fault .ensures) (enum-told .given .1)
 
 pub asked-fault-spec : {M : Type 1} → statement M
 asked-fault-spec =

@@ -21,8 +21,9 @@ returns : tie.Need-returns
 unfolding boundFault
 returns c =
     let a = c .before .before .before .before .before .before .before .args in
+    let tables-fault = c .before .before .tables-fault in
     let t = tables (a .c) (a .facts .now) (a .costs .now) (a .shares .now) in
-    hands-on (tablesFault t) (stateFault (a .c) (a .facts .now) (a .s .now)) (c .before .before .tables-fault .result) (c .enum-told2 .given .0 .0) (c .before .before .tables-fault .ensures) (c .enum-told2 .given .1)
+    hands-on (tablesFault t) (stateFault (a .c) (a .facts .now) (a .s .now)) (tables-fault .result) (c .enum-told2 .given .0 .0) (tables-fault .ensures) (c .enum-told2 .given .1)
 
 state-fault-requires : tie.Need-state-fault-requires
 state-fault-requires c κs = search needs
@@ -31,8 +32,9 @@ returns-2 : tie.Need-returns-2
 unfolding boundFault
 returns-2 c =
     let a = c .before .before .before .before .before .before .before .before .args in
+    let tables-fault = c .before .before .before .tables-fault in
     let t = tables (a .c) (a .facts .now) (a .costs .now) (a .shares .now) in
-    c .state-fault .ensures ∙ goes-on (tablesFault t) (stateFault (a .c) (a .facts .now) (a .s .now)) (c .before .before .before .tables-fault .result) (c .before .before .before .tables-fault .ensures) (c .before .enum-told .given .1)
+    c .state-fault .ensures ∙ goes-on (tablesFault t) (stateFault (a .c) (a .facts .now) (a .s .now)) (tables-fault .result) (tables-fault .ensures) (c .before .enum-told .given .1)
 
 pub bound-fault-spec : {M : Type 1} → statement M
 bound-fault-spec =

@@ -21,8 +21,9 @@ returns : tie.Need-returns
 unfolding distanceFault
 returns c =
     let a = c .before .before .before .before .before .before .before .args in
+    let asked-fault = c .before .before .asked-fault in
     let t = tables (a .c) (a .facts .now) (a .costs .now) (a .shares .now) in
-    hands-on (askedFault t (a .map)) (stateFault (a .c) (a .facts .now) (a .s .now)) (c .before .before .asked-fault .result) (c .enum-told2 .given .0 .0) (c .before .before .asked-fault .ensures) (c .enum-told2 .given .1)
+    hands-on (askedFault t (a .map)) (stateFault (a .c) (a .facts .now) (a .s .now)) (asked-fault .result) (c .enum-told2 .given .0 .0) (asked-fault .ensures) (c .enum-told2 .given .1)
 
 state-fault-requires : tie.Need-state-fault-requires
 state-fault-requires c κs = search needs
@@ -31,8 +32,9 @@ returns-2 : tie.Need-returns-2
 unfolding distanceFault
 returns-2 c =
     let a = c .before .before .before .before .before .before .before .before .args in
+    let asked-fault = c .before .before .before .asked-fault in
     let t = tables (a .c) (a .facts .now) (a .costs .now) (a .shares .now) in
-    c .state-fault .ensures ∙ goes-on (askedFault t (a .map)) (stateFault (a .c) (a .facts .now) (a .s .now)) (c .before .before .before .asked-fault .result) (c .before .before .before .asked-fault .ensures) (c .before .enum-told .given .1)
+    c .state-fault .ensures ∙ goes-on (askedFault t (a .map)) (stateFault (a .c) (a .facts .now) (a .s .now)) (asked-fault .result) (asked-fault .ensures) (c .before .enum-told .given .1)
 
 pub distance-fault-spec : {M : Type 1} → statement M
 distance-fault-spec =

@@ -1,6 +1,5 @@
 -- `distances` meets its contract: the map's own shares are the prices. Assumes nothing.
 use borrow.Author.Needs.{needs}
-use Prim.Native.Nat.{ℕ}
 use mathlib.Core.Path.{sym, _∙_}
 use native.Mathlib.Omega.{arith}
 use Rattle.tables.specs.Task.{tables}
@@ -32,17 +31,23 @@ slice-aggregate-view-rounds c = search needs
 view-rounds-requires : tie.Need-view-rounds-requires
 view-rounds-requires c κs =
     let a = c .before .before .before .before .before .before .before .before .before .before .before .args in
-    let q = asked-clean (tables (a .c) (a .facts .now) (a .costs .now) (a .shares .now)) (a .map) (sym (c .before .before .before .before .before .asked-fault .ensures) ∙ c .before .before .before .enum-told .given .1) in (
+    let if1 = c .before .before .before .before .before .before .if1 in
+    let asked-fault = c .before .before .before .before .before .asked-fault in
+    let enum-told = c .before .before .before .enum-told in
+    let share-row = c .before .before .share-row in
+    let q = asked-clean (tables (a .c) (a .facts .now) (a .costs .now) (a .shares .now)) (a .map) (sym (asked-fault .ensures) ∙ enum-told .given .1) in (
       valid-unpriced (a .c) (a .facts .now) (a .costs .now) (a .shares .now) (q .0),
       q .1,
-      shares-priced (a .c) (a .shares .now) (a .map) (c .before .before .share-row .result) (q .0 .ops) (c .before .before .share-row .ensures) (λ o l. q .0 .shares (a .map) o (q .1) l),
-      c .before .before .before .before .before .before .if1 .left,
+      shares-priced (a .c) (a .shares .now) (a .map) (share-row .result) (q .0 .ops) (share-row .ensures) (λ o l. q .0 .shares (a .map) o (q .1) l),
+      if1 .left,
     )
 
 returns-2 : tie.Need-returns-2
 returns-2 c =
     let a = c .before .before .before .before .before .before .before .before .before .args in
-    given-refused (tables (a .c) (a .facts .now) (a .costs .now) (a .shares .now)) (a .map) (a .out .now) (c .before .found .given .0 .0) (c .before .before .before .before .if1 .left) (sym (c .before .before .before .asked-fault .ensures) ∙ c .before .found .given .1)
+    let if1 = c .before .before .before .before .if1 in
+    let asked-fault = c .before .before .before .asked-fault in
+    given-refused (tables (a .c) (a .facts .now) (a .costs .now) (a .shares .now)) (a .map) (a .out .now) (c .before .found .given .0 .0) (if1 .left) (sym (asked-fault .ensures) ∙ c .before .found .given .1)
 
 same-length : tie.Need-same-length
 same-length c = search needs
@@ -50,10 +55,15 @@ same-length c = search needs
 returns-3 : tie.Need-returns-3
 returns-3 c =
     let a = c .before .before .before .before .before .before .before .before .before .before .before .before .before .before .args in
-    let e = sym (c .before .before .before .before .before .before .before .before .asked-fault .ensures) ∙ c .before .before .before .before .before .before .enum-told .given .1 in
+    let if1 = c .before .before .before .before .before .before .before .before .before .if1 in
+    let asked-fault = c .before .before .before .before .before .before .before .before .asked-fault in
+    let enum-told = c .before .before .before .before .before .before .enum-told in
+    let share-row = c .before .before .before .before .before .share-row in
+    let view-rounds = c .before .before .view-rounds in
+    let e = sym (asked-fault .ensures) ∙ enum-told .given .1 in
     let q = asked-clean (tables (a .c) (a .facts .now) (a .costs .now) (a .shares .now)) (a .map) e in
-    given-rounds (a .c) (a .facts .now) (a .costs .now) (a .shares .now) (a .map) (c .before .before .before .before .before .share-row .result) (a .out .now) (c .before .before .view-rounds .last .1 .1 .1 .1 .0) (c .before .before .view-rounds .result)
-    (λ o l. c .before .before .before .before .before .share-row .ensures o (omega (arith, q .0 .ops))) (c .before .before .before .before .before .before .before .before .before .if1 .left) e (c .before .before .view-rounds .ensures)
+    given-rounds (a .c) (a .facts .now) (a .costs .now) (a .shares .now) (a .map) (share-row .result) (a .out .now) (view-rounds .last .1 .1 .1 .1 .0) (view-rounds .result)
+    (λ o l. share-row .ensures o (omega (arith, q .0 .ops))) (if1 .left) e (view-rounds .ensures)
 
 pub distances-spec : {M : Type 1} → statement M
 distances-spec =

@@ -1,7 +1,7 @@
 -- `classes::class_facts` meets its contract: the numbers of classes of the variables passed so far are in the first row. Assumes nothing.
 use borrow.Author.Needs.{needs}
-use Prim.Native.Nat.{ℕ, _≤_, _<_, _-_}
-use mathlib.Core.Path.{_≡_, refl}
+use Prim.Native.Nat.{_≤_, _<_, _-_}
+use mathlib.Core.Path.{_≡_}
 use native.Mathlib.Omega.{arith}
 use lib.ListN.{length}
 use Rattle.meaning.specs.Split.{countOf}
@@ -26,13 +26,17 @@ loop-holds : tie.Need-loop-holds Inv-loop μ-loop
 loop-holds c = (omega arith, made-none _ _)
 
 class-count-requires : tie.Need-class-count-requires Inv-loop μ-loop
-class-count-requires c κs = (c .before .before .before .before .pre .0, c .before .before .before .before .pre .1, c .loop-test .taken)
+class-count-requires c κs =
+    let pre = c .before .before .before .before .pre in
+    (pre .0, pre .1, c .loop-test .taken)
 
 cast-t : tie.Need-cast-t Inv-loop μ-loop
 cast-t c = search needs
 
 array-write-t : tie.Need-array-write-t Inv-loop μ-loop
-array-write-t c = omega (arith, c .before .loop-test .taken, c .before .before .before .before .before .pre .0 .vars .1)
+array-write-t c =
+    let pre = c .before .before .before .before .before .pre in
+    omega (arith, c .before .loop-test .taken, pre .0 .vars .1)
 
 add-v : tie.Need-add-v Inv-loop μ-loop
 add-v c = search needs
@@ -42,15 +46,19 @@ loop-less c = search needs
 
 loop-again : tie.Need-loop-again Inv-loop μ-loop
 loop-again c =
+    let pre = c .before .before .before .before .before .pre in
+    let seen-facts = c .before .before .before .seen-facts in
     let l = c .before .before .loop in
-    let inside : l .v < length (l .t) = omega (arith, l .inv .1 .size, c .before .before .before .seen-facts .ensures .0, c .before .loop-test .taken, c .before .before .before .before .before .pre .0 .vars .1) in
+    let inside : l .v < length (l .t) = omega (arith, l .inv .1 .size, seen-facts .ensures .0, c .before .loop-test .taken, pre .0 .vars .1) in
     (search needs, made-more _ _ (l .v) (c .class-count .result) (l .t) inside (l .inv .1) (c .class-count .ensures))
 
 returns : tie.Need-returns Inv-loop μ-loop
 returns c =
+    let pre = c .before .before .before .before .pre in
     let a = c .before .before .before .before .args in
+    let seen-facts = c .before .before .seen-facts in
     let l = c .before .loop in
-    classed (a .c) (a .facts .now) (a .m) (c .before .before .seen-facts .result) (l .t) (c .before .before .before .before .pre .0 .vars .1) (c .before .before .seen-facts .ensures .1)
+    classed (a .c) (a .facts .now) (a .m) (seen-facts .result) (l .t) (pre .0 .vars .1) (seen-facts .ensures .1)
     (made-end _ _ (a .c .vars) (l .v) (l .t) (l .inv .1) (l .inv .0) (c .loop-test .left))
 
 pub class-facts-spec : {M : Type 1} → statement M

@@ -1,6 +1,6 @@
 -- `classes::image_of` meets its contract: the classes of the variables passed so far are in the number. Assumes nothing.
 use borrow.Author.Needs.{needs}
-use Prim.Native.Nat.{ℕ, _-_}
+use Prim.Native.Nat.{_-_}
 use mathlib.Core.Path.{refl, _∙_}
 use mathlib.Core.List.{[]}
 use native.Mathlib.Omega.{arith}
@@ -21,11 +21,14 @@ abbrev μ-loop : tie.MeasureT-loop
 
 loop-holds : tie.Need-loop-holds Inv-loop μ-loop
 loop-holds c =
-    let W = viewOf (c .before .before .args .facts .now) (c .before .before .args .m) [] in
-    numbered-none (W .classes) (image W (stateOf (c .before .before .args .s .now))) (c .before .before .args .c .vars)
+    let args = c .before .before .args in
+    let W = viewOf (args .facts .now) (args .m) [] in
+    numbered-none (W .classes) (image W (stateOf (args .s .now))) (args .c .vars)
 
 class-row-requires : tie.Need-class-row-requires Inv-loop μ-loop
-class-row-requires c κs = (omega (arith, c .before .before .before .before .pre .1, c .before .before .before .before .pre .0 .maps .1), omega (arith, c .loop-test .taken, c .before .before .before .before .pre .0 .vars .1))
+class-row-requires c κs =
+    let pre = c .before .before .before .before .pre in
+    (omega (arith, pre .1, pre .0 .maps .1), omega (arith, c .loop-test .taken, pre .0 .vars .1))
 
 cast-byte-at : tie.Need-cast-byte-at Inv-loop μ-loop
 cast-byte-at c = search needs
@@ -44,25 +47,40 @@ wide-requires-2 c κs = search needs
 
 add-b : tie.Need-add-b Inv-loop μ-loop
 add-b c =
+    let pre = c .before .before .before .before .before .before .before .before .before .pre in
     let a = c .before .before .before .before .before .before .before .before .before .args in
     let l = c .before .before .before .before .before .before .loop in
-    let x = class-is (a .c) (a .facts .now) (a .m) (c .before .before .before .before .before .before .before .before .before .pre .0) (c .before .before .before .before .before .before .before .before .before .pre .1) (a .s .now) (l .v) (c .before .before .wide .result) (c .before .before .before .before .class-row .result) (c .before .row-at .result) (c .wide2 .result)
-    (c .before .before .before .before .class-row .ensures) (c .before .before .wide .ensures .0 ∙ c .before .before .before .byte-at .ensures) (c .before .row-at .ensures) (c .wide2 .ensures .0) in
-    omega (arith, image-next (a .c) (a .facts .now) (a .m) (c .before .before .before .before .before .before .before .before .before .pre .0) (c .before .before .before .before .before .before .before .before .before .pre .1) (a .s .now) (c .before .before .before .before .before .before .before .before .before .pre .2) (l .v) (l .stride) (l .b) (l .inv) (c .before .before .before .before .before .loop-test .taken) (c .wide2 .result) _ x refl .1)
+    let loop-test = c .before .before .before .before .before .loop-test in
+    let class-row = c .before .before .before .before .class-row in
+    let byte-at = c .before .before .before .byte-at in
+    let wide = c .before .before .wide in
+    let x = class-is (a .c) (a .facts .now) (a .m) (pre .0) (pre .1) (a .s .now) (l .v) (wide .result) (class-row .result) (c .before .row-at .result) (c .wide2 .result)
+    (class-row .ensures) (wide .ensures .0 ∙ byte-at .ensures) (c .before .row-at .ensures) (c .wide2 .ensures .0) in
+    omega (arith, image-next (a .c) (a .facts .now) (a .m) (pre .0) (pre .1) (a .s .now) (pre .2) (l .v) (l .stride) (l .b) (l .inv) (loop-test .taken) (c .wide2 .result) _ x refl .1)
 
 class-count-requires : tie.Need-class-count-requires Inv-loop μ-loop
-class-count-requires c κs = (c .before .before .before .before .before .before .before .before .before .pre .0, c .before .before .before .before .before .before .before .before .before .pre .1, c .before .before .before .before .before .loop-test .taken)
+class-count-requires c κs =
+    let pre = c .before .before .before .before .before .before .before .before .before .pre in
+    let loop-test = c .before .before .before .before .before .loop-test in
+    (pre .0, pre .1, loop-test .taken)
 
 wide-requires-3 : tie.Need-wide-requires-3 Inv-loop μ-loop
 wide-requires-3 c κs = search needs
 
 mul-stride : tie.Need-mul-stride Inv-loop μ-loop
 mul-stride c =
+    let pre = c .before .before .before .before .before .before .before .before .before .before .before .pre in
     let a = c .before .before .before .before .before .before .before .before .before .before .before .args in
     let l = c .before .before .before .before .before .before .before .before .loop in
-    let x = class-is (a .c) (a .facts .now) (a .m) (c .before .before .before .before .before .before .before .before .before .before .before .pre .0) (c .before .before .before .before .before .before .before .before .before .before .before .pre .1) (a .s .now) (l .v) (c .before .before .before .before .wide .result) (c .before .before .before .before .before .before .class-row .result) (c .before .before .before .row-at .result) (c .before .before .wide2 .result)
-    (c .before .before .before .before .before .before .class-row .ensures) (c .before .before .before .before .wide .ensures .0 ∙ c .before .before .before .before .before .byte-at .ensures) (c .before .before .before .row-at .ensures) (c .before .before .wide2 .ensures .0) in
-    omega (arith, image-next (a .c) (a .facts .now) (a .m) (c .before .before .before .before .before .before .before .before .before .before .before .pre .0) (c .before .before .before .before .before .before .before .before .before .before .before .pre .1) (a .s .now) (c .before .before .before .before .before .before .before .before .before .before .before .pre .2) (l .v) (l .stride) (l .b) (l .inv) (c .before .before .before .before .before .before .before .loop-test .taken) (c .before .before .wide2 .result) (c .wide3 .result) x (c .wide3 .ensures .0 ∙ c .before .class-count .ensures) .0)
+    let loop-test = c .before .before .before .before .before .before .before .loop-test in
+    let class-row = c .before .before .before .before .before .before .class-row in
+    let byte-at = c .before .before .before .before .before .byte-at in
+    let wide = c .before .before .before .before .wide in
+    let row-at = c .before .before .before .row-at in
+    let wide2 = c .before .before .wide2 in
+    let x = class-is (a .c) (a .facts .now) (a .m) (pre .0) (pre .1) (a .s .now) (l .v) (wide .result) (class-row .result) (row-at .result) (wide2 .result)
+    (class-row .ensures) (wide .ensures .0 ∙ byte-at .ensures) (row-at .ensures) (wide2 .ensures .0) in
+    omega (arith, image-next (a .c) (a .facts .now) (a .m) (pre .0) (pre .1) (a .s .now) (pre .2) (l .v) (l .stride) (l .b) (l .inv) (loop-test .taken) (wide2 .result) (c .wide3 .result) x (c .wide3 .ensures .0 ∙ c .before .class-count .ensures) .0)
 
 add-v : tie.Need-add-v Inv-loop μ-loop
 add-v c = search needs
@@ -72,13 +90,20 @@ loop-less c = search needs
 
 loop-again : tie.Need-loop-again Inv-loop μ-loop
 loop-again c =
+    let pre = c .before .before .before .before .before .before .before .before .before .before .before .pre in
     let a = c .before .before .before .before .before .before .before .before .before .before .before .args in
     let l = c .before .before .before .before .before .before .before .before .loop in
+    let loop-test = c .before .before .before .before .before .before .before .loop-test in
+    let class-row = c .before .before .before .before .before .before .class-row in
+    let byte-at = c .before .before .before .before .before .byte-at in
+    let wide = c .before .before .before .before .wide in
+    let row-at = c .before .before .before .row-at in
+    let wide2 = c .before .before .wide2 in
     let W = viewOf (a .facts .now) (a .m) [] in
-    let x = class-is (a .c) (a .facts .now) (a .m) (c .before .before .before .before .before .before .before .before .before .before .before .pre .0) (c .before .before .before .before .before .before .before .before .before .before .before .pre .1) (a .s .now) (l .v) (c .before .before .before .before .wide .result) (c .before .before .before .before .before .before .class-row .result) (c .before .before .before .row-at .result) (c .before .before .wide2 .result)
-    (c .before .before .before .before .before .before .class-row .ensures) (c .before .before .before .before .wide .ensures .0 ∙ c .before .before .before .before .before .byte-at .ensures) (c .before .before .before .row-at .ensures) (c .before .before .wide2 .ensures .0) in
-    numbered-more (W .classes) (image W (stateOf (a .s .now))) (a .c .vars) (l .v) (l .stride) (l .b) (l .inv) (c .before .before .before .before .before .before .before .loop-test .taken)
-    (c .before .before .wide2 .result) (c .wide3 .result) x (c .wide3 .ensures .0 ∙ c .before .class-count .ensures)
+    let x = class-is (a .c) (a .facts .now) (a .m) (pre .0) (pre .1) (a .s .now) (l .v) (wide .result) (class-row .result) (row-at .result) (wide2 .result)
+    (class-row .ensures) (wide .ensures .0 ∙ byte-at .ensures) (row-at .ensures) (wide2 .ensures .0) in
+    numbered-more (W .classes) (image W (stateOf (a .s .now))) (a .c .vars) (l .v) (l .stride) (l .b) (l .inv) (loop-test .taken)
+    (wide2 .result) (c .wide3 .result) x (c .wide3 .ensures .0 ∙ c .before .class-count .ensures)
 
 returns : tie.Need-returns Inv-loop μ-loop
 returns c =

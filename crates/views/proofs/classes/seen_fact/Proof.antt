@@ -31,15 +31,20 @@ add-result c = search needs
 returns-2 : tie.Need-returns-2
 returns-2 c =
     let a = c .before .before .before .before .before .before .args in
+    let if1 = c .before .before .before .before .if1 in
+    let class-row = c .before .before .before .class-row in
+    let wide = c .before .before .wide in
     let e : c .before .row-at .result ≡ classAt (a .facts .now) (a .m) (a .v) (a .fact - 1) =
-    c .before .row-at .ensures ∙ ap₂ (rowAt (a .facts .now)) (c .before .before .before .class-row .ensures) (c .before .before .wide .ensures .0) in
-    λ h. ap (λ (x : ℕ). x + 1) e ∙ seen-said (classAt (a .facts .now) (a .m) (a .v)) (a .fact) (c .before .before .before .before .if1 .left)
+    c .before .row-at .ensures ∙ ap₂ (rowAt (a .facts .now)) (class-row .ensures) (wide .ensures .0) in
+    λ h. ap (λ (x : ℕ). x + 1) e ∙ seen-said (classAt (a .facts .now) (a .m) (a .v)) (a .fact) (if1 .left)
 
 returns-3 : tie.Need-returns-3
 returns-3 c =
     let a = c .before .before .before .before .before .before .args in
+    let class-row = c .before .before .before .class-row in
+    let wide = c .before .before .wide in
     let e : c .before .row-at .result ≡ classAt (a .facts .now) (a .m) (a .v) (a .fact - 1) =
-    c .before .row-at .ensures ∙ ap₂ (rowAt (a .facts .now)) (c .before .before .before .class-row .ensures) (c .before .before .wide .ensures .0) in
+    c .before .row-at .ensures ∙ ap₂ (rowAt (a .facts .now)) (class-row .ensures) (wide .ensures .0) in
     λ h. omega (arith, e, c .if2 .left)
 
 pub seen-fact-spec : {M : Type 1} → statement M

@@ -1,8 +1,7 @@
 -- `classes::seen_facts` meets its contract: the places passed so far are seen by classes. Assumes nothing.
 use borrow.Author.Needs.{needs}
 use Prim.Native.Nat.{ℕ, _≤_, _<_, _-_, _%_}
-use mathlib.Core.Path.{_≡_, refl, _∙_, subst}
-use native.Mathlib.Nat.{mod-lt}
+use mathlib.Core.Path.{_≡_, refl, subst}
 use native.Mathlib.Omega.{arith}
 use lib.ListN.{length}
 use Rattle.meaning.specs.Views.{seen}

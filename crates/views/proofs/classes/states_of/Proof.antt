@@ -1,6 +1,6 @@
 -- `classes::states_of` meets its contract: the number so far is the product over the variables passed so far. Assumes nothing.
 use borrow.Author.Needs.{needs}
-use Prim.Native.Nat.{ℕ, _≤_, _<_, _-_}
+use Prim.Native.Nat.{_≤_, _-_}
 use mathlib.Core.Path.{_≡_, refl, ap, _∙_}
 use native.Mathlib.Omega.{arith}
 use Rattle.meaning.specs.Numbering.{size}
@@ -26,9 +26,11 @@ wide-requires c κs = search needs
 
 mul-n : tie.Need-mul-n Inv-loop μ-loop
 mul-n c =
+    let pre = c .before .before .before .before .before .pre in
     let a = c .before .before .before .before .before .args in
     let l = c .before .before .before .loop in
-    omega (arith, product-small (domAt (a .facts .now)) (a .c .vars) (l .v) (l .n) (c .wide .result) (c .before .before .before .before .before .pre .values) (c .before .before .before .before .before .pre .few) (c .before .before .loop-test .taken) (l .inv .1) (c .wide .ensures .0 ∙ c .before .row-at .ensures))
+    let loop-test = c .before .before .loop-test in
+    omega (arith, product-small (domAt (a .facts .now)) (a .c .vars) (l .v) (l .n) (c .wide .result) (pre .values) (pre .few) (loop-test .taken) (l .inv .1) (c .wide .ensures .0 ∙ c .before .row-at .ensures))
 
 add-v : tie.Need-add-v Inv-loop μ-loop
 add-v c = search needs

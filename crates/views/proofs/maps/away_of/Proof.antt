@@ -1,9 +1,7 @@
 -- `maps::away_of` meets its contract: the map's table says its distance at the state's image. Assumes nothing.
 use borrow.Author.Needs.{needs}
-use Prim.Native.Nat.{ℕ, _<_}
 use mathlib.Core.Path.{_∙_}
 use native.Mathlib.Omega.{arith}
-use Rattle.views.specs.Sweeps.{Priced}
 use Rattle.views.proofs.Viewing.{image-below, away-said, shares-priced}
 use Rattle.views.proofs.maps.away_of.Statement.{statement}
 use Rattle.views.proofs.maps.away_of.Tie as tie
@@ -19,11 +17,15 @@ slice-aggregate-view-rounds-2 c = search needs
 
 view-rounds-requires : tie.Need-view-rounds-requires
 view-rounds-requires c κs =
+    let pre = c .before .before .before .before .before .before .pre in
     let a = c .before .before .before .before .before .before .args in
-    (c .before .before .before .before .before .before .pre .0, c .before .before .before .before .before .before .pre .1, shares-priced (a .c) (a .shares .now) (a .map) (c .before .before .share-row .result) (c .before .before .before .before .before .before .pre .0 .ops) (c .before .before .share-row .ensures) (c .before .before .before .before .before .before .pre .2), omega arith)
+    let share-row = c .before .before .share-row in
+    (pre .0, pre .1, shares-priced (a .c) (a .shares .now) (a .map) (share-row .result) (pre .0 .ops) (share-row .ensures) (pre .2), omega arith)
 
 image-of-requires : tie.Need-image-of-requires
-image-of-requires c κs = (c .before .before .before .before .before .before .before .before .pre .0, c .before .before .before .before .before .before .before .before .pre .1, c .before .before .before .before .before .before .before .before .pre .3)
+image-of-requires c κs =
+    let pre = c .before .before .before .before .before .before .before .before .pre in
+    (pre .0, pre .1, pre .3)
 
 state-index-requires : tie.Need-state-index-requires
 state-index-requires c κs = search needs
@@ -33,20 +35,24 @@ mul-result c = search needs
 
 array-read-result : tie.Need-array-read-result
 array-read-result c =
+    let pre = c .before .before .before .before .before .before .before .before .before .before .pre in
     let a = c .before .before .before .before .before .before .before .before .before .before .args in
     omega (
       arith,
-      image-below (a .c) (a .facts .now) (a .shares .now) (a .map) (c .before .before .before .before .before .before .before .before .before .before .pre .0) (c .before .before .before .before .before .before .before .before .before .before .pre .1) (a .s .now) (c .before .before .before .before .before .before .before .before .before .before .pre .3),
-      c .before .before .before .before .before .before .before .before .before .before .pre .0 .few-states (a .map) (c .before .before .before .before .before .before .before .before .before .before .pre .1),
+      image-below (a .c) (a .facts .now) (a .shares .now) (a .map) (pre .0) (pre .1) (a .s .now) (pre .3),
+      pre .0 .few-states (a .map) (pre .1),
       c .state-index .ensures,
       c .before .image-of .ensures,
     )
 
 returns : tie.Need-returns
 returns c =
+    let pre = c .before .before .before .before .before .before .before .before .before .before .pre in
     let a = c .before .before .before .before .before .before .before .before .before .before .args in
-    away-said (a .c) (a .facts .now) (a .shares .now) (a .map) (c .before .before .before .before .before .before .before .before .before .before .pre .0) (c .before .before .before .before .before .before .before .before .before .before .pre .1) (c .before .before .before .before .before .before .share-row .result) _ (c .before .before .before .view-rounds .last .1 .1 .1 .1 .0) (a .s .now)
-    (c .before .before .before .view-rounds .result) (c .state-index .result) (λ o l. c .before .before .before .before .before .before .share-row .ensures o (omega (arith, c .before .before .before .before .before .before .before .before .before .before .pre .0 .ops))) (c .before .before .before .view-rounds .ensures) (c .before .before .before .before .before .before .before .before .before .before .pre .3)
+    let share-row = c .before .before .before .before .before .before .share-row in
+    let view-rounds = c .before .before .before .view-rounds in
+    away-said (a .c) (a .facts .now) (a .shares .now) (a .map) (pre .0) (pre .1) (share-row .result) _ (view-rounds .last .1 .1 .1 .1 .0) (a .s .now)
+    (view-rounds .result) (c .state-index .result) (λ o l. share-row .ensures o (omega (arith, pre .0 .ops))) (view-rounds .ensures) (pre .3)
     (c .state-index .ensures ∙ c .before .image-of .ensures)
 
 pub away-of-spec : {M : Type 1} → statement M

@@ -15,7 +15,8 @@ add-t6 c = search needs
 returns-2 : tie.Need-returns-2
 returns-2 c =
     let a = c .before .before .before .args in
-    (join-number (a .sum .any) (a .sum .total) (a .distance) (c .before .if2 .taken) (c .before .before .if1 .left), omega arith)
+    let if1 = c .before .before .if1 in
+    (join-number (a .sum .any) (a .sum .total) (a .distance) (c .before .if2 .taken) (if1 .left), omega arith)
 
 returns-3 : tie.Need-returns-3
 returns-3 c =

@@ -1,6 +1,6 @@
 -- `sums::sum_of` meets its contract: the sum so far is that of the maps passed so far. Assumes nothing.
 use borrow.Author.Needs.{needs}
-use Prim.Native.Nat.{ℕ, _*_, _≤_, _<_, _-_}
+use Prim.Native.Nat.{_*_, _≤_, _-_}
 use mathlib.Core.Path.{_≡_, refl, ap, _∙_}
 use mathlib.Core.List.{[]}
 use native.Mathlib.Omega.{arith}
@@ -22,10 +22,15 @@ loop-holds : tie.Need-loop-holds Inv-loop μ-loop
 loop-holds c = (omega arith, omega arith, refl)
 
 away-of-requires : tie.Need-away-of-requires Inv-loop μ-loop
-away-of-requires c κs = (c .before .before .before .before .before .pre .0, c .loop-test .taken, c .before .before .before .before .before .pre .1 (c .before .loop .m) (c .loop-test .taken), c .before .before .before .before .before .pre .2)
+away-of-requires c κs =
+    let pre = c .before .before .before .before .before .pre in
+    (pre .0, c .loop-test .taken, pre .1 (c .before .loop .m) (c .loop-test .taken), pre .2)
 
 joined-requires : tie.Need-joined-requires Inv-loop μ-loop
-joined-requires c κs = omega (arith, c .before .before .loop .inv .1, c .before .loop-test .taken, c .before .before .before .before .before .before .pre .0 .maps .1)
+joined-requires c κs =
+    let pre = c .before .before .before .before .before .before .pre in
+    let loop = c .before .before .loop in
+    omega (arith, loop .inv .1, c .before .loop-test .taken, pre .0 .maps .1)
 
 add-m : tie.Need-add-m Inv-loop μ-loop
 add-m c = search needs
@@ -37,8 +42,9 @@ loop-again : tie.Need-loop-again Inv-loop μ-loop
 loop-again c =
     let a = c .before .before .before .before .before .before .before .args in
     let l = c .before .before .before .loop in
+    let loop-test = c .before .before .loop-test in
     let f = away (taskOf (tables (a .c) (a .facts .now) [] (a .shares .now))) (stateOf (a .s .now)) in (
-      omega (arith, c .before .before .loop-test .taken),
+      omega (arith, loop-test .taken),
       omega (arith, l .inv .1, c .joined .ensures .1),
       sum-more f (l .m) (sumSaid (l .sum)) (sumSaid (c .joined .result)) (c .before .away-of .result) (l .inv .2) (c .before .away-of .ensures) (c .joined .ensures .0),
     )

@@ -23,9 +23,11 @@ enum-told c = search needs
 
 returns : tie.Need-returns
 returns c =
-    let old = c .before .before .before .before .before .before .args .old .now in
+    let args = c .before .before .before .before .before .before .args in
+    let s = c .before .before .before .s in
+    let old = args .old .now in
     ap said (c .word-at .ensures ∙ ap (λ (i : ℕ). getD old i 0) (c .before .state-index .ensures))
-    ∙ sym (ap (λ s. afterStep (read old) (nextOf s)) (c .before .before .before .s .given .1))
+    ∙ sym (ap (λ s. afterStep (read old) (nextOf s)) (s .given .1))
 
 returns-2 : tie.Need-returns-2
 unfolding said

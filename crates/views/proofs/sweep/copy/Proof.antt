@@ -1,9 +1,9 @@
 -- `sweep::copy` meets its contract: the places passed so far are copied. Assumes nothing.
 use borrow.Author.Needs.{needs}
-use Prim.Native.Nat.{ℕ, _≤_, _<_, _-_}
-use mathlib.Core.Path.{_≡_, refl}
+use Prim.Native.Nat.{_≤_, _<_, _-_}
+use mathlib.Core.Path.{refl}
 use native.Mathlib.Omega.{arith}
-use lib.ListN.{length, getD}
+use lib.ListN.{length}
 use Rattle.views.specs.Sweeps.{Copied}
 use Rattle.views.proofs.Makes.{made-none, made-more, made-end}
 use Rattle.views.proofs.sweep.copy.Statement.{statement}
@@ -53,8 +53,9 @@ same-length c = search needs
 
 returns : tie.Need-returns Inv-loop μ-loop
 returns c =
+    let args = c .before .before .args in
     let l = c .before .loop in
-    made-end _ _ (c .before .before .args .n) (l .a) (l .to) (l .inv .1) (l .inv .0) (c .loop-test .left)
+    made-end _ _ (args .n) (l .a) (l .to) (l .inv .1) (l .inv .0) (c .loop-test .left)
 
 pub copy-spec : {M : Type 1} → statement M
 copy-spec =

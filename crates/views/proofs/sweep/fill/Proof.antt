@@ -1,7 +1,7 @@
 -- `sweep::fill` meets its contract: the places passed so far say the costs over no steps. Assumes nothing.
 use borrow.Author.Needs.{needs}
-use Prim.Native.Nat.{ℕ, _≤_, _<_, _-_}
-use mathlib.Core.Path.{_≡_, ap, _∙_}
+use Prim.Native.Nat.{_≤_, _<_, _-_}
+use mathlib.Core.Path.{ap, _∙_}
 use mathlib.Core.List.{[]}
 use native.Mathlib.Omega.{arith}
 use lib.ListN.{length}
@@ -23,7 +23,9 @@ loop-holds : tie.Need-loop-holds Inv-loop μ-loop
 loop-holds c = (omega arith, made-none _ _)
 
 digits-requires : tie.Need-digits-requires Inv-loop μ-loop
-digits-requires c κs = (c .before .before .before .before .pre .0 .vars, c .before .before .before .before .pre .0 .values)
+digits-requires c κs =
+    let pre = c .before .before .before .before .pre in
+    (pre .0 .vars, pre .0 .values)
 
 slice-aggregate-meets-goal : tie.Need-slice-aggregate-meets-goal Inv-loop μ-loop
 slice-aggregate-meets-goal c = search needs
@@ -38,10 +40,17 @@ cast-t : tie.Need-cast-t Inv-loop μ-loop
 cast-t c = search needs
 
 mul-t : tie.Need-mul-t Inv-loop μ-loop
-mul-t c = omega (arith, c .before .before .before .before .loop-test .taken, c .before .before .before .before .before .before .before .before .pre .1, c .before .before .before .before .before .before .before .before .pre .0 .few)
+mul-t c =
+    let pre = c .before .before .before .before .before .before .before .before .pre in
+    let loop-test = c .before .before .before .before .loop-test in
+    omega (arith, loop-test .taken, pre .1, pre .0 .few)
 
 slice-write-t : tie.Need-slice-write-t Inv-loop μ-loop
-slice-write-t c = omega (arith, c .before .before .before .before .before .loop .inv .1 .size, c .before .before .before .before .before .before .before .before .pre .2, c .before .before .before .before .loop-test .taken)
+slice-write-t c =
+    let pre = c .before .before .before .before .before .before .before .before .pre in
+    let loop = c .before .before .before .before .before .loop in
+    let loop-test = c .before .before .before .before .loop-test in
+    omega (arith, loop .inv .1 .size, pre .2, loop-test .taken)
 
 add-a : tie.Need-add-a Inv-loop μ-loop
 add-a c = search needs
@@ -51,18 +60,22 @@ loop-less c = search needs
 
 loop-again : tie.Need-loop-again Inv-loop μ-loop
 loop-again c =
+    let pre = c .before .before .before .before .before .before .before .before .pre in
     let a = c .before .before .before .before .before .before .before .before .args in
     let l = c .before .before .before .before .before .loop in
-    let inside : l .a < length (l .t) = omega (arith, l .inv .1 .size, c .before .before .before .before .before .before .before .before .pre .2, c .before .before .before .before .loop-test .taken) in
-    (search needs, made-more _ _ (l .a) _ (l .t) inside (l .inv .1) (c .start .ensures ∙ ap atGoal (c .before .meets-goal .ensures ∙ goal-is (a .c) (a .facts .now) [] (l .a) (c .before .before .before .digits .result) (c .before .before .before .digits .ensures))))
+    let loop-test = c .before .before .before .before .loop-test in
+    let digits = c .before .before .before .digits in
+    let inside : l .a < length (l .t) = omega (arith, l .inv .1 .size, pre .2, loop-test .taken) in
+    (search needs, made-more _ _ (l .a) _ (l .t) inside (l .inv .1) (c .start .ensures ∙ ap atGoal (c .before .meets-goal .ensures ∙ goal-is (a .c) (a .facts .now) [] (l .a) (digits .result) (digits .ensures))))
 
 same-length : tie.Need-same-length Inv-loop μ-loop
 same-length c = search needs
 
 returns : tie.Need-returns Inv-loop μ-loop
 returns c =
+    let args = c .before .before .before .before .args in
     let l = c .before .loop in
-    made-end _ _ (c .before .before .before .before .args .n) (l .a) (l .t) (l .inv .1) (l .inv .0) (c .loop-test .left)
+    made-end _ _ (args .n) (l .a) (l .t) (l .inv .1) (l .inv .0) (c .loop-test .left)
 
 pub fill-spec : {M : Type 1} → statement M
 fill-spec =

@@ -5,11 +5,12 @@ use Rattle.views.proofs.sweep.relax.Statement.{statement}
 use Rattle.views.proofs.sweep.relax.Tie as tie
 
 returns : tie.Need-returns
-returns c = let a = c .before .args in relax-none (a .best) (a .price) (a .beyond) (c .if1 .taken)
+returns c =
+    let a = c .before .args in
+    relax-none (a .best) (a .price) (a .beyond) (c .if1 .taken)
 
 add-x : tie.Need-add-x
 add-x c =
-    let a = c .before .args in
     omega (arith, c .before .pre (omega arith))
 
 returns-2 : tie.Need-returns-2
@@ -19,8 +20,9 @@ returns-2 c =
 
 returns-3 : tie.Need-returns-3
 returns-3 c =
+    let pre = c .before .before .pre in
     let a = c .before .before .args in
-    relax-keep (a .best) (a .price) (a .beyond) (omega arith) (omega (arith, c .before .before .pre (omega arith))) (c .if2 .left)
+    relax-keep (a .best) (a .price) (a .beyond) (omega arith) (omega (arith, pre (omega arith))) (c .if2 .left)
 
 pub relax-spec : {M : Type 1} → statement M
 relax-spec = tie.close (tie.spec returns add-x returns-2 returns-3)

@@ -22,14 +22,17 @@ loop-holds c = (omega arith, swept-none _ _ _)
 
 cell-requires : tie.Need-cell-requires Inv-loop μ-loop
 cell-requires c κs =
+    let args = c .before .before .before .before .before .before .args in
     let p = c .before .before .before .before .before .before .pre in
-    (p .0 .0, p .0 .1, omega (arith, c .loop-test .taken, p .0 .2), subst (λ (k : ℕ). Within k (c .before .before .before .before .before .before .args .old .now)) (p .0 .2) (p .1 .2))
+    (p .0 .0, p .0 .1, omega (arith, c .loop-test .taken, p .0 .2), subst (λ (k : ℕ). Within k (args .old .now)) (p .0 .2) (p .1 .2))
 
 cast-if1 : tie.Need-cast-if1 Inv-loop μ-loop
 cast-if1 c = search needs
 
 mul-if1 : tie.Need-mul-if1 Inv-loop μ-loop
-mul-if1 c = omega (arith, c .before .loop-test .taken, c .before .before .before .before .before .before .before .pre .0 .2, c .before .before .before .before .before .before .before .pre .0 .0 .few)
+mul-if1 c =
+    let pre = c .before .before .before .before .before .before .before .pre in
+    omega (arith, c .before .loop-test .taken, pre .0 .2, pre .0 .0 .few)
 
 shared-slice-read-if1 : tie.Need-shared-slice-read-if1 Inv-loop μ-loop
 shared-slice-read-if1 c = search needs
@@ -38,10 +41,17 @@ cast-new : tie.Need-cast-new Inv-loop μ-loop
 cast-new c = search needs
 
 mul-new : tie.Need-mul-new Inv-loop μ-loop
-mul-new c = omega (arith, c .before .before .before .loop-test .taken, c .before .before .before .before .before .before .before .before .before .pre .0 .2, c .before .before .before .before .before .before .before .before .before .pre .0 .0 .few)
+mul-new c =
+    let pre = c .before .before .before .before .before .before .before .before .before .pre in
+    let loop-test = c .before .before .before .loop-test in
+    omega (arith, loop-test .taken, pre .0 .2, pre .0 .0 .few)
 
 slice-write-new : tie.Need-slice-write-new Inv-loop μ-loop
-slice-write-new c = omega (arith, c .before .before .before .before .loop .inv .1 .table .size, c .before .before .before .before .before .before .before .before .before .pre .1 .1, c .before .before .before .loop-test .taken)
+slice-write-new c =
+    let pre = c .before .before .before .before .before .before .before .before .before .pre in
+    let loop = c .before .before .before .before .loop in
+    let loop-test = c .before .before .before .loop-test in
+    omega (arith, loop .inv .1 .table .size, pre .1 .1, loop-test .taken)
 
 add-a : tie.Need-add-a Inv-loop μ-loop
 add-a c = search needs
@@ -51,11 +61,13 @@ loop-less c = search needs
 
 loop-again : tie.Need-loop-again Inv-loop μ-loop
 loop-again c =
+    let pre = c .before .before .before .before .before .before .before .before .before .pre in
     let x = c .before .before .before .before .before .before .before .before .before .args in
     let l = c .before .before .before .before .loop in
+    let loop-test = c .before .before .before .loop-test in
+    let d = c .before .before .cell in
     let G = spaceOf (x .c) (x .facts .now) (x .prices .now) in
-    let inside : l .a < length (l .new) = omega (arith, l .inv .1 .table .size, c .before .before .before .before .before .before .before .before .before .pre .1 .1, c .before .before .before .loop-test .taken) in
-    let d = c .before .before .cell in (
+    let inside : l .a < length (l .new) = omega (arith, l .inv .1 .table .size, pre .1 .1, loop-test .taken) in (
       search needs,
       ⊎-elim
           (λ w. rw (w .1) (swept-diff G (x .old .now) (x .new .now) (l .a) (d .result) (l .new) inside (d .ensures) (l .changed) (l .inv .1) (w .0 .taken)))

@@ -1,14 +1,14 @@
 -- `walk::digits` meets its contract: the digits of the places passed so far are in the list, and `rest` is what is left of the number. Assumes nothing.
 use borrow.Author.Needs.{needs}
-use Prim.Native.Nat.{ℕ, _≤_, _<_, _-_, _/_}
-use mathlib.Core.Path.{_≡_, refl, sym, ap, _∙_}
+use Prim.Native.Nat.{_≤_, _<_, _-_, _/_}
+use mathlib.Core.Path.{_≡_, refl, sym, _∙_}
 use native.Mathlib.Nat.{div-one, mod-lt}
 use native.Mathlib.Omega.{arith}
-use lib.ListN.{length, getD}
+use lib.ListN.{length}
 use Rattle.meaning.specs.Numbering.{size, digit}
 use Rattle.tables.specs.Layout.{domAt}
 use Rattle.views.specs.Sweeps.{Made}
-use Rattle.views.proofs.Makes.{made-none, made-more, made-end}
+use Rattle.views.proofs.Makes.{made-none, made-more}
 use Rattle.views.proofs.Walking.{rest-more, rest-digit}
 use Rattle.views.proofs.walk.digits.Statement.{statement}
 use Rattle.views.proofs.walk.digits.Tie as tie
@@ -30,12 +30,19 @@ wide-requires : tie.Need-wide-requires Inv-loop μ-loop
 wide-requires c κs = search needs
 
 rem-s : tie.Need-rem-s Inv-loop μ-loop
-rem-s c = omega (arith, c .wide .ensures .0, c .before .row-at .ensures, c .before .before .before .before .before .pre .1 (c .before .before .before .loop .v) (c .before .before .loop-test .taken))
+rem-s c =
+    let pre = c .before .before .before .before .before .pre in
+    let loop = c .before .before .before .loop in
+    let loop-test = c .before .before .loop-test in
+    omega (arith, c .wide .ensures .0, c .before .row-at .ensures, pre .1 (loop .v) (loop-test .taken))
 
 cast-s : tie.Need-cast-s Inv-loop μ-loop
 cast-s c =
-    let p : 0 < c .wide .result = omega (arith, c .wide .ensures .0, c .before .row-at .ensures, c .before .before .before .before .before .pre .1 (c .before .before .before .loop .v) (c .before .before .loop-test .taken)) in
-    omega (arith, c .wide .ensures .1, mod-lt (c .before .before .before .loop .rest) p)
+    let pre = c .before .before .before .before .before .pre in
+    let loop = c .before .before .before .loop in
+    let loop-test = c .before .before .loop-test in
+    let p : 0 < c .wide .result = omega (arith, c .wide .ensures .0, c .before .row-at .ensures, pre .1 (loop .v) (loop-test .taken)) in
+    omega (arith, c .wide .ensures .1, mod-lt (loop .rest) p)
 
 cast-s-2 : tie.Need-cast-s-2 Inv-loop μ-loop
 cast-s-2 c = search needs
@@ -44,7 +51,11 @@ array-write-s : tie.Need-array-write-s Inv-loop μ-loop
 array-write-s c = search needs
 
 div-rest : tie.Need-div-rest Inv-loop μ-loop
-div-rest c = omega (arith, c .wide .ensures .0, c .before .row-at .ensures, c .before .before .before .before .before .pre .1 (c .before .before .before .loop .v) (c .before .before .loop-test .taken))
+div-rest c =
+    let pre = c .before .before .before .before .before .pre in
+    let loop = c .before .before .before .loop in
+    let loop-test = c .before .before .loop-test in
+    omega (arith, c .wide .ensures .0, c .before .row-at .ensures, pre .1 (loop .v) (loop-test .taken))
 
 add-v : tie.Need-add-v Inv-loop μ-loop
 add-v c = search needs
@@ -54,13 +65,15 @@ loop-less c = search needs
 
 loop-again : tie.Need-loop-again Inv-loop μ-loop
 loop-again c =
+    let args = c .before .before .before .before .before .args in
+    let pre = c .before .before .before .before .before .pre in
     let l = c .before .before .before .loop in
-    let K = domAt (c .before .before .before .before .before .args .facts .now) in
+    let K = domAt (args .facts .now) in
     let k = c .wide .ensures .0 ∙ c .before .row-at .ensures in (
       search needs,
       search needs,
-      rest-more K (c .before .before .before .before .before .args .a .0) (l .v) (l .rest) (c .wide .result) (l .inv .2) k,
-      made-more _ _ (l .v) _ (l .s) (omega (arith, l .inv .1, c .before .before .before .before .before .pre .0)) (l .inv .3) (rest-digit K (c .before .before .before .before .before .args .a .0) (l .v) (l .rest) (c .wide .result) (l .inv .2) k),
+      rest-more K (args .a .0) (l .v) (l .rest) (c .wide .result) (l .inv .2) k,
+      made-more _ _ (l .v) _ (l .s) (omega (arith, l .inv .1, pre .0)) (l .inv .3) (rest-digit K (args .a .0) (l .v) (l .rest) (c .wide .result) (l .inv .2) k),
     )
 
 returns : tie.Need-returns Inv-loop μ-loop

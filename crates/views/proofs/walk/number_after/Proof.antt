@@ -1,6 +1,6 @@
 -- `walk::number_after` meets its contract: the digits of the places passed so far are in the number. Assumes nothing.
 use borrow.Author.Needs.{needs}
-use Prim.Native.Nat.{ℕ, _-_}
+use Prim.Native.Nat.{_-_}
 use mathlib.Core.Path.{refl, _∙_, ap₂}
 use native.Mathlib.Omega.{arith}
 use Rattle.meaning.specs.Sas.{put}
@@ -38,12 +38,16 @@ wide-requires c κs = search needs
 
 add-b : tie.Need-add-b Inv-loop μ-loop
 add-b c =
+    let pre = c .before .before .before .before .before .before .before .before .pre in
     let a = c .before .before .before .before .before .before .before .before .args in
     let l = c .before .before .before .before .before .loop in
-    let x = c .wide .ensures .0 ∙ c .before .value-after .ensures ∙ ap₂ put (c .before .before .before .row-at .ensures) (c .before .before .byte-at .ensures) in
+    let loop-test = c .before .before .before .before .loop-test in
+    let row-at = c .before .before .before .row-at in
+    let byte-at = c .before .before .byte-at in
+    let x = c .wide .ensures .0 ∙ c .before .value-after .ensures ∙ ap₂ put (row-at .ensures) (byte-at .ensures) in
     let t =
-    numbered-next (domAt (a .facts .now)) (valueAfter (a .facts .now) (a .row) (a .s .now)) (a .vars) (c .before .before .before .before .before .before .before .before .pre .0 .0) (c .before .before .before .before .before .before .before .before .pre .1) (c .before .before .before .before .before .before .before .before .pre .0 .1)
-    (l .v) (l .stride) (l .b) (l .inv) (c .before .before .before .before .loop-test .taken) (c .wide .result) (domAt (a .facts .now) (l .v)) x refl in
+    numbered-next (domAt (a .facts .now)) (valueAfter (a .facts .now) (a .row) (a .s .now)) (a .vars) (pre .0 .0) (pre .1) (pre .0 .1)
+    (l .v) (l .stride) (l .b) (l .inv) (loop-test .taken) (c .wide .result) (domAt (a .facts .now) (l .v)) x refl in
     omega (arith, t .1)
 
 row-at-requires-2 : tie.Need-row-at-requires-2 Inv-loop μ-loop
@@ -54,12 +58,18 @@ wide-requires-2 c κs = search needs
 
 mul-stride : tie.Need-mul-stride Inv-loop μ-loop
 mul-stride c =
+    let pre = c .before .before .before .before .before .before .before .before .before .before .pre in
     let a = c .before .before .before .before .before .before .before .before .before .before .args in
     let l = c .before .before .before .before .before .before .before .loop in
-    let x = c .before .before .wide .ensures .0 ∙ c .before .before .before .value-after .ensures ∙ ap₂ put (c .before .before .before .before .before .row-at .ensures) (c .before .before .before .before .byte-at .ensures) in
+    let loop-test = c .before .before .before .before .before .before .loop-test in
+    let row-at = c .before .before .before .before .before .row-at in
+    let byte-at = c .before .before .before .before .byte-at in
+    let value-after = c .before .before .before .value-after in
+    let wide = c .before .before .wide in
+    let x = wide .ensures .0 ∙ value-after .ensures ∙ ap₂ put (row-at .ensures) (byte-at .ensures) in
     let t =
-    numbered-next (domAt (a .facts .now)) (valueAfter (a .facts .now) (a .row) (a .s .now)) (a .vars) (c .before .before .before .before .before .before .before .before .before .before .pre .0 .0) (c .before .before .before .before .before .before .before .before .before .before .pre .1) (c .before .before .before .before .before .before .before .before .before .before .pre .0 .1)
-    (l .v) (l .stride) (l .b) (l .inv) (c .before .before .before .before .before .before .loop-test .taken) (c .before .before .wide .result) (c .wide2 .result) x (c .wide2 .ensures .0 ∙ c .before .row-at2 .ensures) in
+    numbered-next (domAt (a .facts .now)) (valueAfter (a .facts .now) (a .row) (a .s .now)) (a .vars) (pre .0 .0) (pre .1) (pre .0 .1)
+    (l .v) (l .stride) (l .b) (l .inv) (loop-test .taken) (wide .result) (c .wide2 .result) x (c .wide2 .ensures .0 ∙ c .before .row-at2 .ensures) in
     omega (arith, t .0)
 
 add-v : tie.Need-add-v Inv-loop μ-loop
@@ -72,9 +82,14 @@ loop-again : tie.Need-loop-again Inv-loop μ-loop
 loop-again c =
     let a = c .before .before .before .before .before .before .before .before .before .before .args in
     let l = c .before .before .before .before .before .before .before .loop in
-    numbered-more (domAt (a .facts .now)) (valueAfter (a .facts .now) (a .row) (a .s .now)) (a .vars) (l .v) (l .stride) (l .b) (l .inv) (c .before .before .before .before .before .before .loop-test .taken)
-    (c .before .before .wide .result) (c .wide2 .result)
-    (c .before .before .wide .ensures .0 ∙ c .before .before .before .value-after .ensures ∙ ap₂ put (c .before .before .before .before .before .row-at .ensures) (c .before .before .before .before .byte-at .ensures))
+    let loop-test = c .before .before .before .before .before .before .loop-test in
+    let row-at = c .before .before .before .before .before .row-at in
+    let byte-at = c .before .before .before .before .byte-at in
+    let value-after = c .before .before .before .value-after in
+    let wide = c .before .before .wide in
+    numbered-more (domAt (a .facts .now)) (valueAfter (a .facts .now) (a .row) (a .s .now)) (a .vars) (l .v) (l .stride) (l .b) (l .inv) (loop-test .taken)
+    (wide .result) (c .wide2 .result)
+    (wide .ensures .0 ∙ value-after .ensures ∙ ap₂ put (row-at .ensures) (byte-at .ensures))
     (c .wide2 .ensures .0 ∙ c .before .row-at2 .ensures)
 
 returns : tie.Need-returns Inv-loop μ-loop

@@ -16,7 +16,9 @@ may-run-requires : tie.Need-may-run-requires
 may-run-requires c κs = search needs
 
 eff-row-requires : tie.Need-eff-row-requires
-eff-row-requires c κs = omega (arith, c .before .before .before .before .pre .1, c .before .before .before .before .pre .0 .ops)
+eff-row-requires c κs =
+    let pre = c .before .before .before .before .pre in
+    omega (arith, pre .1, pre .0 .ops)
 
 number-after-requires : tie.Need-number-after-requires
 number-after-requires c κs =
@@ -30,8 +32,10 @@ number-after-requires c κs =
 returns : tie.Need-returns
 returns c =
     let a = c .before .before .before .before .before .before .args in
-    step-runs (a .c) (a .facts .now) (a .s .now) (a .o .0) (c .before .before .before .may-run .result) (c .before .before .before .may-run .ensures) (c .before .eff-row .result) (c .number-after .result)
-    (c .before .before .if1 .taken) (c .before .eff-row .ensures) (c .number-after .ensures)
+    let may-run = c .before .before .before .may-run in
+    let if1 = c .before .before .if1 in
+    step-runs (a .c) (a .facts .now) (a .s .now) (a .o .0) (may-run .result) (may-run .ensures) (c .before .eff-row .result) (c .number-after .result)
+    (if1 .taken) (c .before .eff-row .ensures) (c .number-after .ensures)
 
 returns-2 : tie.Need-returns-2
 returns-2 c =
