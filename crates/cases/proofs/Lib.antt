@@ -1,3 +1,4 @@
 pub mod Tests
-pub mod Rules
+pub mod Rounds
+pub mod Claims
 pub mod Table

@@ -1,42 +1,90 @@
--- Every case of the table holds, by one computation. Assumes nothing.
-use mathlib.Core.Path.{_≡_, refl}
+-- THE STARRED CASES HOLD, from text to answers: every row of the table by one computation. Assumes nothing.
+use mathlib.Core.Path.{_≡_, refl, subst, sym}
 use mathlib.Core.List.{List, [], _∷_}
 use Prim.Native.Nat.{ℕ}
-use lib.ListN.{length}
-use Rattle.graph.specs.Cost.{Cost}
-use Rattle.graph.specs.Least.{least}
-use Rattle.meaning.specs.Views.{abstractStates, viewGraph}
-use Rattle.meaning.specs.Split.{view}
-use Rattle.meaning.specs.Bound.{distance, bound}
-use Rattle.cases.specs.Tasks.{row}
-use Rattle.cases.specs.Cases.{Case, Holds, EachAt, table}
-use Rattle.cases.proofs.Tests.{Test, eq?, same?, _and_, into, each?}
-use Rattle.cases.proofs.Rules.{valid?, rounds?, said?}
+use Prim.Native.String.{String}
+use mathlib.Core.Bool.{Bool, true, false, false≢true}
+use Rattle.refusals.specs.Listed.{numberOf, placeOf}
+use Rattle.refusals.specs.declared.Refusal.{Refusal}
+use Rattle.meaning.specs.Split.{Valid}
+use Rattle.tables.specs.Layout.{Tables}
+use Rattle.tables.specs.Task.{taskOf}
+use Rattle.tables.specs.Steps.{rowHolds, mayRun, meetsGoal, filled, stepped}
+use Rattle.tables.specs.Scan.{each, factsFault, operatorFault, classesFault, mapFault, sharesFault, splitFault, taskFault, roomy, tablesFault, stateFault}
+use Rattle.text.specs.Fields.{pick, isDigit, bytes, shareTotal, overLine}
+use Rattle.text.specs.Grammar.{
+  Verdict,
+  accepted,
+  refused,
+  _▸_,
+  nothing,
+  ask,
+  keep,
+  demand,
+  lit,
+  choice,
+  runLen,
+  value,
+  formed,
+  within,
+  number,
+  parted,
+  row,
+  endOfLine,
+  line,
+  lines,
+  editionLine,
+  varsLine,
+  domLine,
+  initLine,
+  facts,
+  factList,
+  goalLine,
+  opsLine,
+  operator,
+  opLines,
+  has,
+  topOf,
+  allOf,
+  classCount,
+  noneMissing,
+  classes,
+  variables,
+  mapsLine,
+  mapLines,
+  amounts,
+  shareLines,
+  taskLines,
+  settled,
+  theEnd,
+  noTask,
+  verdict,
+}
+use Rattle.text.proofs.SpellAccepted.{accepted-spells}
+use Rattle.sequences.specs.Stepping.{steps, inputFault, stepOf}
+use Rattle.sequences.specs.Judging.{walked, limited, judgedOf}
+use Rattle.ledger.specs.Ledger.{rest, gain, booked, fresh, advanced, canRun, replayed, given, startAt, startIn, sameTo, sameStates, sameSteps, sameRun, isRun, oldStep, nextStep, judged, answered, offered, startFrom, started, begun}
+use Rattle.cases.specs.Told.{Told, ofText, Claim, EachAt, Holds, Case, AllHold, Right}
+use Rattle.cases.specs.Cases.{table}
+use Rattle.cases.proofs.Tests.{Test, told?, _and_, into, always, each?}
+use Rattle.cases.proofs.Rounds.{tableOf}
+use Rattle.cases.proofs.Claims.{claim?}
 
-abbrev holds? : (c : Case) → Test (Holds c)
-holds? c =
-    into
-    (λ r.
-    record {
-      valid = r .0;
-      everyMap = r .1 .0;
-      everyState = r .1 .1 .0;
-      distances = r .1 .1 .1 .0;
-      rounds = r .1 .1 .1 .1 .0;
-      everyRound = r .1 .1 .1 .1 .1 .0;
-      bound = r .1 .1 .1 .1 .1 .1 .0;
-      sequences = r .1 .1 .1 .1 .1 .1 .1;
-    })
-    (valid? (c .task)
-    and eq? (length (c .distances)) (c .task .maps)
-    and each? _ (λ m ds. eq? (length ds) (abstractStates (c .task .sas) (view (c .task) m))) 0 (c .distances)
-    and each? _ (λ m ds. each? _ (λ a d. same? (distance (c .task .sas) (view (c .task) m) a) d) 0 ds) 0 (c .distances)
-    and each? _ (λ m r. rounds? (viewGraph (c .task .sas) (view (c .task) m)) r) 0 (c .rounds)
-    and eq? (length (c .rounds)) (c .task .maps)
-    and same? (bound (c .task) (row (c .state))) (c .bound)
-    and each? _ (λ i x. said? (c .task) (row (c .state)) x) 0 (c .sequences))
+-- a refused text claims nothing
+abbrev none? : (cs : List Claim) → Test (cs ≡ [])
+none? [] = always refl
+none? (c ∷ cs) = record { holds = false; so = λ h. absurd (false≢true h) }
 
--- THE CASES HOLD
-pub cases-hold : EachAt (λ i c. Holds c) 0 table
-unfolding table least valid?
-cases-hold = each? (λ i c. Holds c) (λ i c. holds? c) 0 table .so refl
+-- the claims, of the tables that the text was accepted with
+abbrev claims? : (x : List ℕ) (v : Verdict) → verdict x ≡ v → (cs : List Claim) → Test (AllHold v cs)
+claims? x (accepted t) e cs = each? (λ i c. Holds t c) (λ i c. claim? t (accepted-spells x t e .valid) c) 0 cs
+claims? x (refused r) e cs = none? cs
+
+abbrev right? : (c : Case) → Test (Right c)
+right? c =
+    into (λ p. record { read = p .0; claims = p .1 })
+    (told? (ofText (verdict (bytes (c .text)))) (c .read) and claims? (bytes (c .text)) (verdict (bytes (c .text))) refl (c .claims))
+
+pub cases-hold : EachAt (λ i c. Right c) 0 table
+unfolding table tableOf pick isDigit shareTotal overLine _▸_ nothing ask keep demand lit choice runLen value formed within number parted row endOfLine line lines editionLine varsLine domLine initLine facts factList goalLine opsLine operator opLines has topOf allOf classCount noneMissing classes variables mapsLine mapLines amounts shareLines taskLines settled theEnd noTask verdict rowHolds mayRun meetsGoal filled stepped each factsFault operatorFault classesFault mapFault sharesFault splitFault taskFault roomy tablesFault stateFault steps inputFault stepOf walked limited judgedOf rest gain booked fresh advanced canRun replayed given startAt startIn sameTo sameStates sameSteps sameRun isRun oldStep nextStep judged answered offered startFrom started begun
+cases-hold = each? (λ i c. Right c) (λ i c. right? c) 0 table .so refl

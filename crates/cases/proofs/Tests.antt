@@ -1,5 +1,5 @@
 -- Tests that compute, each with what it shows when it is true. Assumes nothing.
-use mathlib.Core.Path.{_≡_, refl, ap}
+use mathlib.Core.Path.{_≡_, refl, ap, ap₂}
 use mathlib.Core.Bool.{Bool, true, false, _&&_, _||_, not, false≢true}
 use mathlib.Core.Logic.{_⊎_, inl, inr, ⊎-elim}
 use mathlib.Core.List.{List, [], _∷_}
@@ -11,7 +11,7 @@ use borrow.Author.Tests.{ltb-true, leb-true, eqb-true, eqb-false, not-true, ltb-
 use Rattle.graph.specs.Cost.{Cost, none, fin}
 use Rattle.meaning.specs.Views.{every}
 use Rattle.meaning.proofs.Facts.{every-true, and-left, and-right}
-use Rattle.cases.specs.Cases.{EachAt}
+use Rattle.cases.specs.Told.{Told, yes!, costs, again, no!, EachAt}
 
 pub record Test (P : Type 0) : Type 0 where
   pub holds : Bool
@@ -106,3 +106,61 @@ same? v w = record { holds = eqCost v w; so = eqCost-true v w }
 
 abbrev pub other? : (v w : Cost) → Test (v ≡ w → ⊥)
 other? v w = record { holds = not (eqCost v w); so = eqCost-false v w }
+
+-- what is told
+abbrev pub eqTold : Told → Told → Bool
+eqTold yes! yes! = true
+eqTold yes! (costs c) = false
+eqTold yes! again = false
+eqTold yes! (no! n p) = false
+eqTold (costs c) yes! = false
+eqTold (costs c) (costs d) = eqb c d
+eqTold (costs c) again = false
+eqTold (costs c) (no! n p) = false
+eqTold again yes! = false
+eqTold again (costs d) = false
+eqTold again again = true
+eqTold again (no! n p) = false
+eqTold (no! n p) yes! = false
+eqTold (no! n p) (costs d) = false
+eqTold (no! n p) again = false
+eqTold (no! n p) (no! m q) = eqb n m && eqb p q
+
+pub eqTold-true : (x y : Told) → eqTold x y ≡ true → x ≡ y
+eqTold-true yes! yes! h = refl
+eqTold-true yes! (costs c) h = absurd (false≢true h)
+eqTold-true yes! again h = absurd (false≢true h)
+eqTold-true yes! (no! n p) h = absurd (false≢true h)
+eqTold-true (costs c) yes! h = absurd (false≢true h)
+eqTold-true (costs c) (costs d) h = ap costs (eqb-true c d h)
+eqTold-true (costs c) again h = absurd (false≢true h)
+eqTold-true (costs c) (no! n p) h = absurd (false≢true h)
+eqTold-true again yes! h = absurd (false≢true h)
+eqTold-true again (costs d) h = absurd (false≢true h)
+eqTold-true again again h = refl
+eqTold-true again (no! n p) h = absurd (false≢true h)
+eqTold-true (no! n p) yes! h = absurd (false≢true h)
+eqTold-true (no! n p) (costs d) h = absurd (false≢true h)
+eqTold-true (no! n p) again h = absurd (false≢true h)
+eqTold-true (no! n p) (no! m q) h =
+    ap₂ no! (eqb-true n m (and-left (eqb n m) (eqb p q) h)) (eqb-true p q (and-right (eqb n m) (eqb p q) h))
+
+abbrev pub told? : (x y : Told) → Test (x ≡ y)
+told? x y = record { holds = eqTold x y; so = eqTold-true x y }
+
+-- lists of numbers
+abbrev pub eqList : List ℕ → List ℕ → Bool
+eqList [] [] = true
+eqList [] (y ∷ ys) = false
+eqList (x ∷ xs) [] = false
+eqList (x ∷ xs) (y ∷ ys) = eqb x y && eqList xs ys
+
+pub eqList-true : (xs ys : List ℕ) → eqList xs ys ≡ true → xs ≡ ys
+eqList-true [] [] h = refl
+eqList-true [] (y ∷ ys) h = absurd (false≢true h)
+eqList-true (x ∷ xs) [] h = absurd (false≢true h)
+eqList-true (x ∷ xs) (y ∷ ys) h =
+    ap₂ _∷_ (eqb-true x y (and-left (eqb x y) (eqList xs ys) h)) (eqList-true xs ys (and-right (eqb x y) (eqList xs ys) h))
+
+abbrev pub list? : (xs ys : List ℕ) → Test (xs ≡ ys)
+list? xs ys = record { holds = eqList xs ys; so = eqList-true xs ys }

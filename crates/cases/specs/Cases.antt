@@ -1,82 +1,74 @@
--- The table of cases: a task, a state, and what document 01 says of them.
-use mathlib.Core.Path.{_≡_}
+-- The starred cases of document 01, from text to answers.
 use mathlib.Core.List.{List, [], _∷_}
-use Prim.Native.Nat.{ℕ, zero, suc, _+_}
-use lib.ListN.{length, getD}
-use Rattle.graph.specs.Cost.{Cost, none, fin}
-use Rattle.graph.specs.Least.{Rounds}
-use Rattle.meaning.specs.Sas.{State, Passes, paid}
-use Rattle.meaning.specs.Views.{abstractStates, viewGraph}
-use Rattle.meaning.specs.Split.{Task, view, Valid}
-use Rattle.meaning.specs.Bound.{distance, bound}
-use Rattle.cases.specs.Tasks.{row, A, D, E}
+use Prim.Native.String.{String, _++_}
+use Rattle.graph.specs.Cost.{none, fin}
+use Rattle.cases.specs.Told.{Told, yes!, costs, again, no!, Offering, distances, boundAt, judging, run, Case}
 
--- what is said of a sequence: it passes at a cost, or it does not pass
-pub data Said : Type 0 where
-  passes : List ℕ → ℕ → Said
-  fails : List ℕ → Said
+-- case A up to its operators' costs, its operators, its maps
+abbrev pub headA : String
+headA = "edition=1\nvars=3\ndom=2,3,3\ninit=0,0,0\ngoal=0:1,1:2,2:2\nops=4\n"
 
-pub record Case : Type 0 where
-  pub task : Task
-  pub state : List ℕ
-  -- for each map its distances at all abstract states, and its rounds
-  pub distances : List (List Cost)
-  pub rounds : List ℕ
-  pub bound : Cost
-  pub sequences : List Said
+abbrev pub mapsA : String
+mapsA = "maps=3\nmap=0,1/0,0,0/0,0,0\nmap=0,0/0,1,2/0,0,0\nmap=0,0/0,0,0/0,1,2\n"
 
--- P holds of each element of a list, with its place
-abbrev pub EachAt : {X : Type 0} → (ℕ → X → Type 0) → ℕ → List X → Type 0
-EachAt P i [] = Unit {0}
-EachAt P i (x ∷ xs) = P i x × EachAt P (suc i) xs
+abbrev pub opsA : String
+opsA = "op=1;0:0;0:1\nop=1;1:0,2:0;1:1,2:1\nop=1;1:1;1:2\nop=1;2:1;2:2\n"
 
-abbrev pub SaidOf : Task → State → Said → Type 0
-SaidOf T s (passes os c) = Passes (T .sas) os s × (paid (T .sas .cost) os ≡ c)
-SaidOf T s (fails os) = Passes (T .sas) os s → ⊥
+abbrev pub A : String
+A = headA ++ opsA ++ mapsA ++ "share=1,0,0,0\nshare=0,1,1,0\nshare=0,0,0,1\n"
 
--- the case holds: the task is valid; distances, rounds, bound and sequences are as said
-pub record Holds (c : Case) : Type 0 where
-  pub valid : Valid (c .task)
-  pub everyMap : length (c .distances) ≡ c .task .maps
-  pub everyState : EachAt (λ m ds. length ds ≡ abstractStates (c .task .sas) (view (c .task) m)) 0 (c .distances)
-  pub distances : EachAt (λ m ds. EachAt (λ a d. distance (c .task .sas) (view (c .task) m) a ≡ d) 0 ds) 0 (c .distances)
-  pub rounds : EachAt (λ m r. Rounds (viewGraph (c .task .sas) (view (c .task) m)) r) 0 (c .rounds)
-  pub everyRound : length (c .rounds) ≡ c .task .maps
-  pub bound : bound (c .task) (row (c .state)) ≡ c .bound
-  pub sequences : EachAt (λ i said. SaidOf (c .task) (row (c .state)) said) 0 (c .sequences)
+-- C: A with the last line share=0,1,0,1
+abbrev pub C : String
+C = headA ++ opsA ++ mapsA ++ "share=1,0,0,0\nshare=0,1,1,0\nshare=0,1,0,1\n"
 
+-- D: A with all costs 2 and shares 2,0,0,0 / 0,1,2,0 / 0,1,0,2
+abbrev pub D : String
+D =
+    headA ++ "op=2;0:0;0:1\nop=2;1:0,2:0;1:1,2:1\nop=2;1:1;1:2\nop=2;2:1;2:2\n" ++ mapsA
+    ++ "share=2,0,0,0\nshare=0,1,2,0\nshare=0,1,0,2\n"
+
+-- E: two variables of two values, one operator of cost 1 from 0:0 to 0:1; maps keep variable 0 and variable 1, shares 1 and 0
+abbrev pub E : String
+E =
+    "edition=1\nvars=2\ndom=2,2\ninit=0,0\ngoal=0:1,1:1\nops=1\nop=1;0:0;0:1\nmaps=2\nmap=0,1/0,0\nmap=0,0/0,1\nshare=1\nshare=0\n"
+
+-- THE TABLE
 unfoldable pub table : List Case
 table =
     record {
-      task = A;
-      state = 0 ∷ 0 ∷ 0 ∷ [];
-      distances = (fin 1 ∷ fin 0 ∷ []) ∷ (fin 2 ∷ fin 1 ∷ fin 0 ∷ []) ∷ (fin 1 ∷ fin 1 ∷ fin 0 ∷ []) ∷ [];
-      rounds = 2 ∷ 3 ∷ 3 ∷ [];
-      bound = fin 4;
-      sequences = passes (0 ∷ 1 ∷ 2 ∷ 3 ∷ []) 4 ∷ fails (0 ∷ 2 ∷ []) ∷ fails (0 ∷ []) ∷ fails [] ∷ [];
+      text = A;
+      read = yes!;
+      claims =
+          distances 0 (fin 1 ∷ fin 0 ∷ []) 2
+          ∷ distances 1 (fin 2 ∷ fin 1 ∷ fin 0 ∷ []) 3
+          ∷ distances 2 (fin 1 ∷ fin 1 ∷ fin 0 ∷ []) 3
+          ∷ boundAt (0 ∷ 0 ∷ 0 ∷ []) (fin 4)
+          ∷ boundAt (1 ∷ 0 ∷ 0 ∷ []) (fin 3)
+          ∷ judging (0 ∷ 0 ∷ 0 ∷ []) (0 ∷ 1 ∷ 2 ∷ 3 ∷ []) (costs 4)
+          ∷ judging (0 ∷ 0 ∷ 0 ∷ []) (0 ∷ 2 ∷ []) (no! 12 2)
+          ∷ judging (0 ∷ 0 ∷ 0 ∷ []) (0 ∷ []) (no! 16 1)
+          ∷ judging (0 ∷ 0 ∷ 0 ∷ []) [] (no! 16 0)
+          ∷ run (0 ∷ 0 ∷ 0 ∷ [])
+          (record { number = 1; operator = 0; answer = yes!; columns = 1 ∷ 0 ∷ 0 ∷ 0 ∷ 0 ∷ 0 ∷ 0 ∷ 0 ∷ 0 ∷ [] }
+          ∷ record { number = 1; operator = 0; answer = again; columns = 1 ∷ 0 ∷ 0 ∷ 0 ∷ 0 ∷ 0 ∷ 0 ∷ 0 ∷ 0 ∷ [] }
+          ∷ record { number = 1; operator = 1; answer = no! 14 1; columns = 1 ∷ 0 ∷ 0 ∷ 0 ∷ 0 ∷ 0 ∷ 0 ∷ 0 ∷ 0 ∷ [] }
+          ∷ record { number = 3; operator = 1; answer = no! 13 3; columns = 1 ∷ 0 ∷ 0 ∷ 0 ∷ 0 ∷ 0 ∷ 0 ∷ 0 ∷ 0 ∷ [] }
+          ∷ [])
+          ∷ [];
+    }
+    ∷ record { text = C; read = no! 6 8; claims = [] }
+    ∷ record {
+      text = D;
+      read = yes!;
+      claims = boundAt (0 ∷ 0 ∷ 0 ∷ []) (fin 8) ∷ judging (0 ∷ 0 ∷ 0 ∷ []) (0 ∷ 1 ∷ 2 ∷ 3 ∷ []) (costs 8) ∷ [];
     }
     ∷ record {
-      task = A;
-      state = 1 ∷ 0 ∷ 0 ∷ [];
-      distances = (fin 1 ∷ fin 0 ∷ []) ∷ (fin 2 ∷ fin 1 ∷ fin 0 ∷ []) ∷ (fin 1 ∷ fin 1 ∷ fin 0 ∷ []) ∷ [];
-      rounds = 2 ∷ 3 ∷ 3 ∷ [];
-      bound = fin 3;
-      sequences = passes (1 ∷ 2 ∷ 3 ∷ []) 3 ∷ [];
-    }
-    ∷ record {
-      task = D;
-      state = 0 ∷ 0 ∷ 0 ∷ [];
-      distances = (fin 2 ∷ fin 0 ∷ []) ∷ (fin 3 ∷ fin 2 ∷ fin 0 ∷ []) ∷ (fin 3 ∷ fin 2 ∷ fin 0 ∷ []) ∷ [];
-      rounds = 2 ∷ 3 ∷ 3 ∷ [];
-      bound = fin 8;
-      sequences = passes (0 ∷ 1 ∷ 2 ∷ 3 ∷ []) 8 ∷ [];
-    }
-    ∷ record {
-      task = E;
-      state = 0 ∷ 0 ∷ [];
-      distances = (fin 1 ∷ fin 0 ∷ []) ∷ (none ∷ fin 0 ∷ []) ∷ [];
-      rounds = 2 ∷ 1 ∷ [];
-      bound = fin 1;
-      sequences = fails (0 ∷ []) ∷ [];
+      text = E;
+      read = yes!;
+      claims =
+          distances 0 (fin 1 ∷ fin 0 ∷ []) 2
+          ∷ distances 1 (none ∷ fin 0 ∷ []) 1
+          ∷ boundAt (0 ∷ 0 ∷ []) (fin 1)
+          ∷ [];
     }
     ∷ []

@@ -10,6 +10,8 @@ use refusals::Refusal;
 use refusals::number;
 use refusals::place;
 use tables::Counts;
+use tables::readers::INIT_ROW;
+use tables::readers::row_at;
 use text::Reading;
 use views::BoundAnswer;
 use views::DistanceAnswer;
@@ -60,15 +62,27 @@ fn say_map(answer: DistanceAnswer) {
     }
 }
 
+// The task's initial state.
+fn init_of(facts: &[u8]) -> [u8; 8] {
+    let mut init = [0u8; 8];
+    let mut v = 0usize;
+    while v < 8 {
+        init[v] = row_at(facts, INIT_ROW, v as u32);
+        v += 1;
+    }
+    init
+}
+
 // The bound of the initial state, then each map's distance there, in order.
-fn say_task(c: Counts, facts: &[u8], costs: &[u32], shares: &[u32], init: &[u8]) {
-    if !say_bound(bound(c, facts, costs, shares, init)) {
+fn say_task(c: Counts, facts: &[u8], costs: &[u32], shares: &[u32]) {
+    let init = init_of(facts);
+    if !say_bound(bound(c, facts, costs, shares, &init)) {
         return;
     }
     let maps = c.maps;
     let mut m = 0;
     while m < maps {
-        say_map(distance_at(c, facts, costs, shares, m, init));
+        say_map(distance_at(c, facts, costs, shares, m, &init));
         m += 1;
     }
 }
@@ -82,7 +96,7 @@ fn main() {
     let mut shares = [0u32; 512];
     let answer = read(&task[..n], &mut facts, &mut costs, &mut shares);
     match answer {
-        Reading::Accepted(c) => say_task(c, &facts, &costs, &shares, &facts[8..16]),
+        Reading::Accepted(c) => say_task(c, &facts, &costs, &shares),
         Reading::Refused(r) => say_refused(r),
     }
 }
