@@ -1,8 +1,7 @@
--- The run of case A and a run that is full, as the bench has them: every row of the table by one computation. Assumes nothing.
-use Prim.Native.Nat.{ℕ, _+_, _*_}
-use mathlib.Core.Path.{_≡_, refl}
+-- The table of the bench's cases of a run: case A, and a run that is full. Assumes nothing.
+use Prim.Native.Nat.{ℕ, _+_}
+use mathlib.Core.Path.{_≡_, refl, ap, ap₂, _∙_}
 use mathlib.Core.List.{List, [], _∷_, _++_}
-use lib.ListN.{replicate}
 use Rattle.refusals.specs.declared.Refusal.the-variants.{NoSuchOperator, MayNotRun, NotTheNext, OtherOperator, RunFull}
 use Rattle.tables.specs.Layout.{Tables}
 use Rattle.tables.specs.Steps.{rowHolds, mayRun, filled, stepped}
@@ -11,11 +10,9 @@ use Rattle.ledger.specs.declared.Run.{Run}
 use Rattle.ledger.specs.declared.Answer.{Answer}
 use Rattle.ledger.specs.declared.Answer.the-variants.{Accepted, Repeated, Refused}
 use Rattle.sequences.specs.Stepping.{steps}
+use Rattle.ledger.specs.declared.Offered.{Offered}
+use Rattle.ledger.proofs.Full.{row, B, full, full-refused, full-repeated}
 use Rattle.ledger.specs.Ledger.{rest, gain, booked, fresh, advanced, canRun, replayed, given, startAt, startIn, sameTo, sameStates, sameSteps, sameRun, isRun, oldStep, nextStep, judged, answered, offered, startFrom, started, begun}
-
--- rows of a width, each with what stands at its front and 0 after it
-abbrev row : ℕ → List ℕ → List ℕ
-row k xs = xs ++ replicate k 0
 
 -- the facts of a task of 3 variables and 4 operators: 60 further rows of preconditions and of effects; the classes of 3 maps; spare rows
 abbrev factsA : List ℕ
@@ -34,27 +31,6 @@ A =
       facts = factsA;
       costs = row 60 (1 ∷ 1 ∷ 1 ∷ 1 ∷ []);
       shares = row 60 (1 ∷ 0 ∷ 0 ∷ 0 ∷ []) ++ row 60 (0 ∷ 1 ∷ 1 ∷ 0 ∷ []) ++ row 380 (0 ∷ 0 ∷ 0 ∷ 1 ∷ []);
-    }
-
--- one variable of two values, which stays 0: operator 0 wants 1 there, operator 1 may always run; its cost is 3 and its share 2
-unfoldable pub B : Tables
-B =
-    record {
-      counts = record { vars = 1; ops = 2; maps = 1 };
-      facts = row 7 (2 ∷ []) ++ row 16 [] ++ row 1599 (2 ∷ []);
-      costs = row 62 (1 ∷ 3 ∷ []);
-      shares = row 510 (0 ∷ 2 ∷ []);
-    }
-
--- a run of B that is full
-unfoldable pub full : Run
-full =
-    record {
-      start = row 8 [];
-      log = replicate steps 1;
-      len = steps;
-      now = row 8 [];
-      columns = row 7 (steps * 2 ∷ []) ++ (steps ∷ []);
     }
 
 -- an offer, what it is answered, and the columns then
@@ -91,7 +67,28 @@ rowsFull =
     ∷ record { number = steps; op = 0; answer = Refused (OtherOperator steps); columns = full .columns }
     ∷ []
 
--- THE CASES HOLD: case A from its start, and the full run
-pub cases-hold : (outcome A (begun A (0 ∷ 0 ∷ 0 ∷ []) .run) rowsA ≡ rowsA) × (outcome B full rowsFull ≡ rowsFull)
-unfolding A B full outcome rowsA rowsFull rowHolds mayRun filled stepped each factsFault operatorFault classesFault mapFault sharesFault splitFault taskFault roomy tablesFault stateFault steps rest gain booked fresh advanced canRun replayed given startAt startIn sameTo sameStates sameSteps sameRun isRun oldStep nextStep judged answered offered startFrom started begun
-cases-hold = (refl, refl)
+-- a row that leaves the run as it was
+stays : (t : Tables) (r : Run) (x : Row) (xs : List Row) → offered t r (x .number) (x .op) ≡ record { run = r; answer = x .answer }
+    → r .columns ≡ x .columns
+    → outcome t r xs ≡ xs
+    → outcome t r (x ∷ xs) ≡ x ∷ xs
+unfolding outcome
+stays t r x xs e c h =
+    ap₂ _∷_
+    (ap (λ (y : Offered). record { number = x .number; op = x .op; answer = y .answer; columns = y .run .columns }) e
+    ∙ ap (λ (l : List ℕ). record { number = x .number; op = x .op; answer = x .answer; columns = l }) c)
+    (ap (λ (y : Offered). outcome t (y .run) xs) e ∙ h)
+
+-- THE CASES HOLD: case A from its start, by one computation
+pub case-A-holds : outcome A (begun A (0 ∷ 0 ∷ 0 ∷ []) .run) rowsA ≡ rowsA
+unfolding A outcome rowsA rowHolds mayRun filled stepped each factsFault operatorFault classesFault mapFault sharesFault splitFault taskFault roomy tablesFault stateFault steps rest gain booked fresh advanced canRun replayed given startAt startIn sameTo sameStates sameSteps sameRun isRun oldStep nextStep judged answered offered startFrom started begun
+case-A-holds = refl
+
+-- and the full run, however many steps that is
+pub full-holds : outcome B full rowsFull ≡ rowsFull
+unfolding rowsFull outcome B full steps judged oldStep nextStep
+full-holds =
+    stays B full _ _ (full-refused (steps + 1) 1 (RunFull (steps + 1)) refl) refl
+    (stays B full _ _ (full-refused (steps + 1) 0 (RunFull (steps + 1)) refl) refl
+    (stays B full _ _ (full-repeated steps 1 refl) refl
+    (stays B full _ _ (full-refused steps 0 (OtherOperator steps) refl) refl refl)))

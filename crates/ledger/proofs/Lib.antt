@@ -8,4 +8,5 @@ pub mod Sequences
 pub mod Told
 pub mod History
 pub mod Sound
+pub mod Full
 pub mod Cases

@@ -8,9 +8,9 @@ ghost use Rattle.sequences.specs.Stepping.{steps};
 ghost use Rattle.ledger.specs.Ledger.{fresh, advanced, canRun, replayed, sameStates, sameSteps, sameRun, isRun, oldStep, nextStep, judged, answered, offered, begun};
 ghost use Rattle.ledger.specs.Inside.{Bounded};
 
-pub mod columns;
-pub mod compare;
-pub mod starts;
+mod columns;
+mod compare;
+mod starts;
 
 use crate::columns::columns_after;
 use crate::compare::same_bytes;
