@@ -1,0 +1,63 @@
+-- For each entry of the desk: no second outcome could meet its contract, whatever was handed in. Answer, run and every lent place are determined.
+-- Assumes nothing.
+use mathlib.Core.Path.{_≡_, sym, _∙_}
+use mathlib.Core.List.{List}
+use Prim.Native.Nat.{ℕ}
+use denote.Ref.{RefT, now}
+use Rattle.tables.specs.declared.scan.Found.{Found}
+use Rattle.tables.specs.Layout.{Tables}
+use Rattle.tables.specs.Scan.{tablesFault}
+use Rattle.text.specs.Fields.{Outcome}
+use Rattle.text.specs.Grammar.{readText}
+use Rattle.views.specs.declared.DistanceAnswer.{DistanceAnswer}
+use Rattle.views.specs.declared.BoundAnswer.{BoundAnswer}
+use Rattle.views.specs.Entries.{DistancesGiven, DistanceGiven, BoundGiven}
+use Rattle.views.proofs.Promises as views
+use Rattle.sequences.specs.declared.judging.Judged.{Judged}
+use Rattle.sequences.specs.declared.choosing.Cheaper.{Cheaper}
+use Rattle.sequences.specs.Judging.{judgedOf}
+use Rattle.sequences.specs.Choosing.{cheaperOf}
+use Rattle.sequences.specs.Opening.{OpeningOf}
+use Rattle.sequences.proofs.Theorems as sequences
+use Rattle.ledger.specs.declared.Run.{Run}
+use Rattle.ledger.specs.declared.Offered.{Offered}
+use Rattle.ledger.specs.Ledger.{begun, offered}
+
+-- the answer and the three lent tables after a reading
+pub read-unique : (task facts costs shares : List ℕ) (x y : Outcome)
+    → x ≡ readText task facts costs shares → y ≡ readText task facts costs shares → x ≡ y
+read-unique task facts costs shares x y p q = p ∙ sym q
+
+pub check-unique : (t : Tables) (x y : Found) → x ≡ tablesFault t → y ≡ tablesFault t → x ≡ y
+check-unique t x y p q = p ∙ sym q
+
+-- answer, count of rounds and table together
+pub distances-unique : (t : Tables) (map : ℕ) (out : List ℕ) (x y : views.Outcome)
+    → DistancesGiven t map out (x .answer) (x .table) → DistancesGiven t map out (y .answer) (y .table) → x ≡ y
+distances-unique t map out x y p q = views.distances-unique t map out x y p q
+
+pub distance-at-unique : (t : Tables) (map : ℕ) (state : List ℕ) (x y : DistanceAnswer)
+    → DistanceGiven t map state x → DistanceGiven t map state y → x ≡ y
+distance-at-unique t map state x y p q = views.distance-at-unique t map state x y p q
+
+pub bound-unique : (t : Tables) (state : List ℕ) (x y : BoundAnswer) → BoundGiven t state x → BoundGiven t state y → x ≡ y
+bound-unique t state x y p q = views.bound-unique t state x y p q
+
+pub judge-unique : (t : Tables) (state ops : List ℕ) (x y : Judged) → x ≡ judgedOf t state ops → y ≡ judgedOf t state ops → x ≡ y
+judge-unique t state ops x y p q = p ∙ sym q
+
+pub cheaper-unique : (t : Tables) (state a b : List ℕ) (x y : Cheaper) → x ≡ cheaperOf t state a b → y ≡ cheaperOf t state a b → x ≡ y
+cheaper-unique t state a b x y p q = p ∙ sym q
+
+-- where the part stands, and what it holds
+pub opening-unique : (t : Tables) (state : List ℕ) (a b x y : RefT (List ℕ)) → OpeningOf t state a b x → OpeningOf t state a b y
+    → (x .ptr ≡ y .ptr) × (now x ≡ now y)
+opening-unique t state a b x y p q = sequences.opening-unique t state a b x y p q
+
+-- the answer and the run handed back
+pub begin-unique : (t : Tables) (start : List ℕ) (x y : Offered) → x ≡ begun t start → y ≡ begun t start → x ≡ y
+begin-unique t start x y p q = p ∙ sym q
+
+pub offer-unique : (t : Tables) (run : Run) (number op : ℕ) (x y : Offered)
+    → x ≡ offered t run number op → y ≡ offered t run number op → x ≡ y
+offer-unique t run number op x y p q = p ∙ sym q
