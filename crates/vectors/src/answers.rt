@@ -72,6 +72,11 @@ pub fn list_of(answer: Cheaper) -> u64 {
     }
 }
 
+// An entry of an opening part.
+fn say_entry(op: u32) {
+    Line::empty().number(op as u64).write()
+}
+
 // An opening part: its list, its length and its entries, on one line that is written piece by piece.
 pub fn say_opening(list: u64, part: &[u32]) {
     Line::empty()
@@ -81,7 +86,7 @@ pub fn say_opening(list: u64, part: &[u32]) {
         .write();
     let mut i = 0;
     while i < part.len() {
-        Line::empty().number(part[i] as u64).write();
+        say_entry(part[i]);
         i += 1;
     }
     Line::empty().say()

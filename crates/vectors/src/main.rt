@@ -25,6 +25,7 @@ use crate::input::next_text;
 use crate::lines::Line;
 use crate::lines::MOST;
 use crate::lines::say;
+use crate::parts::least;
 use crate::setting::reset;
 use crate::setting::set_or_show;
 
@@ -34,11 +35,8 @@ const TEXT_BYTES: usize = 16500;
 // `t`: the bytes that follow are the text.
 fn take_text(held: &mut [u32], text: &mut [u8], buf: &mut [u8], input: Input, n: u32) -> Input {
     let took = next_text(buf, input, text, n as usize);
-    if took.len < TEXT_BYTES {
-        put(held, TEXT, 0, took.len as u32);
-    } else {
-        put(held, TEXT, 0, TEXT_BYTES as u32);
-    }
+    let len = least(took.len, TEXT_BYTES);
+    put(held, TEXT, 0, len as u32);
     took.input
 }
 
