@@ -1,0 +1,185 @@
+// The calls of the desk's entries: lent copies of what is held, the answer printed, and what has changed printed and kept.
+use crate::answers::list_of;
+use crate::answers::say_begun;
+use crate::answers::say_bound;
+use crate::answers::say_cheaper;
+use crate::answers::say_distance;
+use crate::answers::say_distances;
+use crate::answers::say_found;
+use crate::answers::say_judged;
+use crate::answers::say_offered;
+use crate::answers::say_opening;
+use crate::answers::say_refused;
+use crate::commands::Command;
+use crate::held::COSTS;
+use crate::held::COUNTS;
+use crate::held::FACTS;
+use crate::held::FIRST;
+use crate::held::OUT;
+use crate::held::SECOND;
+use crate::held::SHARES;
+use crate::held::STATE;
+use crate::held::TEXT;
+use crate::held::lent;
+use crate::held::load_bytes;
+use crate::held::load_words;
+use crate::held::save_bytes;
+use crate::held::save_words;
+use crate::held::value;
+use crate::parts::front_bytes;
+use crate::parts::front_words;
+use crate::parts::least;
+use crate::runs::keep_run;
+use crate::runs::run_held;
+use crate::setting::say_counts;
+use crate::setting::set_counts;
+use desk::begin;
+use desk::bound;
+use desk::cheaper;
+use desk::check;
+use desk::distance_at;
+use desk::distances;
+use desk::judge;
+use desk::offer;
+use desk::opening;
+use desk::read;
+use meaning::OpNo;
+use tables::Counts;
+use text::Reading;
+
+// The counts that are held.
+fn counts_held(held: &[u32]) -> Counts {
+    Counts {
+        vars: value(held, COUNTS, 0),
+        ops: value(held, COUNTS, 1),
+        maps: value(held, COUNTS, 2),
+    }
+}
+
+// The answer of `read`; the counts of an accepted text are kept.
+fn keep_reading(held: &mut [u32], answer: Reading) {
+    match answer {
+        Reading::Accepted(c) => {
+            set_counts(held, c.vars, c.ops, c.maps);
+            say_counts(held, b"accepted")
+        }
+        Reading::Refused(r) => say_refused(r),
+    }
+}
+
+// `R`: reads the text into the tables.
+pub fn call_read(held: &mut [u32], text: &[u8]) {
+    let mut facts = [0u8; 1700];
+    let mut costs = [0u32; 80];
+    let mut shares = [0u32; 600];
+    load_bytes(held, FACTS, &mut facts);
+    load_words(held, COSTS, &mut costs);
+    load_words(held, SHARES, &mut shares);
+    let task = front_bytes(text, value(held, TEXT, 0) as usize);
+    let f = least(lent(held, FACTS), 1700);
+    let c = least(lent(held, COSTS), 80);
+    let s = least(lent(held, SHARES), 600);
+    let answer = read(task, &mut facts[..f], &mut costs[..c], &mut shares[..s]);
+    keep_reading(held, answer);
+    save_bytes(held, FACTS, &facts);
+    save_words(held, COSTS, &costs);
+    save_words(held, SHARES, &shares);
+}
+
+// `D`: the distances of a map.
+fn call_distances(held: &mut [u32], facts: &[u8], costs: &[u32], shares: &[u32], map: u32) {
+    let mut out = [0u32; 4200];
+    load_words(held, OUT, &mut out);
+    let n = least(lent(held, OUT), 4200);
+    let c = counts_held(held);
+    say_distances(distances(c, facts, costs, shares, map, &mut out[..n]));
+    save_words(held, OUT, &out);
+}
+
+// `J`, `C` and `P`: the lists of operators.
+fn call_lists(held: &[u32], facts: &[u8], costs: &[u32], shares: &[u32], state: &[u8], letter: u8) {
+    let c = counts_held(held);
+    let mut first = [0u32; 400];
+    let mut second = [0u32; 400];
+    load_words(held, FIRST, &mut first);
+    load_words(held, SECOND, &mut second);
+    let a = front_words(&first, lent(held, FIRST));
+    let b = front_words(&second, lent(held, SECOND));
+    if letter == b'J' {
+        return say_judged(judge(c, facts, costs, shares, state, a));
+    }
+    let answer = cheaper(c, facts, costs, shares, state, a, b);
+    if letter == b'C' {
+        return say_cheaper(answer);
+    }
+    say_opening(
+        list_of(answer),
+        opening(c, facts, costs, shares, state, a, b),
+    )
+}
+
+// `G`: begins a run.
+fn call_begin(held: &mut [u32], facts: &[u8], costs: &[u32], shares: &[u32], state: &[u8]) {
+    let c = counts_held(held);
+    let begun = begin(c, facts, costs, shares, state);
+    let answer = begun.answer;
+    let run = begun.run;
+    say_begun(answer);
+    keep_run(held, run)
+}
+
+// `O`: offers a step to the run.
+fn call_offer(held: &mut [u32], facts: &[u8], costs: &[u32], shares: &[u32], number: u32, op: u32) {
+    let c = counts_held(held);
+    let offered = offer(run_held(held), c, facts, costs, shares, number, OpNo(op));
+    let answer = offered.answer;
+    let run = offered.run;
+    say_offered(answer);
+    keep_run(held, run)
+}
+
+// One call over tables and a state.
+fn call_over(
+    held: &mut [u32],
+    facts: &[u8],
+    costs: &[u32],
+    shares: &[u32],
+    state: &[u8],
+    command: Command,
+) {
+    let c = counts_held(held);
+    let letter = command.letter;
+    let a = command.value(0);
+    match letter {
+        b'K' => say_found(check(c, facts, costs, shares)),
+        b'D' => call_distances(held, facts, costs, shares, a),
+        b'A' => say_distance(distance_at(c, facts, costs, shares, a, state)),
+        b'B' => say_bound(bound(c, facts, costs, shares, state)),
+        b'G' => call_begin(held, facts, costs, shares, state),
+        b'O' => call_offer(held, facts, costs, shares, a, command.value(1)),
+        _ => call_lists(held, facts, costs, shares, state, letter),
+    }
+}
+
+// Every call but `R`: the tables and the state are lent as they are held.
+pub fn call(held: &mut [u32], command: Command) {
+    let mut facts = [0u8; 1700];
+    let mut costs = [0u32; 80];
+    let mut shares = [0u32; 600];
+    let mut state = [0u8; 16];
+    load_bytes(held, FACTS, &mut facts);
+    load_words(held, COSTS, &mut costs);
+    load_words(held, SHARES, &mut shares);
+    load_bytes(held, STATE, &mut state);
+    let f = front_bytes(&facts, lent(held, FACTS));
+    let c = front_words(&costs, lent(held, COSTS));
+    let s = front_words(&shares, lent(held, SHARES));
+    call_over(
+        held,
+        f,
+        c,
+        s,
+        front_bytes(&state, lent(held, STATE)),
+        command,
+    )
+}

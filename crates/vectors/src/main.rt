@@ -1,0 +1,112 @@
+// The vectors: a script on standard input is carried out against the desk's entries, and what they answer and change is printed.
+// The form of a script and of what is printed is in docs/VECTORS.md.
+mod answers;
+mod calls;
+mod commands;
+mod held;
+mod input;
+mod lines;
+mod parts;
+mod runs;
+mod setting;
+
+use crate::calls::call;
+use crate::calls::call_read;
+use crate::commands::Command;
+use crate::commands::known;
+use crate::commands::parsed;
+use crate::held::PLACES;
+use crate::held::TEXT;
+use crate::held::put;
+use crate::input::Input;
+use crate::input::TURNS;
+use crate::input::next_line;
+use crate::input::next_text;
+use crate::lines::Line;
+use crate::lines::MOST;
+use crate::lines::say;
+use crate::parts::least;
+use crate::setting::reset;
+use crate::setting::set_or_show;
+
+// The most bytes of a text that are kept.
+const TEXT_BYTES: usize = 16500;
+
+// `t`: the bytes that follow are the text.
+fn take_text(held: &mut [u32], text: &mut [u8], buf: &mut [u8], input: Input, n: u32) -> Input {
+    let took = next_text(buf, input, text, n as usize);
+    let len = least(took.len, TEXT_BYTES);
+    put(held, TEXT, 0, len as u32);
+    took.input
+}
+
+// A command of the form.
+fn obey(held: &mut [u32], text: &[u8], command: Command) {
+    let letter = command.letter;
+    match letter {
+        b'R' => call_read(held, text),
+        b'z' | b'n' | b'l' | b's' | b'e' | b'p' | b'q' => set_or_show(held, command),
+        _ => call(held, command),
+    }
+}
+
+// A line that is no comment. Off the form it is bad, and nothing else happens.
+fn obey_line(held: &mut [u32], text: &mut [u8], buf: &mut [u8], input: Input, line: Line) -> Input {
+    let command = parsed(line);
+    let letter = command.letter;
+    if !command.fine {
+        say(b"bad");
+        return input;
+    }
+    if !known(letter, command.count) {
+        say(b"bad");
+        return input;
+    }
+    if letter == b't' {
+        return take_text(held, text, buf, input, command.value(0));
+    }
+    obey(held, text, command);
+    input
+}
+
+// A line: where the reading stands after it and after what belongs to it.
+fn carry_out(held: &mut [u32], text: &mut [u8], buf: &mut [u8], input: Input, line: Line) -> Input {
+    let n = line.len;
+    if n == 0 {
+        say(b"bad");
+        return input;
+    }
+    if MOST < n {
+        say(b"bad");
+        return input;
+    }
+    if line.at(0) == b'#' {
+        line.say();
+        return input;
+    }
+    obey_line(held, text, buf, input, line)
+}
+
+// The script, line by line. A last line without its line end isn't carried out.
+fn carry_out_all(held: &mut [u32], text: &mut [u8], buf: &mut [u8]) {
+    let mut input = Input { at: 0, len: 0 };
+    let mut turns = TURNS;
+    while 0 < turns {
+        turns -= 1;
+        let got = next_line(buf, input);
+        if !got.whole {
+            return;
+        }
+        let after = got.input;
+        let line = got.line;
+        input = carry_out(held, text, buf, after, line);
+    }
+}
+
+fn main() {
+    let mut held = [0u32; PLACES];
+    let mut text = [0u8; TEXT_BYTES];
+    let mut buf = [0u8; 4096];
+    reset(&mut held);
+    carry_out_all(&mut held, &mut text, &mut buf)
+}
