@@ -16,7 +16,7 @@ use Rattle.tables.specs.Layout.{rowAt, domAt, classRow, classAt}
 use Rattle.tables.specs.Task.{stateOf}
 use Rattle.views.specs.Sweeps.{Made}
 use Rattle.views.specs.Classes.{unpriced, viewOf, SeenAt, Classed}
-use Rattle.views.proofs.Walking.{size-le, Numbered, numbered-next}
+use Rattle.views.proofs.Walking.{size-le, Numbered, numbered-small, numbered-next}
 
 -- ---- a fact seen by classes
 
@@ -92,7 +92,12 @@ module _ (c : Counts) (facts : List ℕ) (m : ℕ) (ok : Valid (unpriced c facts
       → z ≡ image (viewOf facts m []) (stateOf s) v
   class-is s v x row y z r e h g = g ∙ h ∙ ap₂ (rowAt facts) r e
 
-  -- the numbers stay small on the way to an image
+  -- the numbers stay small on the way to an image, and so do those of the next turn
+  pub image-small : (s : List ℕ) → IsState (unpriced c facts .sas) (stateOf s) → (v stride b : ℕ)
+      → Numbered (viewOf facts m [] .classes) (image (viewOf facts m []) (stateOf s)) (c .vars) v stride b → (stride ≤ 4096) × (b < 4096)
+  image-small s h =
+      numbered-small (viewOf facts m [] .classes) (image (viewOf facts m []) (stateOf s)) (c .vars) counts-positive (image-digits s h) (ok .few-states m lm)
+
   pub image-next : (s : List ℕ) → IsState (unpriced c facts .sas) (stateOf s) → (v stride b : ℕ)
       → Numbered (viewOf facts m [] .classes) (image (viewOf facts m []) (stateOf s)) (c .vars) v stride b → v < c .vars → (x k : ℕ)
       → x ≡ image (viewOf facts m []) (stateOf s) v → k ≡ viewOf facts m [] .classes v → (stride * k ≤ 4096) × (b + x * stride < 4096)

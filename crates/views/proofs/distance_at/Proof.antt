@@ -20,7 +20,8 @@ away-of-requires : tie.Need-away-of-requires
 away-of-requires c κs =
     let a = c .before .before .before .before .before .before .before .args in
     let distance-fault = c .before .before .distance-fault in
-    let q = distance-clean (tables (a .c) (a .facts .now) (a .costs .now) (a .shares .now)) (a .map) (a .s .now) (sym (distance-fault .ensures) ∙ c .enum-told .given .1) in
+    let q = distance-clean (tables (a .c) (a .facts .now) (a .costs .now) (a .shares .now)) (a .map) (a .s .now)
+    (sym (distance-fault .ensures) ∙ c .enum-told .given .1) in
     (valid-unpriced (a .c) (a .facts .now) (a .costs .now) (a .shares .now) (q .0), q .1, (λ o l. q .0 .shares (a .map) o (q .1) l), q .2)
 
 as-distance-requires : tie.Need-as-distance-requires
@@ -30,7 +31,8 @@ returns : tie.Need-returns
 returns c =
     let a = c .before .before .before .before .before .before .before .before .args in
     let distance-fault = c .before .before .before .distance-fault in
-    given-distance-refused (tables (a .c) (a .facts .now) (a .costs .now) (a .shares .now)) (a .map) (a .s .now) (c .before .found .given .0 .0) (sym (distance-fault .ensures) ∙ c .before .found .given .1)
+    given-distance-refused (tables (a .c) (a .facts .now) (a .costs .now) (a .shares .now)) (a .map) (a .s .now) (c .before .found .given .0 .0)
+    (sym (distance-fault .ensures) ∙ c .before .found .given .1)
 
 returns-2 : tie.Need-returns-2
 returns-2 c =

@@ -47,7 +47,8 @@ returns-2 c =
     let a = c .before .before .before .before .before .before .before .before .before .args in
     let if1 = c .before .before .before .before .if1 in
     let asked-fault = c .before .before .before .asked-fault in
-    given-refused (tables (a .c) (a .facts .now) (a .costs .now) (a .shares .now)) (a .map) (a .out .now) (c .before .found .given .0 .0) (if1 .left) (sym (asked-fault .ensures) ∙ c .before .found .given .1)
+    given-refused (tables (a .c) (a .facts .now) (a .costs .now) (a .shares .now)) (a .map) (a .out .now) (c .before .found .given .0 .0)
+    (if1 .left) (sym (asked-fault .ensures) ∙ c .before .found .given .1)
 
 same-length : tie.Need-same-length
 same-length c = search needs
@@ -62,7 +63,8 @@ returns-3 c =
     let view-rounds = c .before .before .view-rounds in
     let e = sym (asked-fault .ensures) ∙ enum-told .given .1 in
     let q = asked-clean (tables (a .c) (a .facts .now) (a .costs .now) (a .shares .now)) (a .map) e in
-    given-rounds (a .c) (a .facts .now) (a .costs .now) (a .shares .now) (a .map) (share-row .result) (a .out .now) (view-rounds .last .1 .1 .1 .1 .0) (view-rounds .result)
+    given-rounds (a .c) (a .facts .now) (a .costs .now) (a .shares .now) (a .map) (share-row .result)
+    (a .out .now) (view-rounds .last .1 .1 .1 .1 .0) (view-rounds .result)
     (λ o l. share-row .ensures o (omega (arith, q .0 .ops))) (if1 .left) e (view-rounds .ensures)
 
 pub distances-spec : {M : Type 1} → statement M

@@ -22,7 +22,8 @@ count-of-requires c κs =
     let pre = c .before .before .before .before .pre in
     let a = c .before .before .before .before .args in
     let row-at = c .before .before .row-at in
-    class-below (a .c) (a .facts .now) (a .m) (pre .0) (pre .1) (a .v) (pre .2) (c .before .wide .result) (c .class-row .result) (c .before .wide .ensures .0 ∙ row-at .ensures) (c .class-row .ensures)
+    class-below (a .c) (a .facts .now) (a .m) (pre .0) (pre .1) (a .v) (pre .2)
+    (c .before .wide .result) (c .class-row .result) (c .before .wide .ensures .0 ∙ row-at .ensures) (c .class-row .ensures)
 
 cast-result : tie.Need-cast-result
 cast-result c =
@@ -30,7 +31,8 @@ cast-result c =
     let a = c .before .before .before .before .before .args in
     let row-at = c .before .before .before .row-at in
     let wide = c .before .before .wide in
-    let e = count-is (a .c) (a .facts .now) (a .m) (pre .0) (pre .1) (a .v) (wide .result) (c .before .class-row .result) (c .count-of .result) (wide .ensures .0 ∙ row-at .ensures) (c .before .class-row .ensures) (c .count-of .ensures) in
+    let e = count-is (a .c) (a .facts .now) (a .m) (pre .0) (pre .1) (a .v)
+    (wide .result) (c .before .class-row .result) (c .count-of .result) (wide .ensures .0 ∙ row-at .ensures) (c .before .class-row .ensures) (c .count-of .ensures) in
     omega (arith, count-byte (a .c) (a .facts .now) (a .m) (pre .0) (pre .1) (a .v) (c .count-of .result) (pre .2) e)
 
 returns : tie.Need-returns
@@ -39,7 +41,8 @@ returns c =
     let a = c .before .before .before .before .before .args in
     let row-at = c .before .before .before .row-at in
     let wide = c .before .before .wide in
-    count-is (a .c) (a .facts .now) (a .m) (pre .0) (pre .1) (a .v) (wide .result) (c .before .class-row .result) (c .count-of .result) (wide .ensures .0 ∙ row-at .ensures) (c .before .class-row .ensures) (c .count-of .ensures)
+    count-is (a .c) (a .facts .now) (a .m) (pre .0) (pre .1) (a .v)
+    (wide .result) (c .before .class-row .result) (c .count-of .result) (wide .ensures .0 ∙ row-at .ensures) (c .before .class-row .ensures) (c .count-of .ensures)
 
 pub class-count-spec : {M : Type 1} → statement M
 class-count-spec =

@@ -8,7 +8,7 @@ use Rattle.meaning.specs.Views.{image}
 use Rattle.tables.specs.Task.{stateOf}
 use Rattle.views.specs.Classes.{viewOf}
 use Rattle.views.proofs.Walking.{Numbered, numbered-none, numbered-more, numbered-all}
-use Rattle.views.proofs.Classing.{class-is, image-next}
+use Rattle.views.proofs.Classing.{class-is, image-next, image-small}
 use Rattle.views.proofs.classes.image_of.Statement.{statement}
 use Rattle.views.proofs.classes.image_of.Tie as tie
 
@@ -67,21 +67,6 @@ class-count-requires c κs =
 wide-requires-3 : tie.Need-wide-requires-3 Inv-loop μ-loop
 wide-requires-3 c κs = search needs
 
-mul-stride : tie.Need-mul-stride Inv-loop μ-loop
-mul-stride c =
-    let pre = c .before .before .before .before .before .before .before .before .before .before .before .pre in
-    let a = c .before .before .before .before .before .before .before .before .before .before .before .args in
-    let l = c .before .before .before .before .before .before .before .before .loop in
-    let loop-test = c .before .before .before .before .before .before .before .loop-test in
-    let class-row = c .before .before .before .before .before .before .class-row in
-    let byte-at = c .before .before .before .before .before .byte-at in
-    let wide = c .before .before .before .before .wide in
-    let row-at = c .before .before .before .row-at in
-    let wide2 = c .before .before .wide2 in
-    let x = class-is (a .c) (a .facts .now) (a .m) (pre .0) (pre .1) (a .s .now) (l .v) (wide .result) (class-row .result) (row-at .result) (wide2 .result)
-    (class-row .ensures) (wide .ensures .0 ∙ byte-at .ensures) (row-at .ensures) (wide2 .ensures .0) in
-    omega (arith, image-next (a .c) (a .facts .now) (a .m) (pre .0) (pre .1) (a .s .now) (pre .2) (l .v) (l .stride) (l .b) (l .inv) (loop-test .taken) (wide2 .result) (c .wide3 .result) x (c .wide3 .ensures .0 ∙ c .before .class-count .ensures) .0)
-
 add-v : tie.Need-add-v Inv-loop μ-loop
 add-v c = search needs
 
@@ -114,6 +99,12 @@ returns c =
 
 mul-b : tie.Need-mul-b Inv-loop μ-loop
 mul-b c = omega (arith, add-b c)
+
+mul-stride : tie.Need-mul-stride Inv-loop μ-loop
+mul-stride c =
+    let pre = c .before .before .before .before .before .before .before .before .before .before .before .pre in
+    let a = c .before .before .before .before .before .before .before .before .before .before .before .args in
+    omega (arith, image-small (a .c) (a .facts .now) (a .m) (pre .0) (pre .1) (a .s .now) (pre .2) _ _ _ (loop-again c) .0)
 
 pub image-of-spec : {M : Type 1} → statement M
 image-of-spec =

@@ -30,7 +30,11 @@ mul-n c =
     let a = c .before .before .before .before .before .args in
     let l = c .before .before .before .loop in
     let loop-test = c .before .before .loop-test in
-    omega (arith, product-small (domAt (a .facts .now)) (a .c .vars) (l .v) (l .n) (c .wide .result) (pre .values) (pre .few) (loop-test .taken) (l .inv .1) (c .wide .ensures .0 ∙ c .before .row-at .ensures))
+    omega (
+      arith,
+      product-small (domAt (a .facts .now)) (a .c .vars) (l .v) (l .n) (c .wide .result)
+          (pre .values) (pre .few) (loop-test .taken) (l .inv .1) (c .wide .ensures .0 ∙ c .before .row-at .ensures),
+    )
 
 add-v : tie.Need-add-v Inv-loop μ-loop
 add-v c = search needs

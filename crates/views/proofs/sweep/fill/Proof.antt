@@ -66,7 +66,8 @@ loop-again c =
     let loop-test = c .before .before .before .before .loop-test in
     let digits = c .before .before .before .digits in
     let inside : l .a < length (l .t) = omega (arith, l .inv .1 .size, pre .2, loop-test .taken) in
-    (search needs, made-more _ _ (l .a) _ (l .t) inside (l .inv .1) (c .start .ensures ∙ ap atGoal (c .before .meets-goal .ensures ∙ goal-is (a .c) (a .facts .now) [] (l .a) (digits .result) (digits .ensures))))
+    let goal = c .before .meets-goal .ensures ∙ goal-is (a .c) (a .facts .now) [] (l .a) (digits .result) (digits .ensures) in
+    (search needs, made-more _ _ (l .a) _ (l .t) inside (l .inv .1) (c .start .ensures ∙ ap atGoal goal))
 
 same-length : tie.Need-same-length Inv-loop μ-loop
 same-length c = search needs

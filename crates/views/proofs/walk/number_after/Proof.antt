@@ -6,7 +6,7 @@ use native.Mathlib.Omega.{arith}
 use Rattle.meaning.specs.Sas.{put}
 use Rattle.tables.specs.Layout.{domAt}
 use Rattle.tables.specs.Steps.{valueAfter}
-use Rattle.views.proofs.Walking.{Numbered, numbered-none, numbered-more, numbered-next, numbered-all}
+use Rattle.views.proofs.Walking.{Numbered, numbered-none, numbered-more, numbered-next, numbered-small, numbered-all}
 use Rattle.views.proofs.walk.number_after.Statement.{statement}
 use Rattle.views.proofs.walk.number_after.Tie as tie
 
@@ -56,22 +56,6 @@ row-at-requires-2 c κs = search needs
 wide-requires-2 : tie.Need-wide-requires-2 Inv-loop μ-loop
 wide-requires-2 c κs = search needs
 
-mul-stride : tie.Need-mul-stride Inv-loop μ-loop
-mul-stride c =
-    let pre = c .before .before .before .before .before .before .before .before .before .before .pre in
-    let a = c .before .before .before .before .before .before .before .before .before .before .args in
-    let l = c .before .before .before .before .before .before .before .loop in
-    let loop-test = c .before .before .before .before .before .before .loop-test in
-    let row-at = c .before .before .before .before .before .row-at in
-    let byte-at = c .before .before .before .before .byte-at in
-    let value-after = c .before .before .before .value-after in
-    let wide = c .before .before .wide in
-    let x = wide .ensures .0 ∙ value-after .ensures ∙ ap₂ put (row-at .ensures) (byte-at .ensures) in
-    let t =
-    numbered-next (domAt (a .facts .now)) (valueAfter (a .facts .now) (a .row) (a .s .now)) (a .vars) (pre .0 .0) (pre .1) (pre .0 .1)
-    (l .v) (l .stride) (l .b) (l .inv) (loop-test .taken) (wide .result) (c .wide2 .result) x (c .wide2 .ensures .0 ∙ c .before .row-at2 .ensures) in
-    omega (arith, t .0)
-
 add-v : tie.Need-add-v Inv-loop μ-loop
 add-v c = search needs
 
@@ -100,6 +84,13 @@ returns c =
 
 mul-b : tie.Need-mul-b Inv-loop μ-loop
 mul-b c = omega (arith, add-b c)
+
+mul-stride : tie.Need-mul-stride Inv-loop μ-loop
+mul-stride c =
+    let pre = c .before .before .before .before .before .before .before .before .before .before .pre in
+    let a = c .before .before .before .before .before .before .before .before .before .before .args in
+    let t = numbered-small (domAt (a .facts .now)) (valueAfter (a .facts .now) (a .row) (a .s .now)) (a .vars) (pre .0 .0) (pre .1) (pre .0 .1) _ _ _ (loop-again c) in
+    omega (arith, t .0)
 
 pub number-after-spec : {M : Type 1} → statement M
 number-after-spec =
