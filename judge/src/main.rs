@@ -23,6 +23,7 @@ use std::io::{Read, Write};
 
 const USAGE: &str = "\
 judge vectors SEED COUNT   writes a script of so many vectors
+judge seeds FIRST COUNT    writes as many scripts of one vector by chance, one a seed, after one another
 judge long                 writes the script of the vectors that take long
 judge expect < SCRIPT      writes what the program of the vectors must print
 judge desk < TEXT          writes what the desk program must write
@@ -47,10 +48,17 @@ fn vectors(seed: u64, count: usize) -> Vec<u8> {
     builder::script_of(&vectors)
 }
 
+/// Scripts of one vector by chance, one a seed from the first on; the seed also tells the kind.
+fn seeds(first: u64, count: usize) -> Vec<u8> {
+    let vectors: Vec<_> = (0..count).map(|i| kinds::by_chance(&mut rng::Rng::new(first + i as u64), i)).collect();
+    builder::script_of(&vectors)
+}
+
 /// The output for the words of the command line, if they make sense.
 fn output(words: &[&str]) -> Option<Vec<u8>> {
     match words {
         ["vectors", seed, count] => Some(vectors(seed.parse().ok()?, count.parse().ok()?)),
+        ["seeds", first, count] => Some(seeds(first.parse().ok()?, count.parse().ok()?)),
         ["long"] => Some(builder::script_of(&edges::long())),
         ["expect"] => Some(script::expect(&input())),
         ["desk"] => Some(desk::program(&input()).into_bytes()),
