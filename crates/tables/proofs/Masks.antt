@@ -19,7 +19,7 @@ use Rattle.tables.specs.Classes.{maskOf}
 
 -- ---- the number whose bit c is set exactly if f c, for each c below n
 
-abbrev bit : Bool → ℕ
+abbrev pub bit : Bool → ℕ
 bit true = 1
 bit false = 0
 
@@ -28,7 +28,7 @@ bits zero f = 0
 bits (suc n) f = bit (f n) * 2 ^ n + bits n f
 
 -- one more than the largest c below n with f c; 0 where there is none
-abbrev topIf : Bool → ℕ → ℕ → ℕ
+abbrev pub topIf : Bool → ℕ → ℕ → ℕ
 topIf true n t = suc n
 topIf false n t = t
 
@@ -123,7 +123,7 @@ module _ (f : ℕ → Bool) where
 
 -- ---- one class more
 
-bits-same : (f g : ℕ → Bool) (n : ℕ) → ((d : ℕ) → d < n → f d ≡ g d) → bits n f ≡ bits n g
+pub bits-same : (f g : ℕ → Bool) (n : ℕ) → ((d : ℕ) → d < n → f d ≡ g d) → bits n f ≡ bits n g
 unfolding bits
 bits-same f g zero e = refl
 bits-same f g (suc n) e = simp (e n (le-refl (suc n)), bits-same f g n (λ d h. e d (omega arith)))
@@ -132,7 +132,7 @@ with-one : (b : Bool) → bitOr (bit b) 1 ≡ 1
 with-one true = refl
 with-one false = refl
 
-or-bits : (f : ℕ → Bool) (n c : ℕ) → c < n → bitOr (bits n f) (2 ^ c) ≡ bits n (λ d. f d || eqb c d)
+pub or-bits : (f : ℕ → Bool) (n c : ℕ) → c < n → bitOr (bits n f) (2 ^ c) ≡ bits n (λ d. f d || eqb c d)
 unfolding bits
 or-bits f zero c h = absurd (lt-irrefl 0 (omega arith))
 or-bits f (suc n) c h = go (or-bits f n c) (eq-or-lt-of-le (le-of-suc-le-suc h))
@@ -165,7 +165,7 @@ or-top f (suc n) c h = go (f n) (or-top f n c) (eq-or-lt-of-le (le-of-suc-le-suc
     go false ih (inl e) = rw (eq-eqb c n e) (omega (arith, top-le f n))
     go false ih (inr l) = rw (ne-eqb c n (λ q. lt-irrefl n (omega arith))) (ih l)
 
-bits-none : (n : ℕ) → bits n (λ c. false) ≡ 0
+pub bits-none : (n : ℕ) → bits n (λ c. false) ≡ 0
 unfolding bits
 bits-none zero = refl
 bits-none (suc n) = rw (bits-none n) (add-zero (0 * 2 ^ n) ∙ zero-mul (2 ^ n))
@@ -176,7 +176,7 @@ top-none zero = refl
 top-none (suc n) = top-none n
 
 -- a shift of 1 by a class, at any width w
-one-shl : (w k : ℕ) → k < w → 1 * 2 ^ k % 2 ^ w ≡ 2 ^ k
+pub one-shl : (w k : ℕ) → k < w → 1 * 2 ^ k % 2 ^ w ≡ 2 ^ k
 one-shl w k h = shl-exact 1 k w (lit< tt) (omega arith) ∙ one-mul (2 ^ k)
 
 -- ---- the mask of a row of classes
