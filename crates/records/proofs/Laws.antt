@@ -7,21 +7,24 @@ use mathlib.Core.List.{List}
 use native.Mathlib.Numerals.{add-one}
 use native.Mathlib.Omega.{arith}
 use lib.Dec.{leb}
-use lib.ListN.{length, getD, set, replicate}
+use lib.ListN.{length, getD, set, take, replicate, length-set, length-replicate}
+use lib.Seq.{length-take-le, take-all, getD-take, ext-getD}
 use native.Mathlib.Nat.{le-refl}
 use borrow.Author.Tests.{le-leb, lt-leb, leb-true, leb-false}
 use Rattle.refusals.specs.declared.Refusal.the-variants.{TableTooShort}
 use Rattle.tables.specs.declared.Counts.{Counts}
-use Rattle.tables.specs.Layout.{factsRoom}
+use Rattle.tables.specs.Layout.{preRow, effRow, factsRoom, costsRoom}
 use Rattle.tables.specs.Task.{stateOf, tables}
 use Rattle.tables.specs.Steps.{filled}
-use Rattle.tables.proofs.Laws.{by-cases, filled-end}
+use Rattle.tables.specs.Scan.{roomy, tablesFault}
+use Rattle.tables.proofs.Laws.{by-cases, filled-end, filled-at, length-filled}
 use Rattle.sequences.specs.declared.judging.Judged.{Judged}
 use Rattle.sequences.specs.declared.judging.Judged.the-variants.{Refused}
+use Rattle.sequences.specs.Stepping.{inputFault}
 use Rattle.sequences.specs.Judging.{judgedOf}
 use Rattle.records.specs.declared.OpRecord.{OpRecord}
 use Rattle.records.specs.declared.laying.Laid.{Laid}
-use Rattle.records.specs.Records.{recordAt, atMost, counted, rowLaid, laidOne, laidOf, copyOf, laidJudged}
+use Rattle.records.specs.Records.{recordAt, atMost, counted, rowLaid, laidOne, laidOf, blank, copyOf, recordsTables, laidJudged}
 
 -- ---- at most a limit
 
@@ -74,3 +77,62 @@ module _ (c d : Counts) (room n : ℕ) (t : Laid) (shares s ops : List ℕ) wher
 pub judged-short : (c : Counts) (room n : ℕ) (t : Laid) (shares s ops : List ℕ) → room < factsRoom → Refused TableTooShort ≡ laidJudged c room n t shares s ops
 unfolding laidJudged
 judged-short c room n t shares s ops h = rw (lt-leb factsRoom room h)
+
+-- ---- nothing changes its length
+
+pub length-row : (facts values : List ℕ) (row n : ℕ) → length (rowLaid facts row values n) ≡ length facts
+unfolding rowLaid
+length-row facts values row zero = refl
+length-row facts values row (suc n) =
+    length-set (rowLaid facts row values n) (row * 8 + n) (getD values n 0) ∙ length-row facts values row n
+
+pub length-laid-facts : (rows : List OpRecord) (n : ℕ) (t : Laid) → length (laidOf rows n t .facts) ≡ length (t .facts)
+unfolding laidOf laidOne
+length-laid-facts rows zero t = refl
+length-laid-facts rows (suc o) t =
+    let u = laidOf rows o t in
+    length-row (rowLaid (u .facts) (preRow o) (recordAt rows o .pre) 8) (recordAt rows o .eff) (effRow o) 8
+    ∙ length-row (u .facts) (recordAt rows o .pre) (preRow o) 8
+    ∙ length-laid-facts rows o t
+
+pub length-laid-costs : (rows : List OpRecord) (n : ℕ) (t : Laid) → length (laidOf rows n t .costs) ≡ length (t .costs)
+unfolding laidOf laidOne
+length-laid-costs rows zero t = refl
+length-laid-costs rows (suc o) t = length-set (laidOf rows o t .costs) o (recordAt rows o .cost) ∙ length-laid-costs rows o t
+
+-- ---- the entry
+
+-- a copy of facts that have their room is what the row's tables start from
+copied-taken : (l : List ℕ) (n : ℕ) → n ≤ length l → filled (stateOf l) (replicate n 0) n ≡ take n l
+copied-taken l n h =
+    let e : length (filled (stateOf l) (replicate n 0) n) ≡ n = length-filled (stateOf l) (replicate n 0) n ∙ length-replicate n 0 in
+    ext-getD 0 (filled (stateOf l) (replicate n 0) n) (take n l) (e ∙ sym (length-take-le n l h))
+    (λ i g. filled-at (stateOf l) (replicate n 0) n i (omega arith) (omega (arith, length-replicate {A = ℕ} n 0)) ∙ sym (getD-take n l i 0 (omega arith)))
+
+copied-blank : (facts : List ℕ) → factsRoom ≤ length facts → copyOf facts ≡ blank facts
+copied-blank facts h = ap (λ (x : List ℕ). record { facts = x; costs = replicate costsRoom 0 }) (copied-taken facts factsRoom h)
+
+-- facts that don't have their room are refused as such
+short-refused : (c : Counts) (facts shares s ops : List ℕ) (rows : List OpRecord) → length facts < factsRoom
+    → judgedOf (recordsTables c facts shares rows) s ops ≡ Refused TableTooShort
+unfolding recordsTables judgedOf inputFault tablesFault roomy
+short-refused c facts shares s ops rows h =
+    let e : length (laidOf rows (atMost 64 (length rows)) (blank facts) .facts) ≡ length facts
+        = length-laid-facts rows (atMost 64 (length rows)) (blank facts) ∙ ap length (take-all factsRoom facts (omega arith)) in
+    rw (e, lt-leb factsRoom (length facts) h)
+
+module _ (c : Counts) (facts shares s ops : List ℕ) (rows : List OpRecord) where
+  laid-judged : laidJudged c (length facts) (length rows) (laidOf rows (atMost 64 (length rows)) (copyOf facts)) shares s ops
+      ≡ judgedOf (recordsTables c facts shares rows) s ops
+  unfolding laidJudged recordsTables
+  laid-judged =
+      by-cases (leb factsRoom (length facts))
+      (λ e. rw e (ap (λ (b : Laid). let t = laidOf rows (atMost 64 (length rows)) b in judgedOf (tables (counted c (length rows)) (t .facts) (t .costs) shares) s ops)
+      (copied-blank facts (leb-true factsRoom (length facts) e))))
+      (λ e. rw e (sym (short-refused c facts shares s ops rows (omega (arith, leb-false factsRoom (length facts) e)))))
+
+  -- the answer from what the three calls answered
+  pub judged-records : (t g : Laid) (r : Judged) → t ≡ copyOf facts → g ≡ laidOf rows (atMost 64 (length rows)) t
+      → r ≡ laidJudged c (length facts) (length rows) g shares s ops → r ≡ judgedOf (recordsTables c facts shares rows) s ops
+  judged-records t g r p q e =
+      e ∙ ap (λ (x : Laid). laidJudged c (length facts) (length rows) x shares s ops) (q ∙ ap (laidOf rows (atMost 64 (length rows))) p) ∙ laid-judged
