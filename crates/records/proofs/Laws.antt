@@ -118,7 +118,7 @@ short-refused : (c : Counts) (facts shares s ops : List ℕ) (rows : List OpReco
 unfolding recordsTables judgedOf inputFault tablesFault roomy
 short-refused c facts shares s ops rows h =
     let e : length (laidOf rows (atMost 64 (length rows)) (blank facts) .facts) ≡ length facts
-        = length-laid-facts rows (atMost 64 (length rows)) (blank facts) ∙ ap length (take-all factsRoom facts (omega arith)) in
+    = length-laid-facts rows (atMost 64 (length rows)) (blank facts) ∙ ap length (take-all factsRoom facts (omega arith)) in
     rw (e, lt-leb factsRoom (length facts) h)
 
 module _ (c : Counts) (facts shares s ops : List ℕ) (rows : List OpRecord) where

@@ -37,7 +37,10 @@ pub fn copied(facts: &[u8]) -> Laid
         copy[k] = byte_at(facts, k);
         k += 1;
     }
-    Laid { facts: copy, costs: [0u32; 64] }
+    Laid {
+        facts: copy,
+        costs: [0u32; 64],
+    }
 }
 
 // The facts with a record's 8 places laid at a row.
@@ -65,7 +68,10 @@ pub fn with_record(t: Laid, o: usize, r: OpRecord) -> Laid
     let eff = r.eff;
     let cost = r.cost;
     costs[o] = cost;
-    Laid { facts: with_row(with_row(facts, 3 + o, pre), 67 + o, eff), costs: costs }
+    Laid {
+        facts: with_row(with_row(facts, 3 + o, pre), 67 + o, eff),
+        costs: costs,
+    }
 }
 
 // The counts with the row's length for the number of operators: any number above the limit stands as one above it.
@@ -73,7 +79,11 @@ pub fn counted(c: Counts, n: usize) -> Counts
     ensures { λ d. ⌜ d ≡ counted c n ⌝ }
 {
     let ops = at_most(MORE, n) as u32;
-    Counts { vars: c.vars, ops: ops, maps: c.maps }
+    Counts {
+        vars: c.vars,
+        ops: ops,
+        maps: c.maps,
+    }
 }
 
 // Judging over the laid tables. The lent facts must have had their room, since a copy has it always.

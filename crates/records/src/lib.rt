@@ -29,5 +29,13 @@ pub fn judge_records<'a, 'r>(
 ) -> Judged
     ensures { λ r. ⌜ r ≡ judgedOf (recordsTables c (now (facts .entry)) (now (shares .entry)) (now (rows .entry))) (now (s .entry)) (now (ops .entry)) ⌝ }
 {
-    judge_laid(c, facts.len(), rows.len(), gather(rows, copied(facts)), shares, s, ops)
+    judge_laid(
+        c,
+        facts.len(),
+        rows.len(),
+        gather(rows, copied(facts)),
+        shares,
+        s,
+        ops,
+    )
 }

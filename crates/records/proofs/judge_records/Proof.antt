@@ -267,13 +267,22 @@ module _ {M : Type 1} (𝓤 : URA M) (H : Heap 𝓤) (A : Atoms 𝓤) (W : Given
       (are .0) (are .1 .0 .0 .1) (are .1 .1 .0 .0 .1) (are .1 .1 .1 .0 .0 .1) (are .1 .1 .1 .1 .0 .0 .1) (are .1 .1 .1 .1 .1 .0 .0 .1) known-copied known-gather known-judge))
 
   rows-meets : Meets 𝓤 H A rows.signature (WpFn 𝓤 H (𝓣 .C) (𝓣 .Λ) code.function) (rows.spec 𝓤 H A mem run)
-  rows-meets = walk-meets 𝓤 H A rows.ended stayed W
-      (goes-none 𝓤 H A W 2 (λ _. N.the-row) yes (λ κs x f. refl),
-      (goes-none-slice 𝓤 H A W 2 (0 ∷ []) tt (plain (λ _. u8)) yes,
-      (goes-none-slice 𝓤 H A W 2 (0 ∷ []) tt (plain (λ _. u32)) yes,
-      (goes-none-slice 𝓤 H A W 2 (1 ∷ []) tt (plain (λ _. T.the-row)) yes,
-      (goes-none-slice 𝓤 H A W 2 (0 ∷ []) tt (plain (λ _. u8)) yes,
-      (goes-none-slice 𝓤 H A W 2 (0 ∷ []) tt (plain (λ _. u32)) yes, tt))))))
+  rows-meets = walk-meets 𝓤 H A rows.ended stayed W (
+    goes-none 𝓤 H A W 2 (λ _. N.the-row) yes (λ κs x f. refl),
+    (
+      goes-none-slice 𝓤 H A W 2 (0 ∷ []) tt (plain (λ _. u8)) yes,
+      (
+        goes-none-slice 𝓤 H A W 2 (0 ∷ []) tt (plain (λ _. u32)) yes,
+        (
+          goes-none-slice 𝓤 H A W 2 (1 ∷ []) tt (plain (λ _. T.the-row)) yes,
+          (
+            goes-none-slice 𝓤 H A W 2 (0 ∷ []) tt (plain (λ _. u8)) yes,
+            (goes-none-slice 𝓤 H A W 2 (0 ∷ []) tt (plain (λ _. u32)) yes, tt),
+          ),
+        ),
+      ),
+    ),
+  )
       (rows.clauses 𝓤 H A mem run) (WpFn 𝓤 H (𝓣 .C) (𝓣 .Λ) code.function) (WpFn-mono 𝓤 H (W .laws) 𝓣 code.function) rows-walks
 
 pub judge-records-spec : {M : Type 1} → stated.statement M
