@@ -224,7 +224,7 @@ module _ (c : Counts) (f f′ k k′ shares : List ℕ) (A : Agree c f f′ k k�
 
 -- ---- judging
 
-unless-same : (a a′ : Found) (j j′ : Judged) → a ≡ a′ → (a ≡ Clean → j ≡ j′) → unlessFault a j ≡ unlessFault a′ j′
+pub unless-same : (a a′ : Found) (j j′ : Judged) → a ≡ a′ → (a ≡ Clean → j ≡ j′) → unlessFault a j ≡ unlessFault a′ j′
 unless-same a a′ j j′ p q = at a q ∙ ap (λ (x : Found). unlessFault x j′) p
   where
     at : (x : Found) → (x ≡ Clean → j ≡ j′) → unlessFault x j ≡ unlessFault x j′

@@ -1,5 +1,5 @@
--- What the contract of the entry over records gives: no second answer meets it; a row that spells the operators of tables is judged as the tables are;
--- and more operators than there may be are refused as the tables' count of them is. Assumes nothing.
+-- What the contract of the entry over records gives: no second answer meets it; and a row that spells the operators of tables is judged as the tables are.
+-- (That a row's length above 64 is refused as any such number is: Many.antt.) Assumes nothing.
 use Prim.Native.Nat.{ℕ, _+_, _*_, _≤_, _<_}
 use mathlib.Core.Path.{_≡_, refl, ap, ap₂, sym, _∙_}
 use mathlib.Core.Bool.{Bool, true, false, _&&_}
