@@ -1,0 +1,19 @@
+-- `laying::counted` meets its contract: what is at most 65 fits. Assumes nothing.
+use mathlib.Core.Path.{ap}
+use native.Mathlib.Omega.{arith}
+use borrow.Author.Needs.{needs}
+use Rattle.records.proofs.Laws.{at-most-limit}
+use Rattle.records.proofs.laying.counted.Statement.{statement}
+use Rattle.records.proofs.laying.counted.Tie as tie
+
+at-most-requires : tie.Need-at-most-requires
+at-most-requires c κs = search needs
+
+cast-ops : tie.Need-cast-ops
+cast-ops c = omega (arith, at-most-limit 65 (c .before .args .n), c .at-most .ensures)
+
+returns : tie.Need-returns
+returns c = rw (c .at-most .ensures)
+
+pub counted-spec : {M : Type 1} → statement M
+counted-spec = tie.close (tie.spec at-most-requires cast-ops returns)

@@ -1,0 +1,40 @@
+-- `laying::judge_laid` meets its contract. Assumes nothing.
+use native.Mathlib.Omega.{arith}
+use borrow.Author.Needs.{needs}
+use Rattle.records.proofs.Laws.{judged-laid, judged-short}
+use Rattle.records.proofs.laying.judge_laid.Statement.{statement}
+use Rattle.records.proofs.laying.judge_laid.Tie as tie
+
+returns : tie.Need-returns
+returns c =
+    let a = c .before .before .before .before .args in
+    judged-short (a .c) (a .room) (a .n) (a .t) (a .shares .now) (a .s .now) (a .ops .now) (c .if1 .taken)
+
+counted-requires : tie.Need-counted-requires
+counted-requires c κs = search needs
+
+slice-aggregate-judge : tie.Need-slice-aggregate-judge
+slice-aggregate-judge c = search needs
+
+slice-aggregate-judge-2 : tie.Need-slice-aggregate-judge-2
+slice-aggregate-judge-2 c = search needs
+
+judge-requires : tie.Need-judge-requires
+judge-requires c κs = search needs
+
+returns-2 : tie.Need-returns-2
+returns-2 c =
+    let a = c .before .before .before .before .before .before .before .before .before .before .args in
+    judged-laid (a .c) (c .before .before .before .counted .result) (a .room) (a .n) (a .t) (a .shares .now) (a .s .now) (a .ops .now) (c .judge .result) (omega arith)
+    (c .before .before .before .counted .ensures) (c .judge .ensures)
+
+pub judge-laid-spec : {M : Type 1} → statement M
+judge-laid-spec =
+    tie.close
+    (tie.spec
+    returns
+    counted-requires
+    slice-aggregate-judge
+    slice-aggregate-judge-2
+    judge-requires
+    returns-2)

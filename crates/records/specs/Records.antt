@@ -1,0 +1,68 @@
+-- The tables of a task whose operators stand in a row of records, cost and facts together.
+use Prim.Native.Nat.{ℕ, zero, suc}
+use mathlib.Core.Bool.{cond}
+use mathlib.Core.List.{List, []}
+use lib.Dec.{leb}
+use lib.ListN.{length, getD, set, take, replicate}
+use Rattle.refusals.specs.declared.Refusal.the-variants.{TableTooShort}
+use Rattle.tables.specs.declared.Counts.{Counts}
+use Rattle.tables.specs.Layout.{Tables, place, preRow, effRow, factsRoom, costsRoom}
+use Rattle.tables.specs.Task.{stateOf, tables}
+use Rattle.tables.specs.Steps.{filled}
+use Rattle.sequences.specs.declared.judging.Judged.{Judged}
+use Rattle.sequences.specs.declared.judging.Judged.the-variants.{Refused}
+use Rattle.sequences.specs.Judging.{judgedOf}
+use Rattle.records.specs.declared.OpRecord.{OpRecord}
+use Rattle.records.specs.declared.laying.Laid.{Laid}
+
+-- the record of operator o; past the row's end one that says nothing
+abbrev pub noRecord : OpRecord
+noRecord = record { cost = 0; pre = []; eff = [] }
+
+abbrev pub recordAt : List OpRecord → ℕ → OpRecord
+recordAt rows o = getD rows o noRecord
+
+-- the number, or the limit where it is beyond
+abbrev pub atMost : ℕ → ℕ → ℕ
+atMost limit n = cond (leb n limit) n limit
+
+-- the facts with n of a list's places laid at a row
+unfoldable pub rowLaid : List ℕ → ℕ → List ℕ → ℕ → List ℕ
+rowLaid facts row values zero = facts
+rowLaid facts row values (suc v) = set (rowLaid facts row values v) (place row v) (getD values v 0)
+
+-- operator o's record in its places: its preconditions and its effects among the facts, its cost among the costs
+unfoldable pub laidOne : Laid → ℕ → OpRecord → Laid
+laidOne t o r =
+    record {
+      facts = rowLaid (rowLaid (t .facts) (preRow o) (r .pre) 8) (effRow o) (r .eff) 8;
+      costs = set (t .costs) o (r .cost);
+    }
+
+-- the first n records in their places
+unfoldable pub laidOf : List OpRecord → ℕ → Laid → Laid
+laidOf rows zero t = t
+laidOf rows (suc o) t = laidOne (laidOf rows o t) o (recordAt rows o)
+
+-- the lent facts, as far as a table goes, and costs of 0
+abbrev pub blank : List ℕ → Laid
+blank facts = record { facts = take factsRoom facts; costs = replicate costsRoom 0 }
+
+-- the row's length is the number of operators; 65 stands for every number above 64, which is refused
+abbrev pub counted : Counts → ℕ → Counts
+counted c n = record { vars = c .vars; ops = atMost 65 n; maps = c .maps }
+
+-- THE ROW'S TABLES: the row's records laid over the lent facts, at most 64 of them; the places of the operators beyond the row stay as they were lent, their costs are 0
+unfoldable pub recordsTables : Counts → List ℕ → List ℕ → List OpRecord → Tables
+recordsTables c facts shares rows =
+    let t = laidOf rows (atMost 64 (length rows)) (blank facts) in
+    tables (counted c (length rows)) (t .facts) (t .costs) shares
+
+-- a copy of the lent facts that always has its room: places past their end are 0
+abbrev pub copyOf : List ℕ → Laid
+copyOf facts = record { facts = filled (stateOf facts) (replicate factsRoom 0) factsRoom; costs = replicate costsRoom 0 }
+
+-- judging over such a copy: 8 where the lent facts did not have the room, else as over the tables
+unfoldable pub laidJudged : Counts → ℕ → ℕ → Laid → List ℕ → List ℕ → List ℕ → Judged
+laidJudged c room n t shares s ops =
+    cond (leb factsRoom room) (judgedOf (tables (counted c n) (t .facts) (t .costs) shares) s ops) (Refused TableTooShort)

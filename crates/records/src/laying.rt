@@ -1,0 +1,107 @@
+// The tables of a row of records, by value: the lent facts with the operators' rows laid over them, and the costs.
+ghost use mathlib.Core.Path.{_≡_};
+ghost use Prim.Native.Nat.{_≤_, _<_};
+ghost use Rattle.records.specs.Records.{atMost, counted, rowLaid, laidOne, copyOf, laidJudged};
+use crate::OpRecord;
+use refusals::Refusal;
+use sequences::judge;
+use sequences::judging::Judged;
+use tables::Counts;
+use tables::readers::byte_at;
+
+// The places of a table of facts; the most operators, and the number that stands for more.
+const FACTS_ROOM: usize = 1624;
+
+const MORE: usize = 65;
+
+// The facts and the costs of a task.
+pub struct Laid {
+    pub facts: [u8; 1624],
+    pub costs: [u32; 64],
+}
+
+// The number, or the limit where it is beyond.
+pub fn at_most(limit: usize, n: usize) -> usize
+    ensures { λ r. ⌜ r ≡ atMost limit n ⌝ }
+{
+    if n <= limit { n } else { limit }
+}
+
+// The lent facts by value, and no costs yet.
+pub fn copied(facts: &[u8]) -> Laid
+    ensures { λ t. ⌜ t ≡ copyOf (now (facts .entry)) ⌝ }
+{
+    let mut copy = [0u8; 1624];
+    let mut k = 0usize;
+    while k < 1624 {
+        copy[k] = byte_at(facts, k);
+        k += 1;
+    }
+    Laid {
+        facts: copy,
+        costs: [0u32; 64],
+    }
+}
+
+// The facts with a record's 8 places laid at a row.
+pub fn with_row(facts: [u8; 1624], row: usize, values: [u8; 8]) -> [u8; 1624]
+    requires { ⌜ row < 203 ⌝ }
+    ensures { λ r. ⌜ r ≡ rowLaid facts row values 8 ⌝ }
+{
+    let mut laid = facts;
+    let mut v = 0usize;
+    while v < 8 {
+        laid[row * 8 + v] = values[v];
+        v += 1;
+    }
+    laid
+}
+
+// The tables with an operator's record in its places.
+pub fn with_record(t: Laid, o: usize, r: OpRecord) -> Laid
+    requires { ⌜ o < 64 ⌝ }
+    ensures { λ u. ⌜ u ≡ laidOne t o r ⌝ }
+{
+    let facts = t.facts;
+    let mut costs = t.costs;
+    let pre = r.pre;
+    let eff = r.eff;
+    let cost = r.cost;
+    costs[o] = cost;
+    Laid {
+        facts: with_row(with_row(facts, 3 + o, pre), 67 + o, eff),
+        costs: costs,
+    }
+}
+
+// The counts with the row's length for the number of operators: any number above the limit stands as one above it.
+pub fn counted(c: Counts, n: usize) -> Counts
+    ensures { λ d. ⌜ d ≡ counted c n ⌝ }
+{
+    let ops = at_most(MORE, n) as u32;
+    Counts {
+        vars: c.vars,
+        ops: ops,
+        maps: c.maps,
+    }
+}
+
+// Judging over the laid tables. The lent facts must have had their room, since a copy has it always.
+pub fn judge_laid<'a>(
+    c: Counts,
+    room: usize,
+    n: usize,
+    t: Laid,
+    shares: &'a [u32],
+    s: &'a [u8],
+    ops: &'a [u32],
+) -> Judged
+    ensures { λ r. ⌜ r ≡ laidJudged c room n t (now (shares .entry)) (now (s .entry)) (now (ops .entry)) ⌝ }
+{
+    if room < FACTS_ROOM {
+        return Judged::Refused(Refusal::TableTooShort);
+    }
+    let facts = t.facts;
+    let costs = t.costs;
+    judge(counted(c, n), &facts, &costs, shares, s, ops)
+}

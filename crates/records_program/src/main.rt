@@ -1,0 +1,125 @@
+// The entry over a lent row of records, run: case A with its operators in a row, and what is answered for some lists of operators.
+ghost use mathlib.Core.Path.{_≡_};
+ghost use mathlib.Core.List.{[], _∷_};
+ghost use Rattle.sequences.specs.Judging.{judgedOf};
+ghost use Rattle.records.specs.Records.{recordsTables};
+use io::print_decimal;
+use io::write_all;
+use libc::STDOUT_FILENO;
+use records::OpRecord;
+use records::judge_records;
+use refusals::number;
+use refusals::place;
+use sequences::judging::Judged;
+use tables::Counts;
+
+// Judging with a row of four records, which is made here and lent: whoever calls this one holds no reference to a record.
+fn judge_four<'a>(
+    c: Counts,
+    facts: &'a [u8],
+    shares: &'a [u32],
+    first: OpRecord,
+    second: OpRecord,
+    third: OpRecord,
+    fourth: OpRecord,
+    s: &'a [u8],
+    ops: &'a [u32],
+) -> Judged
+    ensures { λ r. ⌜ r ≡ judgedOf (recordsTables c (now (facts .entry)) (now (shares .entry)) (first ∷ second ∷ third ∷ fourth ∷ [])) (now (s .entry)) (now (ops .entry)) ⌝ }
+{
+    let rows = [first, second, third, fourth];
+    judge_records(c, facts, shares, &rows, s, ops)
+}
+
+// A line: a name, '=' and a number.
+fn say(name: &[u8], x: u32) {
+    write_all(STDOUT_FILENO, name);
+    print_decimal(STDOUT_FILENO, x as u64);
+    write_all(STDOUT_FILENO, b"\n");
+}
+
+// The lines of an answer.
+fn say_judged(answer: Judged) {
+    match answer {
+        Judged::Passed(cost) => say(b"passed=", cost),
+        Judged::Refused(r) => {
+            say(b"refused=", number(r));
+            say(b"place=", place(r));
+        }
+    }
+}
+
+// Case A's facts without its operators: the numbers of values, the goal, and the classes of variable m in map m.
+fn facts_of_a() -> [u8; 1624] {
+    let mut facts = [0u8; 1624];
+    facts[0] = 2;
+    facts[1] = 3;
+    facts[2] = 3;
+    facts[16] = 2;
+    facts[17] = 3;
+    facts[18] = 3;
+    facts[1049] = 1;
+    facts[1121] = 1;
+    facts[1122] = 2;
+    facts[1193] = 1;
+    facts[1194] = 2;
+    facts
+}
+
+// Case A's split: operator 0 in map 0, operators 1 and 2 in map 1, operator 3 in map 2.
+fn shares_of_a() -> [u32; 512] {
+    let mut shares = [0u32; 512];
+    shares[0] = 1;
+    shares[65] = 1;
+    shares[66] = 1;
+    shares[131] = 1;
+    shares
+}
+
+// What is answered for a list of operators from the initial state; the count of operators isn't read.
+fn say_list<'a>(facts: &'a [u8], shares: &'a [u32], ops: &'a [u32]) {
+    let c = Counts {
+        vars: 3,
+        ops: 0,
+        maps: 3,
+    };
+    let first = OpRecord {
+        cost: 1,
+        pre: [1, 0, 0, 0, 0, 0, 0, 0],
+        eff: [2, 0, 0, 0, 0, 0, 0, 0],
+    };
+    let second = OpRecord {
+        cost: 1,
+        pre: [0, 1, 1, 0, 0, 0, 0, 0],
+        eff: [0, 2, 2, 0, 0, 0, 0, 0],
+    };
+    let third = OpRecord {
+        cost: 1,
+        pre: [0, 2, 0, 0, 0, 0, 0, 0],
+        eff: [0, 3, 0, 0, 0, 0, 0, 0],
+    };
+    let fourth = OpRecord {
+        cost: 1,
+        pre: [0, 0, 2, 0, 0, 0, 0, 0],
+        eff: [0, 0, 3, 0, 0, 0, 0, 0],
+    };
+    let start = [0u8; 3];
+    say_judged(judge_four(c, facts, shares, first, second, third, fourth, &start, ops));
+}
+
+fn main() {
+    let facts = facts_of_a();
+    let shares = shares_of_a();
+    let whole = [0u32, 1, 2, 3];
+    say_list(&facts, &shares, &whole);
+    let early = [0u32, 2];
+    say_list(&facts, &shares, &early);
+    let unknown = [0u32, 4];
+    say_list(&facts, &shares, &unknown);
+    let one = [0u32];
+    say_list(&facts, &shares, &one);
+    say_list(&facts, &shares, &one[..0]);
+    // facts that lack a place
+    let short = [0u8; 1623];
+    say_list(&short, &shares, &whole);
+}
