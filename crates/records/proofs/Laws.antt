@@ -24,7 +24,8 @@ use Rattle.sequences.specs.Stepping.{inputFault}
 use Rattle.sequences.specs.Judging.{judgedOf}
 use Rattle.records.specs.declared.OpRecord.{OpRecord}
 use Rattle.records.specs.declared.laying.Laid.{Laid}
-use Rattle.records.specs.Records.{recordAt, atMost, counted, rowLaid, laidOne, laidOf, blank, copyOf, recordsTables, laidJudged}
+use Rattle.records.specs.Records.{recordAt, atMost, counted, rowLaid, laidOne, laidOf, blank, recordsTables}
+use Rattle.records.specs.Parts.{copyOf, laidJudged}
 
 -- ---- at most a limit
 
