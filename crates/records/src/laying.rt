@@ -1,6 +1,6 @@
 // The tables of a row of records, by value: the lent facts with the operators' rows laid over them, and the costs.
 ghost use mathlib.Core.Path.{_≡_};
-ghost use Prim.Native.Nat.{_≤_, _<_};
+ghost use Prim.Native.Nat.{_<_};
 ghost use Rattle.records.specs.Records.{atMost, counted, rowLaid, laidOne};
 ghost use Rattle.records.specs.Parts.{copyOf, laidJudged};
 use crate::OpRecord;
