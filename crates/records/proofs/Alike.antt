@@ -1,16 +1,15 @@
 -- Tables that agree at every place that is read are judged the same: the scan finds the same first fault, and a sequence gets the same answer. Assumes nothing.
 use Prim.Native.Nat.{ℕ, zero, suc, _+_, _*_, _≤_, _<_, max}
-use mathlib.Core.Path.{_≡_, refl, ap, ap₂, sym, _∙_, fun-ext}
-use mathlib.Core.Bool.{Bool, true, false, cond, _||_}
+use mathlib.Core.Path.{_≡_, refl, ap, ap₂, _∙_, fun-ext}
+use mathlib.Core.Bool.{Bool, true, cond, _||_}
 use mathlib.Core.List.{List, [], _∷_}
 use native.Mathlib.Omega.{arith}
 use lib.Dec.{leb, ltb, eqb}
 use lib.ListN.{length}
 use borrow.Author.Tests.{ltb-true}
-use Rattle.refusals.specs.declared.Refusal.{Refusal}
 use Rattle.refusals.specs.declared.Refusal.the-variants.{OutOfRange, ClassMissing, SharesAboveCost, TooManyStates, TableTooShort, ValueOutside, SequenceTooLong, NoGoal}
 use Rattle.meaning.specs.Numbering.{size}
-use Rattle.meaning.specs.Sas.{State, Facts, Sas, put, after}
+use Rattle.meaning.specs.Sas.{State, Facts, put, after}
 use Rattle.meaning.specs.Views.{holds, every, complies}
 use Rattle.meaning.specs.Split.{Task, countOf, sum}
 use Rattle.meaning.proofs.Facts.{every-same}
@@ -18,7 +17,7 @@ use Rattle.tables.specs.declared.Counts.{Counts}
 use Rattle.tables.specs.declared.scan.Found.{Found}
 use Rattle.tables.specs.declared.scan.Found.the-variants.{Clean, Fault}
 use Rattle.tables.specs.Layout.{domRow, initRow, goalRow, rowAt, preAt, effAt, classAt, costAt}
-use Rattle.tables.specs.Task.{tables, taskOf, sasOf, stateOf}
+use Rattle.tables.specs.Task.{tables, taskOf, stateOf}
 use Rattle.tables.specs.Scan.{
   unless,
   _then_,
@@ -38,7 +37,7 @@ use Rattle.tables.specs.Scan.{
   stateFault,
 }
 use Rattle.tables.proofs.Laws.{by-cases}
-use Rattle.tables.proofs.Walks.{never, clean-first, clean-next, rule-held, tests-held}
+use Rattle.tables.proofs.Walks.{clean-first, clean-next, rule-held, tests-held}
 use Rattle.tables.proofs.Rules.{within-says}
 use Rattle.sequences.specs.declared.stepping.Stepped.{Stepped}
 use Rattle.sequences.specs.declared.stepping.Stepped.the-variants.{Ran, NoSuch, MayNot}

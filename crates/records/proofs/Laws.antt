@@ -2,7 +2,6 @@
 -- Assumes nothing.
 use Prim.Native.Nat.{ℕ, zero, suc, _+_, _*_, _≤_, _<_}
 use mathlib.Core.Path.{_≡_, refl, ap, sym, _∙_}
-use mathlib.Core.Bool.{Bool, true, false, cond}
 use mathlib.Core.List.{List}
 use native.Mathlib.Numerals.{add-one}
 use native.Mathlib.Omega.{arith}
@@ -24,7 +23,8 @@ use Rattle.sequences.specs.Stepping.{inputFault}
 use Rattle.sequences.specs.Judging.{judgedOf}
 use Rattle.records.specs.declared.OpRecord.{OpRecord}
 use Rattle.records.specs.declared.laying.Laid.{Laid}
-use Rattle.records.specs.Records.{recordAt, atMost, counted, rowLaid, laidOne, laidOf, blank, copyOf, recordsTables, laidJudged}
+use Rattle.records.specs.Records.{recordAt, atMost, counted, rowLaid, laidOne, laidOf, blank, recordsTables}
+use Rattle.records.specs.Parts.{copyOf, laidJudged}
 
 -- ---- at most a limit
 

@@ -1,14 +1,13 @@
 -- More operators than there may be: every such number is refused alike, so that it does not show that a row's length is counted to 65 only. Assumes nothing.
-use Prim.Native.Nat.{ℕ, _≤_, _<_}
-use mathlib.Core.Path.{_≡_, refl, ap, sym, _∙_}
+use Prim.Native.Nat.{ℕ, _<_}
+use mathlib.Core.Path.{_≡_, refl, ap}
 use mathlib.Core.List.{List}
 use native.Mathlib.Omega.{arith}
 use lib.Dec.{leb}
 use lib.ListN.{length}
-use borrow.Author.Tests.{leb-false, lt-leb}
+use borrow.Author.Tests.{lt-leb}
 use Rattle.tables.specs.declared.Counts.{Counts}
 use Rattle.tables.specs.declared.scan.Found.{Found}
-use Rattle.tables.specs.Layout.{Tables}
 use Rattle.tables.specs.Task.{tables}
 use Rattle.tables.specs.Scan.{_then_, factsFault, taskFault, roomy, tablesFault, stateFault}
 use Rattle.tables.proofs.Laws.{by-cases}

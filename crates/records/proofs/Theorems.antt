@@ -2,16 +2,16 @@
 -- (That a row's length above 64 is refused as any such number is: Many.antt.) Assumes nothing.
 use Prim.Native.Nat.{ℕ, _+_, _*_, _≤_, _<_}
 use mathlib.Core.Path.{_≡_, refl, ap, ap₂, sym, _∙_}
-use mathlib.Core.Bool.{Bool, true, false, _&&_}
+use mathlib.Core.Bool.{Bool, true, _&&_}
 use mathlib.Core.List.{List}
 use native.Mathlib.Omega.{arith}
 use lib.Dec.{leb}
-use lib.ListN.{length, getD, take, replicate, length-replicate}
+use lib.ListN.{length, getD, take, length-replicate}
 use lib.Seq.{length-take-le, take-all, getD-take}
 use borrow.Author.Tests.{le-leb, leb-true, leb-false}
 use Rattle.meaning.proofs.Facts.{and-left}
 use Rattle.tables.specs.declared.Counts.{Counts}
-use Rattle.tables.specs.Layout.{Tables, place, preRow, factsRoom, costsRoom, sharesRoom, preAt, effAt, costAt}
+use Rattle.tables.specs.Layout.{Tables, place, factsRoom, costsRoom, sharesRoom, preAt, effAt, costAt}
 use Rattle.tables.specs.Task.{tables}
 use Rattle.tables.specs.Scan.{roomy}
 use Rattle.tables.proofs.Laws.{by-cases}
@@ -19,7 +19,7 @@ use Rattle.sequences.specs.declared.judging.Judged.{Judged}
 use Rattle.sequences.specs.Judging.{judgedOf}
 use Rattle.records.specs.declared.OpRecord.{OpRecord}
 use Rattle.records.specs.declared.laying.Laid.{Laid}
-use Rattle.records.specs.Records.{recordAt, atMost, laidOf, blank, counted, recordsTables}
+use Rattle.records.specs.Records.{recordAt, laidOf, blank, counted, recordsTables}
 use Rattle.records.proofs.Laws.{most-within, length-laid-facts, length-laid-costs}
 use Rattle.records.proofs.Places.{laid-other, laid-pre, laid-eff, laid-cost}
 use Rattle.records.proofs.Alike.{Agree, judged-same}

@@ -1,18 +1,25 @@
 // The tables of a row of records, by value: the lent facts with the operators' rows laid over them, and the costs.
 ghost use mathlib.Core.Path.{_≡_};
-ghost use Prim.Native.Nat.{_≤_, _<_};
-ghost use Rattle.records.specs.Records.{atMost, counted, rowLaid, laidOne, copyOf, laidJudged};
+ghost use Prim.Native.Nat.{_<_};
+ghost use Rattle.records.specs.Records.{atMost, counted, rowLaid, laidOne};
+ghost use Rattle.records.specs.Parts.{copyOf, laidJudged};
 use crate::OpRecord;
+use meaning::OpNo;
 use refusals::Refusal;
 use sequences::judge;
 use sequences::judging::Judged;
 use tables::Counts;
 use tables::readers::byte_at;
+use tables::readers::eff_row;
+use tables::readers::pre_row;
 
-// The places of a table of facts; the most operators, and the number that stands for more.
+// The room of a table of facts, in places.
 const FACTS_ROOM: usize = 1624;
 
-const MORE: usize = 65;
+// The most operators, and the number that stands for every larger one.
+pub const OPS_MOST: usize = 64;
+
+const OPS_MORE: usize = 65;
 
 // The facts and the costs of a task.
 pub struct Laid {
@@ -33,7 +40,7 @@ pub fn copied(facts: &[u8]) -> Laid
 {
     let mut copy = [0u8; 1624];
     let mut k = 0usize;
-    while k < 1624 {
+    while k < FACTS_ROOM {
         copy[k] = byte_at(facts, k);
         k += 1;
     }
@@ -68,8 +75,10 @@ pub fn with_record(t: Laid, o: usize, r: OpRecord) -> Laid
     let eff = r.eff;
     let cost = r.cost;
     costs[o] = cost;
+    let at = OpNo(o as u32);
+    let laid = with_row(facts, pre_row(at) as usize, pre);
     Laid {
-        facts: with_row(with_row(facts, 3 + o, pre), 67 + o, eff),
+        facts: with_row(laid, eff_row(at) as usize, eff),
         costs: costs,
     }
 }
@@ -78,7 +87,7 @@ pub fn with_record(t: Laid, o: usize, r: OpRecord) -> Laid
 pub fn counted(c: Counts, n: usize) -> Counts
     ensures { λ d. ⌜ d ≡ counted c n ⌝ }
 {
-    let ops = at_most(MORE, n) as u32;
+    let ops = at_most(OPS_MORE, n) as u32;
     Counts {
         vars: c.vars,
         ops: ops,

@@ -5,6 +5,7 @@ ghost use lib.ListN.{length};
 ghost use Rattle.records.specs.Records.{recordAt, laidOf, atMost};
 use crate::OpRecord;
 use crate::laying::Laid;
+use crate::laying::OPS_MOST;
 use crate::laying::at_most;
 use crate::laying::with_record;
 
@@ -21,7 +22,7 @@ pub fn gather(rows: &[OpRecord], t: Laid) -> Laid
     ensures { λ u. ⌜ u ≡ laidOf (now (rows .entry)) (atMost 64 (length (now (rows .entry)))) t ⌝ }
 {
     let mut u = t;
-    let n = at_most(64, rows.len());
+    let n = at_most(OPS_MOST, rows.len());
     let mut o = 0;
     while o < n {
         u = with_record(u, o, record_at(rows, o));

@@ -1,5 +1,4 @@
 -- `laying::counted` meets its contract: what is at most 65 fits. Assumes nothing.
-use mathlib.Core.Path.{ap}
 use native.Mathlib.Omega.{arith}
 use borrow.Author.Needs.{needs}
 use Rattle.records.proofs.Laws.{at-most-limit}

@@ -10,21 +10,30 @@ mul-costs c = search needs
 array-write-costs : tie.Need-array-write-costs
 array-write-costs c = search needs
 
-add-with-row : tie.Need-add-with-row
-add-with-row c = search needs
+cast-with-row : tie.Need-cast-with-row
+cast-with-row c = search needs
+
+pre-row-requires : tie.Need-pre-row-requires
+pre-row-requires c κs = search needs
+
+cast-with-row-2 : tie.Need-cast-with-row-2
+cast-with-row-2 c = search needs
 
 with-row-requires : tie.Need-with-row-requires
 with-row-requires c κs = search needs
 
-add-with-row-2 : tie.Need-add-with-row-2
-add-with-row-2 c = search needs
+eff-row-requires : tie.Need-eff-row-requires
+eff-row-requires c κs = search needs
+
+cast-with-row-3 : tie.Need-cast-with-row-3
+cast-with-row-3 c = search needs
 
 with-row-requires-2 : tie.Need-with-row-requires-2
 with-row-requires-2 c κs = search needs
 
 returns : tie.Need-returns
 unfolding laidOne
-returns c = rw (c .with-row2 .ensures, c .before .with-row .ensures)
+returns c = rw (c .with-row2 .ensures, c .before .eff-row .ensures, c .before .before .with-row .ensures, c .before .before .before .pre-row .ensures)
 
 pub with-record-spec : {M : Type 1} → statement M
 with-record-spec =
@@ -32,8 +41,11 @@ with-record-spec =
     (tie.spec
     mul-costs
     array-write-costs
-    add-with-row
+    cast-with-row
+    pre-row-requires
+    cast-with-row-2
     with-row-requires
-    add-with-row-2
+    eff-row-requires
+    cast-with-row-3
     with-row-requires-2
     returns)

@@ -1,13 +1,13 @@
 -- `rows::gather` meets its contract: a walk of its code, by hand, since its parameter is a slice of structs. A call before the loop and two calls in a turn: all that it knows of the callees is
 -- that each meets its contract. The row is Copy: each turn passes a copy of what it owns. The tables are plain: what they own is made anew of their relation, which the invariant carries.
 -- Assumes nothing.
-use mathlib.Core.Path.{_≡_, refl, sym, ap, _∙_}
-use mathlib.Core.Bool.{Bool, true, false}
+use mathlib.Core.Path.{_≡_, refl, ap, _∙_}
+use mathlib.Core.Bool.{Bool}
 use mathlib.Core.List.{List, [], _∷_}
 use Prim.Native.Nat.{ℕ, zero, suc, _+_, _≤_, _<_, _^_}
 use native.Mathlib.Nat.{lt-suc-self}
 use native.Mathlib.Omega.{arith}
-use lib.Dec.{ltb, lit<, T as Holds}
+use lib.Dec.{lit<, T as Holds}
 use lib.ListN.{length}
 use lib.WfN.{Nat·lt-wfRel}
 use borrow.Author.Tests.{lt-ltb, le-ltb}

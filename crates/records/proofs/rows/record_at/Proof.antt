@@ -1,7 +1,7 @@
 -- `rows::record_at` meets its contract: a walk of its code, by hand, since it reads through a slice of structs. The place of `rows[o]` is 20 * o past the pointer: the slice is
 -- looked into, record o is taken out of the row, copied, and put back. A record is Copy: what it owns is had twice, once for the row and once for the result.
 -- Assumes nothing.
-use mathlib.Core.Path.{_≡_, refl, sym}
+use mathlib.Core.Path.{refl, sym}
 use Prim.Native.Nat.{ℕ, _*_, _<_, _^_}
 use mathlib.Core.List.{List, [], _∷_}
 use native.Mathlib.Omega.{arith}
