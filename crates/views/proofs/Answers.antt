@@ -1,4 +1,4 @@
--- What is promised of an accepted task is so, and there is no second answer: distances and rounds, the distance of a state, its bound.
+-- Of an accepted task: there is no second answer, and what is promised is so; for distances and rounds, the distance of a state, its bound.
 -- Assumes nothing.
 use mathlib.Core.Path.{_≡_, refl, sym, ap₂, _∙_, subst}
 use mathlib.Core.List.{List}
@@ -23,19 +23,6 @@ use Rattle.views.specs.Entries.{DistancesOf, IsAway, IsBound}
 use Rattle.views.proofs.Saids.{said-inj}
 
 module _ (T : Task) (ok : Valid T) (m : ℕ) (lm : m < T .maps) where
-  -- the table of the counted rounds holds the distances
-  pub counted-distances : (out out′ : List ℕ) (r : ℕ) → Counted (viewGraph (T .sas) (view T m)) out out′ r → DistancesOf T m out r out′
-  counted-distances out out′ r C =
-      record {
-        distances =
-            λ a l.
-            subst (λ (v : Cost). IsDistanceAt (T .sas) (view T m) a v)
-            (sym (C .table .made a l ∙ round-holds-distances T ok m lm r (C .rounds) a l)) (distance-is-least T ok m lm a l);
-        rounds = C .rounds;
-        others = C .table .kept;
-        room = C .table .size;
-      }
-
   -- the rounds and the table are settled
   pub distances-only : (out o u : List ℕ) (r s : ℕ) → DistancesOf T m out r o → DistancesOf T m out s u → (r ≡ s) × (o ≡ u)
   distances-only out o u r s D E = (
@@ -51,6 +38,19 @@ module _ (T : Task) (ok : Valid T) (m : ℕ) (lm : m < T .maps) where
   -- and the rounds never pass the number of abstract states
   pub distances-rounds-most : (out out′ : List ℕ) (r : ℕ) → DistancesOf T m out r out′ → r ≤ abstractStates (T .sas) (view T m)
   distances-rounds-most out out′ r D = rounds-at-most-states T ok m lm r (D .rounds)
+
+  -- the table of the counted rounds holds the distances
+  pub counted-distances : (out out′ : List ℕ) (r : ℕ) → Counted (viewGraph (T .sas) (view T m)) out out′ r → DistancesOf T m out r out′
+  counted-distances out out′ r C =
+      record {
+        distances =
+            λ a l.
+            subst (λ (v : Cost). IsDistanceAt (T .sas) (view T m) a v)
+            (sym (C .table .made a l ∙ round-holds-distances T ok m lm r (C .rounds) a l)) (distance-is-least T ok m lm a l);
+        rounds = C .rounds;
+        others = C .table .kept;
+        room = C .table .size;
+      }
 
   pub image-inside : (s : State) → IsState (T .sas) s → α (T .sas) (view T m) s < abstractStates (T .sas) (view T m)
   image-inside s h = α-below (T .sas) (view T m) (ok .proper) (view-onto T ok m lm) s h
