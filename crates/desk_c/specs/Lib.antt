@@ -1,0 +1,3 @@
+pub mod Words
+pub mod Lent
+pub mod Handing

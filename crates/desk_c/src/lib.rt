@@ -1,0 +1,242 @@
+// THE DESK FOR C: each entry of the desk under a name that C can call, with numbers and slices of numbers alone. A slice crosses as a pointer and a length.
+// No entry asks anything of its caller: what is lent too short, a length of 0 too, is 8 and nothing else. The answer is one word (specs/Words.antt).
+// Beside each entry stands the theorem that no second outcome could meet its contract (proofs/Unique.antt). include/desk.h tells C the same.
+ghost use mathlib.Core.Path.{_≡_};
+ghost use Rattle.tables.specs.Scan.{tablesFault};
+ghost use Rattle.sequences.specs.Judging.{judgedOf};
+ghost use Rattle.sequences.specs.Choosing.{cheaperOf, chosenOf};
+ghost use Rattle.desk_c.specs.Words.{foundWord, judgedWord, cheaperWord, openingWord};
+ghost use Rattle.desk_c.specs.Lent.{lentTask};
+ghost use Rattle.desk_c.specs.Handing.{readLeft, readHanded, DistancesHanded, DistanceHanded, BoundHanded, runLeft, beginHanded, offerHanded};
+
+mod runs;
+mod words;
+
+use crate::runs::hand_back;
+use crate::runs::run_in;
+use crate::runs::run_short;
+use crate::words::DONE;
+use crate::words::bound_word;
+use crate::words::cheaper_word;
+use crate::words::distance_word;
+use crate::words::distances_word;
+use crate::words::found_word;
+use crate::words::judged_word;
+use crate::words::opening_word;
+use crate::words::refused_word;
+use crate::words::word;
+use meaning::OpNo;
+use refusals::Refusal;
+use sequences::choosing::choice_of;
+use tables::Counts;
+use text::Reading;
+
+// READS a task text into the lent tables, and its counts (variables, operators, maps) into a lent row of at least 3 places.
+// `read-unique`.
+#[no_mangle]
+pub extern "C" fn desk_read(
+    task: &[u8],
+    counts: &mut [u32],
+    facts: &mut [u8],
+    costs: &mut [u32],
+    shares: &mut [u32],
+) -> u64
+    ensures { λ w. ⌜ readLeft w (now (counts .exit)) (now (facts .exit)) (now (costs .exit)) (now (shares .exit)) ≡ readHanded (now (task .entry)) (now (counts .entry)) (now (facts .entry)) (now (costs .entry)) (now (shares .entry)) ⌝ }
+{
+    if counts.len() < 3 {
+        return refused_word(Refusal::TableTooShort);
+    }
+    let r = desk::read(task, facts, costs, shares);
+    match r {
+        Reading::Accepted(c) => {
+            counts[0] = c.vars;
+            counts[1] = c.ops;
+            counts[2] = c.maps;
+            word(DONE, 0)
+        }
+        Reading::Refused(f) => refused_word(f),
+    }
+}
+
+// CHECKS handed-in tables.
+// `check-unique`.
+#[no_mangle]
+pub extern "C" fn desk_check(
+    vars: u32,
+    ops: u32,
+    maps: u32,
+    facts: &[u8],
+    costs: &[u32],
+    shares: &[u32],
+) -> u64
+    ensures { λ w. ⌜ w ≡ foundWord (tablesFault (lentTask vars ops maps (now (facts .entry)) (now (costs .entry)) (now (shares .entry)))) ⌝ }
+{
+    let c = Counts { vars, ops, maps };
+    found_word(desk::check(c, facts, costs, shares))
+}
+
+// The DISTANCES of a map into a lent table of at least 4,096 places; the word tells the rounds.
+// `distances-unique`.
+#[no_mangle]
+pub extern "C" fn desk_distances(
+    vars: u32,
+    ops: u32,
+    maps: u32,
+    facts: &[u8],
+    costs: &[u32],
+    shares: &[u32],
+    map: u32,
+    out: &mut [u32],
+) -> u64
+    ensures { λ w. ⌜ DistancesHanded (lentTask vars ops maps (now (facts .entry)) (now (costs .entry)) (now (shares .entry))) map (now (out .entry)) w (now (out .exit)) ⌝ }
+{
+    let c = Counts { vars, ops, maps };
+    distances_word(desk::distances(c, facts, costs, shares, map, out))
+}
+
+// The DISTANCE of a state's image in one map, or none.
+// `distance-at-unique`.
+#[no_mangle]
+pub extern "C" fn desk_distance_at(
+    vars: u32,
+    ops: u32,
+    maps: u32,
+    facts: &[u8],
+    costs: &[u32],
+    shares: &[u32],
+    map: u32,
+    state: &[u8],
+) -> u64
+    ensures { λ w. ⌜ DistanceHanded (lentTask vars ops maps (now (facts .entry)) (now (costs .entry)) (now (shares .entry))) map (now (state .entry)) w ⌝ }
+{
+    let c = Counts { vars, ops, maps };
+    distance_word(desk::distance_at(c, facts, costs, shares, map, state))
+}
+
+// The summed BOUND of a state, or none.
+// `bound-unique`.
+#[no_mangle]
+pub extern "C" fn desk_bound(
+    vars: u32,
+    ops: u32,
+    maps: u32,
+    facts: &[u8],
+    costs: &[u32],
+    shares: &[u32],
+    state: &[u8],
+) -> u64
+    ensures { λ w. ⌜ BoundHanded (lentTask vars ops maps (now (facts .entry)) (now (costs .entry)) (now (shares .entry))) (now (state .entry)) w ⌝ }
+{
+    let c = Counts { vars, ops, maps };
+    bound_word(desk::bound(c, facts, costs, shares, state))
+}
+
+// JUDGES a sequence of operators from a state; the word tells its cost.
+// `judge-unique`.
+#[no_mangle]
+pub extern "C" fn desk_judge(
+    vars: u32,
+    ops: u32,
+    maps: u32,
+    facts: &[u8],
+    costs: &[u32],
+    shares: &[u32],
+    state: &[u8],
+    list: &[u32],
+) -> u64
+    ensures { λ w. ⌜ w ≡ judgedWord (judgedOf (lentTask vars ops maps (now (facts .entry)) (now (costs .entry)) (now (shares .entry))) (now (state .entry)) (now (list .entry))) ⌝ }
+{
+    let c = Counts { vars, ops, maps };
+    judged_word(desk::judge(c, facts, costs, shares, state, list))
+}
+
+// The CHEAPER of two lists of operators, with its cost.
+// `cheaper-unique`.
+#[no_mangle]
+pub extern "C" fn desk_cheaper(
+    vars: u32,
+    ops: u32,
+    maps: u32,
+    facts: &[u8],
+    costs: &[u32],
+    shares: &[u32],
+    state: &[u8],
+    a: &[u32],
+    b: &[u32],
+) -> u64
+    ensures { λ w. ⌜ w ≡ cheaperWord (cheaperOf (lentTask vars ops maps (now (facts .entry)) (now (costs .entry)) (now (shares .entry))) (now (state .entry)) (now (a .entry)) (now (b .entry))) ⌝ }
+{
+    let c = Counts { vars, ops, maps };
+    cheaper_word(desk::cheaper(c, facts, costs, shares, state, a, b))
+}
+
+// The OPENING PART of the cheaper list: of which list, and how many steps from its start. A part of the caller's own list doesn't cross as one; its place and its
+// length do.
+// `opening-unique`.
+#[no_mangle]
+pub extern "C" fn desk_opening(
+    vars: u32,
+    ops: u32,
+    maps: u32,
+    facts: &[u8],
+    costs: &[u32],
+    shares: &[u32],
+    state: &[u8],
+    a: &[u32],
+    b: &[u32],
+) -> u64
+    ensures { λ w. ⌜ w ≡ openingWord (chosenOf (lentTask vars ops maps (now (facts .entry)) (now (costs .entry)) (now (shares .entry))) (now (state .entry)) (now (a .entry)) (now (b .entry))) ⌝ }
+{
+    let c = Counts { vars, ops, maps };
+    opening_word(choice_of(c, facts, costs, shares, state, a, b))
+}
+
+// BEGINS a run from a state, in lent memory.
+// `begin-unique`.
+#[no_mangle]
+pub extern "C" fn desk_begin(
+    vars: u32,
+    ops: u32,
+    maps: u32,
+    facts: &[u8],
+    costs: &[u32],
+    shares: &[u32],
+    start: &[u8],
+    bytes: &mut [u8],
+    words: &mut [u32],
+) -> u64
+    ensures { λ w. ⌜ runLeft w (now (bytes .exit)) (now (words .exit)) ≡ beginHanded (lentTask vars ops maps (now (facts .entry)) (now (costs .entry)) (now (shares .entry))) (now (start .entry)) (now (bytes .entry)) (now (words .entry)) ⌝ }
+{
+    if run_short(bytes, words) {
+        return refused_word(Refusal::TableTooShort);
+    }
+    let c = Counts { vars, ops, maps };
+    let o = desk::begin(c, facts, costs, shares, start);
+    hand_back(o, bytes, words)
+}
+
+// OFFERS a step to the run in lent memory: its number and its operator.
+// `offer-unique`.
+#[no_mangle]
+pub extern "C" fn desk_offer(
+    vars: u32,
+    ops: u32,
+    maps: u32,
+    facts: &[u8],
+    costs: &[u32],
+    shares: &[u32],
+    bytes: &mut [u8],
+    words: &mut [u32],
+    number: u32,
+    op: u32,
+) -> u64
+    ensures { λ w. ⌜ runLeft w (now (bytes .exit)) (now (words .exit)) ≡ offerHanded (lentTask vars ops maps (now (facts .entry)) (now (costs .entry)) (now (shares .entry))) (now (bytes .entry)) (now (words .entry)) number op ⌝ }
+{
+    if run_short(bytes, words) {
+        return refused_word(Refusal::TableTooShort);
+    }
+    let c = Counts { vars, ops, maps };
+    let run = run_in(bytes, words);
+    let o = desk::offer(run, c, facts, costs, shares, number, OpNo(op));
+    hand_back(o, bytes, words)
+}
