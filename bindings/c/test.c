@@ -1,0 +1,215 @@
+/* Tests of the desk from C: each function on case A, what is lent too short (a length of 0 with a pointer that leads nowhere too), and that a refusal leaves lent memory as
+ * it was. Ends with status 1 at the first that fails. Reads the text of case A from the file that is named. */
+#include <stdio.h>
+#include <stdlib.h>
+#include <string.h>
+#include "desk.h"
+
+#define EXPECT(what)                                              \
+    do {                                                          \
+        tried++;                                                  \
+        if (!(what)) {                                            \
+            printf("line %d: not so: %s\n", __LINE__, #what);     \
+            exit(1);                                              \
+        }                                                         \
+    } while (0)
+
+static int tried;
+
+/* a word as kind and number */
+static desk_word word(uint64_t kind, uint64_t number) { return kind + 256 * number; }
+#define SHORT word(8, 0)
+
+/* leads nowhere; with a length of 0 it is not looked at */
+#define WILD8 ((uint8_t *)1)
+#define WILD32 ((uint32_t *)4)
+
+static uint8_t text[16385];
+static size_t text_len;
+static uint32_t counts[DESK_COUNTS];
+static uint8_t facts[DESK_FACTS];
+static uint32_t costs[DESK_COSTS];
+static uint32_t shares[DESK_SHARES];
+#define COUNTED counts[0], counts[1], counts[2]
+#define TABLES facts, DESK_FACTS, costs, DESK_COSTS, shares, DESK_SHARES
+#define TASK COUNTED, TABLES
+static const uint8_t init[3] = {0, 0, 0};
+
+static void reads(void)
+{
+    static uint8_t f[DESK_FACTS + 1];
+    static uint32_t c[DESK_COSTS], s[DESK_SHARES], n[DESK_COUNTS];
+    memset(f, 7, sizeof f);
+    memset(c, 7, sizeof c);
+    memset(s, 7, sizeof s);
+    memset(n, 7, sizeof n);
+    EXPECT(desk_read(text, text_len, n, 2, f, DESK_FACTS, c, DESK_COSTS, s, DESK_SHARES) == SHORT);
+    EXPECT(desk_read(text, text_len, WILD32, 0, f, DESK_FACTS, c, DESK_COSTS, s, DESK_SHARES) == SHORT);
+    EXPECT(desk_read(text, text_len, n, DESK_COUNTS, f, DESK_FACTS - 1, c, DESK_COSTS, s, DESK_SHARES) == SHORT);
+    EXPECT(desk_read(text, text_len, n, DESK_COUNTS, WILD8, 0, c, DESK_COSTS, s, DESK_SHARES) == SHORT);
+    EXPECT(desk_read(text, text_len, n, DESK_COUNTS, f, DESK_FACTS, c, DESK_COSTS - 1, s, DESK_SHARES) == SHORT);
+    EXPECT(desk_read(text, text_len, n, DESK_COUNTS, f, DESK_FACTS, WILD32, 0, s, DESK_SHARES) == SHORT);
+    EXPECT(desk_read(text, text_len, n, DESK_COUNTS, f, DESK_FACTS, c, DESK_COSTS, s, DESK_SHARES - 1) == SHORT);
+    EXPECT(desk_read(text, text_len, n, DESK_COUNTS, f, DESK_FACTS, c, DESK_COSTS, WILD32, 0) == SHORT);
+    EXPECT(desk_read(WILD8, 0, n, DESK_COUNTS, f, DESK_FACTS, c, DESK_COSTS, s, DESK_SHARES) == word(2, 1));
+    EXPECT(desk_read(text, sizeof text, n, DESK_COUNTS, f, DESK_FACTS, c, DESK_COSTS, s, DESK_SHARES) == word(1, 0));
+    EXPECT(desk_read(text, text_len - 1, n, DESK_COUNTS, f, DESK_FACTS, c, DESK_COSTS, s, DESK_SHARES) == word(2, 17));
+    for (size_t i = 0; i < sizeof f; i++)
+        EXPECT(f[i] == 7);
+    for (size_t i = 0; i < DESK_COSTS; i++)
+        EXPECT(c[i] == 0x07070707);
+    for (size_t i = 0; i < DESK_SHARES; i++)
+        EXPECT(s[i] == 0x07070707);
+    for (size_t i = 0; i < DESK_COUNTS; i++)
+        EXPECT(n[i] == 0x07070707);
+    EXPECT(desk_read(text, text_len, n, DESK_COUNTS, f, sizeof f, c, DESK_COSTS, s, DESK_SHARES) == word(DESK_DONE, 0));
+    EXPECT(n[0] == 3 && n[1] == 4 && n[2] == 3);
+    EXPECT(f[0] == 2 && f[1] == 3 && f[2] == 3 && f[3] == 0 && f[DESK_FACTS] == 0);
+    EXPECT(c[0] == 1 && c[3] == 1 && c[4] == 0);
+    EXPECT(s[0] == 1 && s[64 + 1] == 1 && s[64 + 2] == 1 && s[128 + 3] == 1 && s[128] == 0);
+    EXPECT(desk_read(text, text_len, counts, DESK_COUNTS, TABLES) == word(DESK_DONE, 0));
+    EXPECT(memcmp(counts, n, sizeof n) == 0 && memcmp(facts, f, DESK_FACTS) == 0);
+}
+
+static void checks(void)
+{
+    EXPECT(desk_check(TASK) == word(DESK_DONE, 0));
+    EXPECT(desk_check(COUNTED, facts, DESK_FACTS - 1, costs, DESK_COSTS, shares, DESK_SHARES) == SHORT);
+    EXPECT(desk_check(COUNTED, WILD8, 0, costs, DESK_COSTS, shares, DESK_SHARES) == SHORT);
+    EXPECT(desk_check(COUNTED, NULL, 0, NULL, 0, NULL, 0) == SHORT);
+    EXPECT(desk_check(COUNTED, facts, DESK_FACTS, WILD32, 0, shares, DESK_SHARES) == SHORT);
+    EXPECT(desk_check(COUNTED, facts, DESK_FACTS, costs, DESK_COSTS, WILD32, 0) == SHORT);
+    EXPECT(desk_check(9, 4, 3, TABLES) == word(3, 2));
+    EXPECT(desk_check(3, 65, 3, TABLES) == word(3, 6));
+    EXPECT(desk_check(3, 4, 0, TABLES) == word(3, 11));
+    shares[128 + 1] = 1; /* case C */
+    EXPECT(desk_check(TASK) == word(6, 8));
+    EXPECT(desk_bound(TASK, init, 3) == word(6, 8));
+    shares[128 + 1] = 0;
+}
+
+static void distances(void)
+{
+    static uint32_t out[DESK_DISTANCES + 1];
+    memset(out, 9, sizeof out);
+    EXPECT(desk_distances(TASK, 0, out, DESK_DISTANCES - 1) == SHORT);
+    EXPECT(desk_distances(TASK, 0, WILD32, 0) == SHORT);
+    EXPECT(desk_distances(COUNTED, facts, DESK_FACTS, WILD32, 0, shares, DESK_SHARES, 0, out, DESK_DISTANCES) == SHORT);
+    EXPECT(desk_distances(TASK, 3, out, DESK_DISTANCES) == word(3, 0));
+    EXPECT(out[0] == 0x09090909 && out[1] == 0x09090909);
+    EXPECT(desk_distances(TASK, 1, out, DESK_DISTANCES) == word(DESK_DONE, 3));
+    EXPECT(out[0] == 2 && out[1] == 1 && out[2] == 0 && out[3] == 0x09090909);
+    EXPECT(desk_distances(TASK, 0, out, sizeof out / sizeof *out) == word(DESK_DONE, 2));
+    EXPECT(out[0] == 1 && out[1] == 0 && out[2] == 0 && out[3] == 0x09090909);
+    EXPECT(desk_distance_at(TASK, 1, init, 3) == word(DESK_DONE, 2));
+    EXPECT(desk_distance_at(TASK, 1, init, 2) == SHORT);
+    EXPECT(desk_distance_at(TASK, 1, WILD8, 0) == SHORT);
+    EXPECT(desk_distance_at(TASK, 9, init, 3) == word(3, 0));
+    EXPECT(desk_distance_at(COUNTED, WILD8, 0, costs, DESK_COSTS, shares, DESK_SHARES, 0, init, 3) == SHORT);
+}
+
+static void bounds(void)
+{
+    const uint8_t ahead[3] = {1, 0, 0}, outside[3] = {0, 3, 9};
+    EXPECT(desk_bound(TASK, init, 3) == word(DESK_DONE, 4));
+    EXPECT(desk_bound(TASK, ahead, 3) == word(DESK_DONE, 3));
+    EXPECT(desk_bound(TASK, outside, 3) == word(9, 1));
+    EXPECT(desk_bound(TASK, init, 2) == SHORT);
+    EXPECT(desk_bound(TASK, WILD8, 0) == SHORT);
+    EXPECT(desk_bound(COUNTED, facts, DESK_FACTS, costs, DESK_COSTS, shares, DESK_SHARES - 1, init, 3) == SHORT);
+    /* with no operators only a goal has a distance; the shares of what isn't there aren't read */
+    EXPECT(desk_bound(3, 0, 3, TABLES, init, 3) == word(DESK_NONE, 0));
+    EXPECT(desk_distance_at(3, 0, 3, TABLES, 0, init, 3) == word(DESK_NONE, 0));
+}
+
+static void sequences(void)
+{
+    const uint32_t all[4] = {0, 1, 2, 3}, stuck[2] = {0, 2}, unknown[2] = {0, 4}, other[5] = {1, 2, 3, 0, 9};
+    static uint32_t many[DESK_STEPS + 1];
+    EXPECT(desk_judge(TASK, init, 3, all, 4) == word(DESK_DONE, 4));
+    EXPECT(desk_judge(TASK, init, 3, stuck, 2) == word(12, 2));
+    EXPECT(desk_judge(TASK, init, 3, unknown, 2) == word(10, 2));
+    EXPECT(desk_judge(TASK, init, 3, all, 1) == word(16, 1));
+    EXPECT(desk_judge(TASK, init, 3, WILD32, 0) == word(16, 0));
+    EXPECT(desk_judge(TASK, init, 3, many, DESK_STEPS + 1) == word(11, 0));
+    EXPECT(desk_judge(TASK, init, 2, all, 4) == SHORT);
+    EXPECT(desk_judge(COUNTED, facts, DESK_FACTS, WILD32, 0, shares, DESK_SHARES, init, 3, all, 4) == SHORT);
+    EXPECT(desk_cheaper(TASK, init, 3, stuck, 2, other, 5) == word(DESK_SECOND, 4));
+    EXPECT(desk_cheaper(TASK, init, 3, all, 4, other, 5) == word(DESK_FIRST, 4));
+    EXPECT(desk_cheaper(TASK, init, 3, stuck, 2, WILD32, 0) == word(DESK_NEITHER, 0));
+    EXPECT(desk_cheaper(TASK, WILD8, 0, all, 4, other, 5) == SHORT);
+    EXPECT(desk_opening(TASK, init, 3, stuck, 2, other, 5) == word(DESK_SECOND, 4));
+    EXPECT(desk_opening(TASK, init, 3, all, 4, other, 5) == word(DESK_FIRST, 4));
+    EXPECT(desk_opening(TASK, init, 3, stuck, 2, WILD32, 0) == word(DESK_FIRST, 0));
+    EXPECT(desk_opening(TASK, WILD8, 0, all, 4, other, 5) == word(DESK_FIRST, 0));
+}
+
+static void runs(void)
+{
+    static uint8_t bytes[DESK_RUN_BYTES + 1], bytes0[DESK_RUN_BYTES + 1];
+    static uint32_t words[DESK_RUN_WORDS + 1], words0[DESK_RUN_WORDS + 1];
+    const uint8_t outside[3] = {0, 3, 0};
+#define RUN bytes, DESK_RUN_BYTES, words, DESK_RUN_WORDS
+#define KEEP (memcpy(bytes0, bytes, sizeof bytes), memcpy(words0, words, sizeof words))
+#define KEPT (memcmp(bytes0, bytes, sizeof bytes) == 0 && memcmp(words0, words, sizeof words) == 0)
+    memset(bytes, 5, sizeof bytes);
+    memset(words, 5, sizeof words);
+    KEEP;
+    EXPECT(desk_begin(TASK, init, 3, bytes, DESK_RUN_BYTES - 1, words, DESK_RUN_WORDS) == SHORT && KEPT);
+    EXPECT(desk_begin(TASK, init, 3, WILD8, 0, words, DESK_RUN_WORDS) == SHORT && KEPT);
+    EXPECT(desk_begin(TASK, init, 3, bytes, DESK_RUN_BYTES, words, DESK_RUN_WORDS - 1) == SHORT && KEPT);
+    EXPECT(desk_begin(TASK, init, 3, bytes, DESK_RUN_BYTES, WILD32, 0) == SHORT && KEPT);
+    EXPECT(desk_begin(COUNTED, WILD8, 0, costs, DESK_COSTS, shares, DESK_SHARES, init, 3, RUN) == SHORT && KEPT);
+    EXPECT(desk_begin(TASK, init, 2, RUN) == SHORT && KEPT);
+    EXPECT(desk_begin(TASK, WILD8, 0, RUN) == SHORT && KEPT);
+    EXPECT(desk_begin(TASK, outside, 3, RUN) == word(9, 1) && KEPT);
+    EXPECT(desk_offer(TASK, RUN, 1, 0) == word(17, 0) && KEPT);
+    EXPECT(desk_begin(TASK, init, 3, RUN) == word(DESK_DONE, 0));
+    EXPECT(bytes[DESK_RUN_BYTES] == 5 && words[DESK_RUN_WORDS] == 0x05050505);
+    for (size_t i = 0; i < DESK_RUN_WORDS; i++)
+        EXPECT(words[i] == 0);
+    EXPECT(desk_offer(TASK, RUN, 1, 0) == word(DESK_DONE, 0));
+    EXPECT(desk_run_steps(words) == 1 && desk_run_op(words, 1) == 0 && bytes[8] == 1);
+    EXPECT(desk_run_paid(words, 0) == 1 && desk_run_paid(words, 1) == 0 && desk_run_paid(words, 2) == 0 && desk_run_unshared(words) == 0);
+    KEEP;
+    EXPECT(desk_offer(TASK, RUN, 1, 0) == word(DESK_REPEATED, 0) && KEPT);
+    EXPECT(desk_offer(TASK, RUN, 1, 1) == word(14, 1) && KEPT);
+    EXPECT(desk_offer(TASK, RUN, 3, 0) == word(13, 3) && KEPT);
+    EXPECT(desk_offer(TASK, RUN, 0, 0) == word(13, 0) && KEPT);
+    EXPECT(desk_offer(TASK, RUN, 2, 4) == word(10, 2) && KEPT);
+    EXPECT(desk_offer(TASK, RUN, 2, 2) == word(12, 2) && KEPT);
+    EXPECT(desk_offer(TASK, RUN, UINT32_MAX, UINT32_MAX) == word(10, UINT32_MAX) && KEPT);
+    EXPECT(desk_offer(TASK, bytes, DESK_RUN_BYTES - 1, words, DESK_RUN_WORDS, 2, 1) == SHORT && KEPT);
+    EXPECT(desk_offer(TASK, WILD8, 0, words, DESK_RUN_WORDS, 2, 1) == SHORT && KEPT);
+    EXPECT(desk_offer(TASK, bytes, DESK_RUN_BYTES, WILD32, 0, 2, 1) == SHORT && KEPT);
+    EXPECT(desk_offer(COUNTED, facts, DESK_FACTS, costs, DESK_COSTS, WILD32, 0, RUN, 2, 1) == SHORT && KEPT);
+    words[DESK_STEPS + 1]++; /* a column that no offers could have left */
+    KEEP;
+    EXPECT(desk_offer(TASK, RUN, 2, 1) == word(17, 0) && KEPT);
+    words[DESK_STEPS + 1]--;
+    EXPECT(desk_offer(TASK, RUN, 2, 1) == word(DESK_DONE, 0));
+    EXPECT(desk_offer(TASK, RUN, 3, 2) == word(DESK_DONE, 0));
+    EXPECT(desk_offer(TASK, RUN, 4, 3) == word(DESK_DONE, 0));
+    EXPECT(desk_run_steps(words) == 4 && desk_run_paid(words, 0) == 1 && desk_run_paid(words, 1) == 2 && desk_run_paid(words, 2) == 1);
+    EXPECT(desk_bound(TASK, bytes + 8, 3) == word(DESK_DONE, 0));
+    EXPECT(desk_judge(TASK, bytes, 3, words, desk_run_steps(words)) == word(DESK_DONE, 4));
+}
+
+int main(int argc, char **argv)
+{
+    FILE *f = argc == 2 ? fopen(argv[1], "rb") : NULL;
+    if (!f) {
+        fprintf(stderr, "test TEXT-OF-CASE-A\n");
+        return 2;
+    }
+    text_len = fread(text, 1, sizeof text, f);
+    fclose(f);
+    reads();
+    checks();
+    distances();
+    bounds();
+    sequences();
+    runs();
+    printf("C: %d expectations hold\n", tried);
+    return 0;
+}

@@ -1,0 +1,209 @@
+//! The sequence desk for Rust: a task read from its text, the least bench seconds any sequence still needs, sequences judged, and a run with its ledger.
+//!
+//! Everything here goes to the proved desk (`libdesk_c.a`, x86-64 Linux) and comes back as it answered; this crate only gives the numbers types that can't be mixed up.
+//! A [`Refusal`] carries the desk's number and place, and then nothing was altered. What the desk's answers mean, and what is proved of them, is in the repository's
+//! docs/PROMISES.md; what to do about a refusal at the bench is in docs/REFUSALS.md.
+mod ffi;
+mod refusal;
+mod run;
+
+pub use refusal::{Place, Refusal};
+pub use run::{Answer, Run, RUN_BYTES, RUN_WORDS};
+use std::fmt;
+
+/// The places of a task's tables.
+pub const FACTS: usize = 1624;
+pub const COSTS: usize = 64;
+pub const SHARES: usize = 512;
+
+/// The places of a table of distances.
+pub const DISTANCES: usize = 4096;
+
+/// The most steps of a sequence or a run.
+pub const STEPS: usize = 256;
+
+/// In a table of distances: none.
+pub const NO_DISTANCE: u32 = u32::MAX;
+
+/// An operator's number, from 0.
+#[derive(Clone, Copy, Debug, PartialEq, Eq, PartialOrd, Ord, Hash)]
+#[repr(transparent)]
+pub struct Operator(pub u32);
+
+/// A map's number, from 0.
+#[derive(Clone, Copy, Debug, PartialEq, Eq, PartialOrd, Ord, Hash)]
+pub struct Map(pub u32);
+
+/// A step's number, from 1.
+#[derive(Clone, Copy, Debug, PartialEq, Eq, PartialOrd, Ord, Hash)]
+pub struct Step(pub u32);
+
+/// Bench seconds.
+#[derive(Clone, Copy, Debug, PartialEq, Eq, PartialOrd, Ord, Hash)]
+pub struct Seconds(pub u64);
+
+/// The rounds after which a map's distances are settled.
+#[derive(Clone, Copy, Debug, PartialEq, Eq, PartialOrd, Ord, Hash)]
+pub struct Rounds(pub u32);
+
+/// How many variables, operators and maps a task has.
+#[derive(Clone, Copy, Debug, PartialEq, Eq, Hash)]
+pub struct Counts {
+    pub variables: u32,
+    pub operators: u32,
+    pub maps: u32,
+}
+
+/// A state: a value for each variable. Any bytes may be one; the desk judges it.
+#[derive(Clone, Debug, PartialEq, Eq, Hash)]
+pub struct State(Vec<u8>);
+
+/// Which of two lists is the cheaper, with the seconds up to its first goal moment.
+#[derive(Clone, Copy, Debug, PartialEq, Eq)]
+pub enum Cheaper {
+    First(Seconds),
+    Second(Seconds),
+    Neither,
+}
+
+/// A task, as its tables.
+#[derive(Clone)]
+pub struct Task {
+    counts: Counts,
+    facts: [u8; FACTS],
+    costs: [u32; COSTS],
+    shares: [u32; SHARES],
+}
+
+// The kinds of answers that are no refusals, but for 0: done.
+const NONE: u8 = 128;
+const REPEATED: u8 = 129;
+const FIRST: u8 = 130;
+const SECOND: u8 = 131;
+
+/// An answer's word taken apart: its kind and its number, or the refusal that it is.
+fn told(word: u64) -> Result<(u8, u64), Refusal> {
+    let (kind, number) = (word as u8, word >> 8);
+    match kind {
+        1..=127 => Err(Refusal::new(kind, number as u32)),
+        _ => Ok((kind, number)),
+    }
+}
+
+/// A number of seconds, or none.
+fn seconds(word: u64) -> Result<Option<Seconds>, Refusal> {
+    let (kind, number) = told(word)?;
+    Ok(if kind == NONE { None } else { Some(Seconds(number)) })
+}
+
+/// The numbers of the operators of a list: `Operator` is one number and nothing else, so the list is one of numbers.
+fn numbers(list: &[Operator]) -> &[u32] {
+    // `Operator` is `repr(transparent)` over `u32`.
+    unsafe { std::slice::from_raw_parts(list.as_ptr().cast(), list.len()) }
+}
+
+/// Checks tables by the rules of the text: they are a task's, or the first fault with the line that the same task's text would have.
+pub fn check(counts: Counts, facts: &[u8], costs: &[u32], shares: &[u32]) -> Result<(), Refusal> {
+    told(ffi::check(ffi::Lent { counts: counts.lent(), facts, costs, shares })).map(|_| ())
+}
+
+impl Counts {
+    fn lent(self) -> [u32; 3] {
+        [self.variables, self.operators, self.maps]
+    }
+}
+
+impl State {
+    /// The state with these values.
+    pub fn of(values: &[u8]) -> State {
+        State(values.to_vec())
+    }
+
+    /// The values of the variables.
+    pub fn values(&self) -> &[u8] {
+        &self.0
+    }
+}
+
+impl Task {
+    /// Reads a task's text.
+    pub fn read(text: &[u8]) -> Result<Task, Refusal> {
+        let mut counts = [0; 3];
+        let mut facts = [0; FACTS];
+        let mut costs = [0; COSTS];
+        let mut shares = [0; SHARES];
+        told(ffi::read(text, &mut counts, &mut facts, &mut costs, &mut shares))?;
+        let counts = Counts { variables: counts[0], operators: counts[1], maps: counts[2] };
+        Ok(Task { counts, facts, costs, shares })
+    }
+
+    /// The task of tables that were made otherwise, once the desk has checked them.
+    pub fn of_tables(counts: Counts, facts: [u8; FACTS], costs: [u32; COSTS], shares: [u32; SHARES]) -> Result<Task, Refusal> {
+        check(counts, &facts, &costs, &shares)?;
+        Ok(Task { counts, facts, costs, shares })
+    }
+
+    /// How many variables, operators and maps it has.
+    pub fn counts(&self) -> Counts {
+        self.counts
+    }
+
+    /// Its initial state: the second row of the facts.
+    pub fn initial(&self) -> State {
+        State::of(&self.facts[8..8 + self.counts.variables as usize])
+    }
+
+    fn lent(&self) -> ffi::Lent<'_> {
+        ffi::Lent { counts: self.counts.lent(), facts: &self.facts, costs: &self.costs, shares: &self.shares }
+    }
+
+    /// The distances of a map at all its abstract states, into a table of at least [`DISTANCES`] places ([`NO_DISTANCE`] for none); places beyond the map are left alone.
+    pub fn distances(&self, map: Map, table: &mut [u32]) -> Result<Rounds, Refusal> {
+        told(ffi::distances(self.lent(), map.0, table)).map(|(_, rounds)| Rounds(rounds as u32))
+    }
+
+    /// The distance of a state's image in one map, or none.
+    pub fn distance_at(&self, map: Map, state: &State) -> Result<Option<Seconds>, Refusal> {
+        seconds(ffi::distance_at(self.lent(), map.0, &state.0))
+    }
+
+    /// The summed bound of a state: at most the cost of every sequence from there to the goal. None: there is no such sequence.
+    pub fn bound(&self, state: &State) -> Result<Option<Seconds>, Refusal> {
+        seconds(ffi::bound(self.lent(), &state.0))
+    }
+
+    /// Judges a sequence from a state: its cost, if every step may run and the end meets the goal.
+    pub fn judge(&self, state: &State, list: &[Operator]) -> Result<Seconds, Refusal> {
+        told(ffi::judge(self.lent(), &state.0, numbers(list))).map(|(_, cost)| Seconds(cost))
+    }
+
+    /// The cheaper of two lists, each judged up to the first moment a goal holds; equal costs name the first.
+    pub fn cheaper(&self, state: &State, a: &[Operator], b: &[Operator]) -> Result<Cheaper, Refusal> {
+        let (kind, cost) = told(ffi::cheaper(self.lent(), &state.0, numbers(a), numbers(b)))?;
+        Ok(match kind {
+            FIRST => Cheaper::First(Seconds(cost)),
+            SECOND => Cheaper::Second(Seconds(cost)),
+            _ => Cheaper::Neither,
+        })
+    }
+
+    /// The opening part of the cheaper list, up to its first goal moment; the empty part of the first list for neither, and for a refused state.
+    pub fn opening<'a>(&self, state: &State, a: &'a [Operator], b: &'a [Operator]) -> &'a [Operator] {
+        match told(ffi::opening(self.lent(), &state.0, numbers(a), numbers(b))) {
+            Ok((SECOND, steps)) => &b[..steps as usize],
+            Ok((_, steps)) => &a[..steps as usize],
+            Err(_) => &a[..0],
+        }
+    }
+
+    /// Begins a run from a state.
+    pub fn begin(&self, start: &State) -> Result<Run, Refusal> {
+        Run::begin(self.lent(), &start.0)
+    }
+}
+
+impl fmt::Display for Seconds {
+    fn fmt(&self, f: &mut fmt::Formatter<'_>) -> fmt::Result {
+        self.0.fmt(f)
+    }
+}

@@ -1,0 +1,183 @@
+//! The crate on the cases of the bench: what each entry answers, what a refusal says, and that nothing moves where the desk says no.
+use mihaedop::*;
+
+const A: &str = "edition=1
+vars=3
+dom=2,3,3
+init=0,0,0
+goal=0:1,1:2,2:2
+ops=4
+op=1;0:0;0:1
+op=1;1:0,2:0;1:1,2:1
+op=1;1:1;1:2
+op=1;2:1;2:2
+maps=3
+map=0,1/0,0,0/0,0,0
+map=0,0/0,1,2/0,0,0
+map=0,0/0,0,0/0,1,2
+share=1,0,0,0
+share=0,1,1,0
+share=0,0,0,1
+";
+
+const E: &str = "edition=1
+vars=2
+dom=2,2
+init=0,0
+goal=0:1,1:1
+ops=1
+op=1;0:0;0:1
+maps=2
+map=0,1/0,0
+map=0,0/0,1
+share=1
+share=0
+";
+
+fn task(text: &str) -> Task {
+    Task::read(text.as_bytes()).unwrap_or_else(|refusal| panic!("{refusal}"))
+}
+
+fn ops(numbers: &[u32]) -> Vec<Operator> {
+    numbers.iter().map(|&op| Operator(op)).collect()
+}
+
+/// The number and the place of a refusal.
+fn refusal<T>(answer: Result<T, Refusal>) -> (u8, u32) {
+    match answer {
+        Ok(_) => panic!("not refused"),
+        Err(refusal) => (refusal.number(), refusal.place_number()),
+    }
+}
+
+#[test]
+fn reads_and_refuses_texts() {
+    let a = task(A);
+    assert_eq!(a.counts(), Counts { variables: 3, operators: 4, maps: 3 });
+    assert_eq!(a.initial(), State::of(&[0, 0, 0]));
+    assert_eq!(refusal(Task::read(b"")), (2, 1));
+    assert_eq!(refusal(Task::read(&[b'e'; 16385])), (1, 0));
+    assert_eq!(refusal(Task::read(&[0xff; 16384])), (2, 1));
+    let c = A.replace("share=0,0,0,1", "share=0,1,0,1");
+    assert_eq!(refusal(Task::read(c.as_bytes())), (6, 8));
+    assert_eq!(refusal(Task::read(A.replace("ops=4", "ops=65").as_bytes())), (3, 6));
+    assert_eq!(refusal(Task::read(A.replace("goal=0:1,1:2", "goal=1:2,0:1").as_bytes())), (4, 5));
+    assert_eq!(refusal(Task::read(A.replace("map=0,0/0,1,2/0,0,0", "map=0,0/0,2,2/0,0,0").as_bytes())), (5, 13));
+}
+
+#[test]
+fn refusals_say_number_place_and_meaning() {
+    let c = A.replace("share=0,0,0,1", "share=0,1,0,1");
+    let refusal = Task::read(c.as_bytes()).err().expect("refused");
+    assert_eq!(refusal.to_string(), "refused 6 at line 8: an operator's shares total above its cost");
+    assert_eq!(refusal.place(), Place::Line(8));
+    let a = task(A);
+    let start = a.initial();
+    let error: Box<dyn std::error::Error> = a.judge(&start, &ops(&[0, 2])).err().expect("refused").into();
+    assert_eq!(error.to_string(), "refused 12 at step 2: the operator may not run");
+    assert_eq!(a.distance_at(Map(3), &start).err().expect("refused").to_string(), "refused 3 at place 0: the task has no such map");
+    assert_eq!(a.bound(&State::of(&[0, 9, 0])).err().expect("refused").place(), Place::Variable(1));
+    assert_eq!(a.judge(&start, &ops(&[0])).err().expect("refused").place(), Place::Length(1));
+    assert_eq!(a.bound(&State::of(&[])).err().expect("refused").to_string(), "refused 8 at place 0: a lent table is shorter than needed");
+}
+
+#[test]
+fn checks_tables_of_any_length() {
+    let counts = Counts { variables: 1, operators: 0, maps: 1 };
+    let mut facts = [0; FACTS];
+    facts[0] = 1;
+    assert_eq!(check(counts, &facts, &[0; COSTS], &[0; SHARES]), Ok(()));
+    assert!(Task::of_tables(counts, facts, [0; COSTS], [0; SHARES]).is_ok());
+    assert_eq!(refusal(check(counts, &facts[..FACTS - 1], &[0; COSTS], &[0; SHARES])), (8, 0));
+    assert_eq!(refusal(check(counts, &[], &[], &[])), (8, 0));
+    assert_eq!(refusal(check(counts, &facts, &[0; COSTS - 1], &[0; SHARES])), (8, 0));
+    assert_eq!(refusal(check(counts, &facts, &[0; COSTS], &[0; SHARES - 1])), (8, 0));
+    facts[0] = 9;
+    assert_eq!(refusal(Task::of_tables(counts, facts, [0; COSTS], [0; SHARES])), (3, 3));
+}
+
+#[test]
+fn distances_and_bounds() {
+    let a = task(A);
+    let mut table = [77; DISTANCES];
+    for (map, rounds, distances) in [(0, 2, &[1, 0][..]), (1, 3, &[2, 1, 0]), (2, 3, &[1, 1, 0])] {
+        table[..4].fill(77);
+        assert_eq!(a.distances(Map(map), &mut table), Ok(Rounds(rounds)));
+        assert_eq!(&table[..distances.len()], distances);
+        assert!(table[distances.len()..].iter().all(|&place| place == 77));
+    }
+    assert_eq!(refusal(a.distances(Map(0), &mut [0; DISTANCES - 1])), (8, 0));
+    assert_eq!(refusal(a.distances(Map(0), &mut [])), (8, 0));
+    assert_eq!(a.bound(&a.initial()), Ok(Some(Seconds(4))));
+    assert_eq!(a.bound(&State::of(&[1, 0, 0])), Ok(Some(Seconds(3))));
+    let e = task(E);
+    assert_eq!(e.distance_at(Map(0), &e.initial()), Ok(Some(Seconds(1))));
+    assert_eq!(e.distance_at(Map(1), &e.initial()), Ok(None));
+    assert_eq!(e.bound(&e.initial()), Ok(Some(Seconds(1))));
+    assert_eq!(e.distances(Map(1), &mut table), Ok(Rounds(1)));
+    assert_eq!(table[..2], [NO_DISTANCE, 0]);
+    let closed = task(&E.replace("goal=0:1,1:1", "goal=1:1").replace("map=0,1/0,0", "map=0,1/0,1"));
+    assert_eq!(closed.bound(&closed.initial()), Ok(None));
+}
+
+#[test]
+fn sequences_and_the_cheaper_of_two() {
+    let a = task(A);
+    let start = a.initial();
+    assert_eq!(a.judge(&start, &ops(&[0, 1, 2, 3])), Ok(Seconds(4)));
+    assert_eq!(refusal(a.judge(&start, &ops(&[0, 4]))), (10, 2));
+    assert_eq!(refusal(a.judge(&start, &ops(&[0; STEPS + 1]))), (11, 0));
+    assert_eq!(refusal(a.judge(&start, &[])), (16, 0));
+    let (all, stuck, longer) = (ops(&[0, 1, 2, 3]), ops(&[0, 2]), ops(&[1, 2, 3, 0, 9]));
+    assert_eq!(a.cheaper(&start, &stuck, &longer), Ok(Cheaper::Second(Seconds(4))));
+    assert_eq!(a.cheaper(&start, &all, &longer), Ok(Cheaper::First(Seconds(4))));
+    assert_eq!(a.cheaper(&start, &stuck, &[]), Ok(Cheaper::Neither));
+    assert_eq!(refusal(a.cheaper(&State::of(&[0, 0]), &all, &longer)), (8, 0));
+    let part = a.opening(&start, &stuck, &longer);
+    assert_eq!((part.as_ptr(), part.len()), (longer.as_ptr(), 4));
+    let none = a.opening(&start, &stuck, &[]);
+    assert_eq!((none.as_ptr(), none.len()), (stuck.as_ptr(), 0));
+}
+
+#[test]
+fn a_run_and_its_ledger() {
+    let a = task(A);
+    assert_eq!(refusal(a.begin(&State::of(&[2, 0, 0]))), (9, 0));
+    let mut run = a.begin(&a.initial()).expect("a start");
+    assert_eq!(run.next(), Step(1));
+    assert_eq!(run.offer(&a, Step(1), Operator(0)), Ok(Answer::Accepted));
+    let before = run.clone();
+    assert_eq!(run.offer(&a, Step(1), Operator(0)), Ok(Answer::Repeated));
+    assert_eq!(refusal(run.offer(&a, Step(1), Operator(1))), (14, 1));
+    assert_eq!(refusal(run.offer(&a, Step(3), Operator(0))), (13, 3));
+    assert_eq!(refusal(run.offer(&a, Step(0), Operator(0))), (13, 0));
+    assert_eq!(refusal(run.offer(&a, Step(2), Operator(0))), (12, 2));
+    assert_eq!(refusal(run.offer(&a, Step(2), Operator(u32::MAX))), (10, 2));
+    assert_eq!(run, before);
+    assert_eq!([0, 1, 2].map(|map| run.paid(Map(map))), [1, 0, 0].map(Seconds));
+    assert_eq!(run.unshared(), Seconds(0));
+    assert_eq!((run.start(&a), run.now(&a)), (a.initial(), State::of(&[1, 0, 0])));
+    let (bytes, words) = run.parts();
+    let mut stored = Run::of_parts(*bytes, *words);
+    assert_eq!(stored.offer(&a, Step(2), Operator(1)), Ok(Answer::Accepted));
+    assert_eq!(stored.log(), ops(&[0, 1]));
+    let mut damaged = *words;
+    damaged[STEPS + 9] += 1;
+    let mut damaged = Run::of_parts(*bytes, damaged);
+    let before = damaged.clone();
+    assert_eq!(refusal(damaged.offer(&a, Step(2), Operator(1))), (17, 0));
+    assert_eq!(damaged, before);
+}
+
+#[test]
+fn a_run_is_full_after_256_steps() {
+    let round = task("edition=1\nvars=1\ndom=2\ninit=0\ngoal=-\nops=2\nop=3;0:0;0:1\nop=5;0:1;0:0\nmaps=1\nmap=0,1\nshare=1,2\n");
+    let mut run = round.begin(&round.initial()).expect("a start");
+    for step in 1..=STEPS as u32 {
+        assert_eq!(run.offer(&round, Step(step), Operator((step - 1) % 2)), Ok(Answer::Accepted));
+    }
+    assert_eq!((run.paid(Map(0)), run.unshared()), (Seconds(128 * 3), Seconds(128 * 5)));
+    assert_eq!(refusal(run.offer(&round, Step(257), Operator(0))), (15, 257));
+    assert_eq!(run.offer(&round, Step(256), Operator(1)), Ok(Answer::Repeated));
+    assert_eq!(round.judge(&round.initial(), &run.log()), Ok(Seconds(128 * 8)));
+}
