@@ -1,0 +1,49 @@
+-- For each entry that only reads: no second outcome could meet its contract, whatever was handed in. Assumes nothing.
+use mathlib.Core.Path.{_≡_, sym, ap, _∙_}
+use mathlib.Core.List.{List}
+use Prim.Native.Nat.{ℕ}
+use Rattle.tables.specs.Layout.{Tables}
+use Rattle.tables.specs.Scan.{tablesFault}
+use Rattle.views.proofs.Promises as views
+use Rattle.sequences.specs.Judging.{judgedOf}
+use Rattle.sequences.specs.Choosing.{cheaperOf, chosenOf}
+use Rattle.desk_c.specs.Words.{foundWord, distancesWord, distanceWord, boundWord, judgedWord, cheaperWord, openingWord}
+use Rattle.desk_c.specs.Handing.{DistancesHanded, DistanceHanded, BoundHanded}
+
+pub check-unique : (t : Tables) (w v : ℕ) → w ≡ foundWord (tablesFault t) → v ≡ foundWord (tablesFault t) → w ≡ v
+check-unique t w v p q = p ∙ sym q
+
+-- the word and the lent table after `desk_distances`, together
+pub record Outcome : Type 0 where
+  pub word : ℕ
+  pub table : List ℕ
+
+pub distances-unique : (t : Tables) (map : ℕ) (out : List ℕ) (x y : Outcome)
+    → DistancesHanded t map out (x .word) (x .table) → DistancesHanded t map out (y .word) (y .table) → x ≡ y
+distances-unique t map out x y p q =
+    let a : views.Outcome = record { answer = p .0; table = x .table } in
+    let b : views.Outcome = record { answer = q .0; table = y .table } in
+    let o : a ≡ b = views.distances-unique t map out a b (p .1) (q .1) in
+    let w : x .word ≡ y .word = p .2 ∙ ap (λ (u : views.Outcome). distancesWord (u .answer)) o ∙ sym (q .2) in
+    let f : x .table ≡ y .table = ap (λ (u : views.Outcome). u .table) o in
+    λ i. record { word = w i; table = f i }
+
+pub distance-at-unique : (t : Tables) (map : ℕ) (state : List ℕ) (w v : ℕ)
+    → DistanceHanded t map state w → DistanceHanded t map state v → w ≡ v
+distance-at-unique t map state w v p q =
+    p .2 ∙ ap distanceWord (views.distance-at-unique t map state (p .0) (q .0) (p .1) (q .1)) ∙ sym (q .2)
+
+pub bound-unique : (t : Tables) (state : List ℕ) (w v : ℕ) → BoundHanded t state w → BoundHanded t state v → w ≡ v
+bound-unique t state w v p q = p .2 ∙ ap boundWord (views.bound-unique t state (p .0) (q .0) (p .1) (q .1)) ∙ sym (q .2)
+
+pub judge-unique : (t : Tables) (state list : List ℕ) (w v : ℕ)
+    → w ≡ judgedWord (judgedOf t state list) → v ≡ judgedWord (judgedOf t state list) → w ≡ v
+judge-unique t state list w v p q = p ∙ sym q
+
+pub cheaper-unique : (t : Tables) (state a b : List ℕ) (w v : ℕ)
+    → w ≡ cheaperWord (cheaperOf t state a b) → v ≡ cheaperWord (cheaperOf t state a b) → w ≡ v
+cheaper-unique t state a b w v p q = p ∙ sym q
+
+pub opening-unique : (t : Tables) (state a b : List ℕ) (w v : ℕ)
+    → w ≡ openingWord (chosenOf t state a b) → v ≡ openingWord (chosenOf t state a b) → w ≡ v
+opening-unique t state a b w v p q = p ∙ sym q
