@@ -1,0 +1,65 @@
+-- A run taken out of lent memory and put into it, part by part: what the code does is what `runIn`, `bytesWith` and `wordsWith` say, and no length changes.
+-- Assumes nothing.
+use Prim.Native.Nat.{ℕ, _+_}
+use mathlib.Core.Path.{_≡_, refl, ap, _∙_}
+use mathlib.Core.List.{List}
+use native.Mathlib.Omega.{arith}
+use lib.ListN.{length, getD, set, replicate, length-set}
+use Rattle.sequences.specs.Stepping.{steps}
+use Rattle.ledger.specs.declared.Run.{Run}
+use Rattle.ledger.specs.Ledger.{allColumns}
+use Rattle.desk_c.specs.Lent.{placed, part, withPart, runIn, bytesWith, wordsWith}
+use Rattle.desk_c.proofs.Placing.{placed-same, length-placed}
+
+-- what is copied from the start of a list is its first part
+pub placed-part : (x : List ℕ) (j : ℕ) (l t : List ℕ) (n : ℕ) → t ≡ placed (λ k. getD x (0 + k) 0) j l n → t ≡ withPart l j x n
+unfolding withPart
+placed-part x j l t n p =
+    p
+    ∙ placed-same (λ k. getD x (0 + k) 0) (λ k. getD x k 0) j l n
+    (λ i b.
+    let q : 0 + i ≡ i = omega arith in
+    ap (λ (z : ℕ). getD x z 0) q)
+
+pub bytes-put : (r : Run) (bytes b b′ : List ℕ) → b ≡ placed (λ k. getD (r .start) (0 + k) 0) 0 bytes 8
+    → b′ ≡ placed (λ k. getD (r .now) (0 + k) 0) 8 b 8
+    → b′ ≡ bytesWith r bytes
+unfolding bytesWith
+bytes-put r bytes b b′ p q = placed-part (r .now) 8 b b′ 8 q ∙ ap (λ (l : List ℕ). withPart l 8 (r .now) 8) (placed-part (r .start) 0 bytes b 8 p)
+
+pub words-put : (r : Run) (words w w′ : List ℕ) → w ≡ placed (λ k. getD (r .log) (0 + k) 0) 0 words steps
+    → w′ ≡ placed (λ k. getD (r .columns) (0 + k) 0) (steps + 1) (set w steps (r .len)) allColumns
+    → w′ ≡ wordsWith r words
+unfolding wordsWith
+words-put r words w w′ p q =
+    placed-part (r .columns) (steps + 1) (set w steps (r .len)) w′ allColumns q
+    ∙ ap (λ (l : List ℕ). withPart (set l steps (r .len)) (steps + 1) (r .columns) allColumns)
+    (placed-part (r .log) 0 words w steps p)
+
+pub run-taken : (bytes words start log now columns : List ℕ) → start ≡ placed (λ k. getD bytes (0 + k) 0) 0 (replicate 8 0) 8
+    → log ≡ placed (λ k. getD words (0 + k) 0) 0 (replicate steps 0) steps
+    → now ≡ placed (λ k. getD bytes (8 + k) 0) 0 (replicate 8 0) 8
+    → columns ≡ placed (λ k. getD words (steps + 1 + k) 0) 0 (replicate allColumns 0) allColumns
+    → record { start = start; log = log; len = getD words steps 0; now = now; columns = columns } ≡ runIn bytes words
+unfolding runIn part
+run-taken bytes words start log now columns p q u v = rw (p, q, u, v) refl
+
+-- ---- the lengths stay
+
+pub part-put-length : (l : List ℕ) (k : ℕ) (x : List ℕ) (n : ℕ) → length (withPart l k x n) ≡ length l
+unfolding withPart
+part-put-length l k x n = length-placed (λ i. getD x i 0) k l n
+
+pub bytes-length : (r : Run) (bytes b : List ℕ) → b ≡ bytesWith r bytes → length b ≡ length bytes
+unfolding bytesWith
+bytes-length r bytes b p =
+    ap length p ∙ part-put-length (withPart bytes 0 (r .start) 8) 8 (r .now) 8 ∙ part-put-length bytes 0 (r .start) 8
+
+pub words-length : (r : Run) (words w : List ℕ) → w ≡ wordsWith r words → length w ≡ length words
+unfolding wordsWith
+words-length r words w p =
+    let logged = withPart words 0 (r .log) steps in
+    ap length p
+    ∙ part-put-length (set logged steps (r .len)) (steps + 1) (r .columns) allColumns
+    ∙ length-set logged steps (r .len)
+    ∙ part-put-length words 0 (r .log) steps

@@ -1,0 +1,67 @@
+-- `desk_offer` meets its contract: the offer is made to the run in lent memory. Assumes nothing.
+use Rattle.desk_c.proofs.Handed.{left-long, left-short, long-enough, offered-in}
+use Rattle.desk_c.specs.Handing.{offerHanded}
+use borrow.Author.Needs.{needs}
+use mathlib.Core.Path.{_∙_, sym}
+use Rattle.desk_c.proofs.desk_offer.Statement.{statement}
+use Rattle.desk_c.proofs.desk_offer.Tie as tie
+
+run-short-requires : tie.Need-run-short-requires
+run-short-requires c κs = search needs
+
+refused-word-requires : tie.Need-refused-word-requires
+refused-word-requires c κs = search needs
+
+same-length : tie.Need-same-length
+same-length c = search needs
+
+same-length-2 : tie.Need-same-length-2
+same-length-2 c = search needs
+
+returns : tie.Need-returns
+unfolding offerHanded
+returns c = left-short _ _ _ _ (sym (c .before .before .run-short .ensures) ∙ c .before .if1 .taken) (c .refused-word .ensures)
+
+run-in-requires : tie.Need-run-in-requires
+run-in-requires c κs = long-enough _ _ (sym (c .before .before .before .run-short .ensures) ∙ c .before .before .if1 .left)
+
+offer-requires : tie.Need-offer-requires
+offer-requires c κs = search needs
+
+hand-back-requires : tie.Need-hand-back-requires
+hand-back-requires c κs =
+    let long = c .before .before .before .before .before .before in
+    long-enough _ _ (sym (long .before .run-short .ensures) ∙ long .if1 .left)
+
+same-length-3 : tie.Need-same-length-3
+same-length-3 c = search needs
+
+same-length-4 : tie.Need-same-length-4
+same-length-4 c = search needs
+
+returns-2 : tie.Need-returns-2
+unfolding offerHanded
+returns-2 c =
+    let back = c .before .before .before .before in
+    let made = back .before .before .before in
+    let taken = made .before in
+    let long = taken .before .before .before in
+    left-long _ _ _ _ _ (sym (long .before .run-short .ensures) ∙ long .if1 .left)
+    (offered-in _ _ _ _ _ _ (made .offer .ensures) (taken .run-in .ensures))
+    (back .hand-back .ensures)
+
+pub desk-offer-spec : {M : Type 1} → statement M
+desk-offer-spec =
+    tie.close
+    (tie.spec
+    run-short-requires
+    refused-word-requires
+    same-length
+    same-length-2
+    returns
+    run-in-requires
+    offer-requires
+    hand-back-requires
+    same-length-3
+    same-length-4
+    returns-2)

@@ -1,0 +1,47 @@
+-- `runs::hand_back` meets its contract: an accepted answer puts the run into lent memory, any other leaves it. Assumes nothing.
+use Rattle.desk_c.proofs.Handed.{handed-accepted, handed-else}
+use Rattle.desk_c.proofs.Parts.{bytes-length, words-length}
+use borrow.Author.Needs.{needs}
+use lib.ListN.{length}
+use mathlib.Core.Logic.{⊎-elim}
+use mathlib.Core.Path.{_∙_, ap}
+use Rattle.desk_c.proofs.runs.hand_back.Statement.{statement}
+use Rattle.desk_c.proofs.runs.hand_back.Tie as tie
+
+enum-told : tie.Need-enum-told
+enum-told c = search needs
+
+put-bytes-requires : tie.Need-put-bytes-requires
+put-bytes-requires c κs = search needs
+
+put-words-requires : tie.Need-put-words-requires
+put-words-requires c κs = search needs
+
+answer-word-requires : tie.Need-answer-word-requires
+answer-word-requires c κs = search needs
+
+same-length : tie.Need-same-length
+same-length c = ⊎-elim (λ w. ap length (w .10) ∙ bytes-length _ _ _ (w .3 .ensures)) (λ w. ap length (w .1)) (c .before .match .came)
+
+same-length-2 : tie.Need-same-length-2
+same-length-2 c = ⊎-elim (λ w. ap length (w .11) ∙ words-length _ _ _ (w .7 .ensures)) (λ w. ap length (w .2)) (c .before .match .came)
+
+returns : tie.Need-returns
+returns c =
+    let told = c .answer-word .ensures in
+    ⊎-elim
+    (λ w. handed-accepted _ _ _ _ _ _ told (w .1 .given .1) (w .10 ∙ w .3 .ensures) (w .11 ∙ w .7 .ensures))
+    (λ w. handed-else _ _ _ _ _ _ told (w .0 .keys2) (w .1) (w .2))
+    (c .before .match .came)
+
+pub hand-back-spec : {M : Type 1} → statement M
+hand-back-spec =
+    tie.close
+    (tie.spec
+    enum-told
+    put-bytes-requires
+    put-words-requires
+    answer-word-requires
+    same-length
+    same-length-2
+    returns)

@@ -1,0 +1,36 @@
+-- `runs::put_bytes` meets its contract: the start goes to place 0 and the state now to place 8. Assumes nothing.
+use Rattle.desk_c.proofs.Parts.{bytes-put}
+use borrow.Author.Needs.{needs}
+use native.Mathlib.Omega.{arith}
+use Rattle.desk_c.proofs.runs.put_bytes.Statement.{statement}
+use Rattle.desk_c.proofs.runs.put_bytes.Tie as tie
+
+slice-aggregate-copy-bytes : tie.Need-slice-aggregate-copy-bytes
+slice-aggregate-copy-bytes c = search needs
+
+copy-bytes-requires : tie.Need-copy-bytes-requires
+copy-bytes-requires c κs =
+    (omega (arith, slice-aggregate-copy-bytes (c .before)), omega arith)
+
+slice-aggregate-copy-bytes-2 : tie.Need-slice-aggregate-copy-bytes-2
+slice-aggregate-copy-bytes-2 c = search needs
+
+copy-bytes-requires-2 : tie.Need-copy-bytes-requires-2
+copy-bytes-requires-2 c κs = (omega (arith, slice-aggregate-copy-bytes-2 (c .before)), omega arith)
+
+same-length : tie.Need-same-length
+same-length c = search needs
+
+returns : tie.Need-returns
+returns c = bytes-put _ _ _ _ (c .before .before .before .before .before .before .before .copy-bytes .ensures) (c .before .before .copy-bytes2 .ensures)
+
+pub put-bytes-spec : {M : Type 1} → statement M
+put-bytes-spec =
+    tie.close
+    (tie.spec
+    slice-aggregate-copy-bytes
+    copy-bytes-requires
+    slice-aggregate-copy-bytes-2
+    copy-bytes-requires-2
+    same-length
+    returns)
