@@ -1,3 +1,6 @@
 pub mod Placing
 pub mod Parts
 pub mod Handed
+pub mod Sizes
+pub mod Carried
+pub mod UniqueWritten
