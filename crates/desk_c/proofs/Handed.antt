@@ -65,6 +65,10 @@ module _ (bytes words : List ℕ) where
       let q = neither-true (ltb (length bytes) runBytes) (ltb (length words) runWords) p in
       (ltb-false (length bytes) runBytes (q .0), ltb-false (length words) runWords (q .1))
 
+  pub not-short : runBytes ≤ length bytes → runWords ≤ length words → runShort bytes words ≡ false
+  unfolding runShort
+  not-short h g = rw (le-ltb (length bytes) runBytes h, le-ltb (length words) runWords g) refl
+
 -- ---- a start or an offer
 
 -- the answer is another than accepted
@@ -72,15 +76,10 @@ abbrev pub NotAccepted : Answer → Type 0
 NotAccepted a = OneOf (1 ∷ 2 ∷ []) (tagOf A.the-type a)
 
 -- then nothing moves
-bytes-kept : (a : Answer) (r : Run) (bytes : List ℕ) → NotAccepted a → bytes ≡ bytesAfter a r bytes
-bytes-kept Accepted r bytes n = absurd (⊎-elim (λ e. eqb-false 0 1 refl e) (λ e. eqb-false 0 2 refl e) n)
-bytes-kept Repeated r bytes n = refl
-bytes-kept (Refused f) r bytes n = refl
-
-words-kept : (a : Answer) (r : Run) (words : List ℕ) → NotAccepted a → words ≡ wordsAfter a r words
-words-kept Accepted r words n = absurd (⊎-elim (λ e. eqb-false 0 1 refl e) (λ e. eqb-false 0 2 refl e) n)
-words-kept Repeated r words n = refl
-words-kept (Refused f) r words n = refl
+kept : (a : Answer) (r : Run) (bytes words : List ℕ) → NotAccepted a → (bytes ≡ bytesAfter a r bytes) × (words ≡ wordsAfter a r words)
+kept Accepted r bytes words n = absurd (⊎-elim (λ e. eqb-false 0 1 refl e) (λ e. eqb-false 0 2 refl e) n)
+kept Repeated r bytes words n = (refl, refl)
+kept (Refused f) r bytes words n = (refl, refl)
 
 module _ (o : Offered) (bytes words : List ℕ) (w : ℕ) (b n : List ℕ) (told : w ≡ answerWord (o .answer)) where
   pub handed-accepted : o .answer ≡ Accepted → b ≡ bytesWith (o .run) bytes → n ≡ wordsWith (o .run) words
@@ -91,8 +90,9 @@ module _ (o : Offered) (bytes words : List ℕ) (w : ℕ) (b n : List ℕ) (told
   pub handed-else : NotAccepted (o .answer) → b ≡ bytes → n ≡ words → runLeft w b n ≡ handed o bytes words
   unfolding handed
   handed-else e p q =
-      let p′ = p ∙ bytes-kept (o .answer) (o .run) bytes e in
-      let q′ = q ∙ words-kept (o .answer) (o .run) words e in
+      let still = kept (o .answer) (o .run) bytes words e in
+      let p′ = p ∙ still .0 in
+      let q′ = q ∙ still .1 in
       cc
 
 -- what an entry hands back, too short or not

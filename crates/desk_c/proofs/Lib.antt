@@ -4,3 +4,6 @@ pub mod Unique
 pub mod Placing
 pub mod Parts
 pub mod Handed
+pub mod Sizes
+pub mod Carried
+pub mod UniqueWritten

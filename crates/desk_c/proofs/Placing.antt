@@ -7,7 +7,7 @@ use native.Mathlib.Numerals.{add-one}
 use native.Mathlib.Omega.{arith}
 use lib.Dec.{eqb}
 use lib.ListN.{length, getD, set, length-set}
-use lib.Seq.{getD-set-same, getD-set-other}
+use lib.Seq.{getD-set-same, getD-set-other, set-getD}
 use borrow.Author.Tests.{eqb-true, eqb-false}
 use Rattle.tables.proofs.Laws.{by-cases}
 use Rattle.desk_c.specs.Lent.{placed}
@@ -58,3 +58,9 @@ pub placed-same : (f g : ℕ → ℕ) (j : ℕ) (l : List ℕ) (n : ℕ) → ((i
 unfolding placed
 placed-same f g j l zero h = refl
 placed-same f g j l (suc n) h = rw (placed-same f g j l n (λ i b. h i (omega arith)), h n (omega arith)) refl
+
+-- placing what stands there already changes nothing
+pub placed-self : (f : ℕ → ℕ) (j : ℕ) (l : List ℕ) (n : ℕ) → ((i : ℕ) → i < n → f i ≡ getD l (j + i) 0) → placed f j l n ≡ l
+unfolding placed
+placed-self f j l zero h = refl
+placed-self f j l (suc n) h = rw (placed-self f j l n (λ i b. h i (omega arith)), h n (omega arith)) (set-getD l (j + n) 0)
