@@ -1,5 +1,5 @@
-// The vectors' script: its lines and commands taken apart, the arrays that it sets and shows, and what has changed in them printed. It knows
-// nothing of the desk's answers. The form of a script is in docs/VECTORS.md.
+// The script of the vectors: what reads its lines and commands, holds its arrays, and prints what is shown and what has changed.
+// It knows nothing of the desk's answers. The form of a script is in docs/VECTORS.md.
 pub mod commands;
 pub mod held;
 pub mod input;
