@@ -1,11 +1,11 @@
 // The desk's answers in the script's words.
-use crate::lines::Line;
-use crate::lines::say;
-use crate::lines::say_number;
 use ledger::Answer;
 use refusals::Refusal;
 use refusals::number;
 use refusals::place;
+use script::lines::Line;
+use script::lines::say;
+use script::lines::say_number;
 use sequences::choosing::Cheaper;
 use sequences::judging::Judged;
 use tables::scan::Found;

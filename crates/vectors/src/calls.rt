@@ -10,29 +10,8 @@ use crate::answers::say_judged;
 use crate::answers::say_offered;
 use crate::answers::say_opening;
 use crate::answers::say_refused;
-use crate::commands::Command;
-use crate::held::COSTS;
-use crate::held::COUNTS;
-use crate::held::FACTS;
-use crate::held::FIRST;
-use crate::held::OUT;
-use crate::held::SECOND;
-use crate::held::SHARES;
-use crate::held::STATE;
-use crate::held::TEXT;
-use crate::held::lent;
-use crate::held::load_bytes;
-use crate::held::load_words;
-use crate::held::save_bytes;
-use crate::held::save_words;
-use crate::held::value;
-use crate::parts::front_bytes;
-use crate::parts::front_words;
-use crate::parts::least;
 use crate::runs::keep_run;
 use crate::runs::run_held;
-use crate::setting::say_counts;
-use crate::setting::set_counts;
 use desk::begin;
 use desk::bound;
 use desk::cheaper;
@@ -44,17 +23,28 @@ use desk::offer;
 use desk::opening;
 use desk::read;
 use meaning::OpNo;
-use tables::Counts;
+use script::commands::Command;
+use script::held::COSTS;
+use script::held::FACTS;
+use script::held::FIRST;
+use script::held::OUT;
+use script::held::SECOND;
+use script::held::SHARES;
+use script::held::STATE;
+use script::held::TEXT;
+use script::held::lent;
+use script::held::load_bytes;
+use script::held::load_words;
+use script::held::save_bytes;
+use script::held::save_words;
+use script::held::value;
+use script::parts::front_bytes;
+use script::parts::front_words;
+use script::parts::least;
+use script::setting::counts_held;
+use script::setting::say_counts;
+use script::setting::set_counts;
 use text::Reading;
-
-// The counts that are held.
-fn counts_held(held: &[u32]) -> Counts {
-    Counts {
-        vars: value(held, COUNTS, 0),
-        ops: value(held, COUNTS, 1),
-        maps: value(held, COUNTS, 2),
-    }
-}
 
 // The answer of `read`; the counts of an accepted text are kept.
 fn keep_reading(held: &mut [u32], answer: Reading) {

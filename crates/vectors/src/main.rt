@@ -2,32 +2,26 @@
 // The form of a script and of what is printed is in docs/VECTORS.md.
 mod answers;
 mod calls;
-mod commands;
-mod held;
-mod input;
-mod lines;
-mod parts;
 mod runs;
-mod setting;
 
 use crate::calls::call;
 use crate::calls::call_read;
-use crate::commands::Command;
-use crate::commands::known;
-use crate::commands::parsed;
-use crate::held::PLACES;
-use crate::held::TEXT;
-use crate::held::put;
-use crate::input::Input;
-use crate::input::TURNS;
-use crate::input::next_line;
-use crate::input::next_text;
-use crate::lines::Line;
-use crate::lines::MOST;
-use crate::lines::say;
-use crate::parts::least;
-use crate::setting::reset;
-use crate::setting::set_or_show;
+use script::commands::Command;
+use script::commands::known;
+use script::commands::parsed;
+use script::held::PLACES;
+use script::held::TEXT;
+use script::held::put;
+use script::input::Input;
+use script::input::TURNS;
+use script::input::next_line;
+use script::input::next_text;
+use script::lines::Line;
+use script::lines::MOST;
+use script::lines::say;
+use script::parts::least;
+use script::setting::reset;
+use script::setting::set_or_show;
 
 // The most bytes of a text that are kept.
 const TEXT_BYTES: usize = 16500;

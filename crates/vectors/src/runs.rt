@@ -1,15 +1,15 @@
 // The run that is held, taken out of its five arrays and put back into them.
-use crate::held::COLUMN;
-use crate::held::LEN;
-use crate::held::LOG;
-use crate::held::NOW;
-use crate::held::START;
-use crate::held::load_bytes;
-use crate::held::load_words;
-use crate::held::save_bytes;
-use crate::held::save_words;
-use crate::held::value;
 use ledger::Run;
+use script::held::COLUMN;
+use script::held::LEN;
+use script::held::LOG;
+use script::held::NOW;
+use script::held::START;
+use script::held::load_bytes;
+use script::held::load_words;
+use script::held::save_bytes;
+use script::held::save_words;
+use script::held::value;
 
 // The run of the five arrays.
 pub fn run_held(held: &[u32]) -> Run {

@@ -1,0 +1,139 @@
+// The commands that set and show what the program holds.
+use crate::commands::Command;
+use crate::held::COLUMN;
+use crate::held::COSTS;
+use crate::held::COUNTS;
+use crate::held::FACTS;
+use crate::held::LENT;
+use crate::held::OUT;
+use crate::held::SECOND;
+use crate::held::SHARES;
+use crate::held::STATE;
+use crate::held::of_bytes;
+use crate::held::places;
+use crate::held::put;
+use crate::held::say_place;
+use crate::held::value;
+use crate::lines::Line;
+use tables::Counts;
+
+// The highest byte.
+const BYTE: u32 = 255;
+
+// Every place 0.
+fn clear(held: &mut [u32]) {
+    let mut i = 0;
+    while i < held.len() {
+        held[i] = 0;
+        i += 1;
+    }
+}
+
+// All as it is before the first line.
+pub fn reset(held: &mut [u32]) {
+    clear(held);
+    put(held, LENT, FACTS as usize, 1624);
+    put(held, LENT, COSTS as usize, 64);
+    put(held, LENT, SHARES as usize, 512);
+    put(held, LENT, OUT as usize, 4096);
+    put(held, LENT, STATE as usize, 8);
+}
+
+// Puts a value where the array is one of the script's and has such places.
+fn set_place(held: &mut [u32], k: u32, i: usize, x: u32) {
+    if COLUMN < k {
+        return;
+    }
+    if of_bytes(k) {
+        if BYTE < x {
+            return;
+        }
+    }
+    put(held, k, i, x)
+}
+
+// Values at places side by side.
+fn set_some(held: &mut [u32], command: Command) {
+    let k = command.value(0);
+    let from = command.value(1) as usize;
+    let n = command.count;
+    let mut j = 2;
+    while j < n {
+        set_place(
+            held,
+            k,
+            std::num::wrapping_add_usize(from, j - 2),
+            command.value(j),
+        );
+        j += 1;
+    }
+}
+
+// A value at every place.
+fn set_all(held: &mut [u32], k: u32, x: u32) {
+    let n = places(k);
+    let mut i = 0;
+    while i < n {
+        set_place(held, k, i, x);
+        i += 1;
+    }
+}
+
+// How many places of an array calls are lent.
+fn set_lent(held: &mut [u32], k: u32, n: u32) {
+    if SECOND < k {
+        return;
+    }
+    if (n as usize) <= places(k) {
+        put(held, LENT, k as usize, n)
+    }
+}
+
+// The counts of variables, operators and maps.
+pub fn set_counts(held: &mut [u32], vars: u32, ops: u32, maps: u32) {
+    put(held, COUNTS, 0, vars);
+    put(held, COUNTS, 1, ops);
+    put(held, COUNTS, 2, maps);
+}
+
+// The counts that are held.
+pub fn counts_held(held: &[u32]) -> Counts {
+    Counts {
+        vars: value(held, COUNTS, 0),
+        ops: value(held, COUNTS, 1),
+        maps: value(held, COUNTS, 2),
+    }
+}
+
+// A place that is there is printed.
+fn show_place(held: &[u32], k: u32, i: usize) {
+    if COLUMN < k {
+        return;
+    }
+    if i < places(k) {
+        say_place(k, i, value(held, k, i))
+    }
+}
+
+// A word and the counts.
+pub fn say_counts(held: &[u32], w: &[u8]) {
+    let line = Line::empty().word(w).number(value(held, COUNTS, 0) as u64);
+    let more = line.number(value(held, COUNTS, 1) as u64);
+    more.number(value(held, COUNTS, 2) as u64).say()
+}
+
+// One command that sets or shows.
+pub fn set_or_show(held: &mut [u32], command: Command) {
+    let a = command.value(0);
+    let b = command.value(1);
+    let letter = command.letter;
+    match letter {
+        b'z' => reset(held),
+        b'n' => set_counts(held, a, b, command.value(2)),
+        b'l' => set_lent(held, a, b),
+        b's' => set_some(held, command),
+        b'e' => set_all(held, a, b),
+        b'p' => show_place(held, a, b as usize),
+        _ => say_counts(held, b"counts"),
+    }
+}
