@@ -69,9 +69,11 @@ fn output(words: &[&str]) -> Option<Vec<u8>> {
 fn main() {
     let words: Vec<String> = std::env::args().skip(1).collect();
     let words: Vec<&str> = words.iter().map(String::as_str).collect();
-    let Some(output) = output(&words) else {
-        eprint!("{}", USAGE);
-        std::process::exit(2);
-    };
-    std::io::stdout().write_all(&output).expect("standard output can be written");
+    match output(&words) {
+        Some(output) => std::io::stdout().write_all(&output).expect("standard output can be written"),
+        None => {
+            eprint!("{}", USAGE);
+            std::process::exit(2);
+        }
+    }
 }

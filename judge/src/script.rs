@@ -115,7 +115,7 @@ impl Bench {
         if let Some((b't', [length])) = command.as_ref().map(|(letter, numbers)| (*letter, &numbers[..])) {
             return self.load(*length as usize, after);
         }
-        let known = command.is_some_and(|(letter, numbers)| self.set(letter, &numbers) || self.call(letter, &numbers));
+        let known = command.map_or(false, |(letter, numbers)| self.set(letter, &numbers) || self.call(letter, &numbers));
         if !known {
             self.print("bad");
         }
@@ -159,10 +159,10 @@ impl Bench {
 
     /// Places beyond the array, and values that a place can't hold, are ignored.
     fn write(&mut self, k: usize, place: usize, values: &[u32]) {
-        let Some(array) = self.arrays.get_mut(k) else { return };
+        let places = self.arrays.get(k).map_or(0, Vec::len);
         for (i, value) in values.iter().enumerate() {
-            if place + i < array.len() && *value <= ARRAYS[k].3 {
-                array[place + i] = *value;
+            if place + i < places && *value <= ARRAYS[k].3 {
+                self.arrays[k][place + i] = *value;
             }
         }
     }
@@ -215,7 +215,10 @@ impl Bench {
     /// The desk's entries; false if it is none of them.
     fn call(&mut self, letter: u8, numbers: &[u32]) -> bool {
         let before = self.arrays.clone();
-        let Some(answer) = self.answer(letter, numbers) else { return false };
+        let answer = match self.answer(letter, numbers) {
+            Some(answer) => answer,
+            None => return false,
+        };
         self.print(&answer.to_string());
         for (k, old) in before.iter().enumerate() {
             self.print_changes(k, old);

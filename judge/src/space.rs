@@ -78,8 +78,9 @@ pub fn view_by_classes(task: &Task, m: usize) -> View {
     let sizes = class_counts(task, m);
     let map = &task.maps[m];
     let class = |v: usize, fact: Option<usize>| fact.map(|value| map[v][value]);
-    let meets =
-        |facts: &Vec<Option<usize>>, places: &[usize]| (0..places.len()).all(|v| class(v, facts[v]).is_none_or(|class| class == places[v]));
+    let meets = |facts: &Vec<Option<usize>>, places: &[usize]| {
+        (0..places.len()).all(|v| class(v, facts[v]).map_or(true, |class| class == places[v]))
+    };
     let mut goals = Vec::new();
     let mut steps = Vec::new();
     for from in 0..abstract_states(task, m) {
@@ -97,10 +98,9 @@ pub fn view_by_classes(task: &Task, m: usize) -> View {
 fn sweep(view: &View, shares: &[u64], before: &[Option<u64>]) -> Vec<Option<u64>> {
     let mut least = before.to_vec();
     for (from, o, to) in &view.steps {
-        let Some(rest) = before[*to] else { continue };
-        let cost = shares[*o] + rest;
-        if least[*from].is_none_or(|best| cost < best) {
-            least[*from] = Some(cost);
+        if let Some(rest) = before[*to] {
+            let cost = shares[*o] + rest;
+            least[*from] = Some(least[*from].map_or(cost, |best| best.min(cost)));
         }
     }
     least

@@ -50,15 +50,16 @@ impl Reader<'_> {
 
     /// The bytes that must stand here. A line end counts to the line that it ends.
     fn expect(&mut self, bytes: &[u8]) -> Result<(), Fault> {
-        let Some((first, rest)) = bytes.split_first() else { return Ok(()) };
-        if self.next() != Some(*first) {
-            return self.off_form();
+        for byte in bytes {
+            if self.next() != Some(*byte) {
+                return self.off_form();
+            }
+            self.at += 1;
+            if *byte == b'\n' {
+                self.line += 1;
+            }
         }
-        self.at += 1;
-        if *first == b'\n' {
-            self.line += 1;
-        }
-        self.expect(rest)
+        Ok(())
     }
 
     /// The byte is passed over if it stands here.
@@ -71,7 +72,7 @@ impl Reader<'_> {
     /// A digit run, first its form and then its range.
     fn number(&mut self, least: u64, most: u64) -> Result<u64, Fault> {
         let from = self.at;
-        while self.next().is_some_and(|byte| byte.is_ascii_digit()) {
+        while self.next().map_or(false, |byte| byte.is_ascii_digit()) {
             self.at += 1;
         }
         let digits = &self.text[from..self.at];
@@ -112,7 +113,7 @@ impl Reader<'_> {
     /// Range and order of the variable are judged before its colon is read.
     fn more_facts(&mut self, dom: &[usize], before: Option<usize>, facts: &mut Facts) -> Result<(), Fault> {
         let var = self.index(dom.len())?;
-        if before.is_some_and(|before| var <= before) {
+        if before.map_or(false, |before| var <= before) {
             return refuse(4, self.line);
         }
         self.expect(b":")?;

@@ -1,5 +1,5 @@
 -- Computed tests of what a case claims, over the tables of an accepted text. Assumes nothing.
-use mathlib.Core.Path.{_≡_, refl, sym, ap, ap₂, _∙_}
+use mathlib.Core.Path.{_≡_, refl, sym, ap₂, _∙_}
 use mathlib.Core.List.{List, [], _∷_}
 use Prim.Native.Nat.{ℕ, zero, suc, _<_}
 use native.Mathlib.Nat.{le-refl}
@@ -7,7 +7,6 @@ use native.Mathlib.Omega.{arith}
 use lib.ListN.{length, getD}
 use Rattle.graph.specs.Cost.{Cost, none}
 use Rattle.graph.specs.Graph.{Graph, Closed}
-use Rattle.graph.specs.Least.{least, Rounds}
 use Rattle.meaning.specs.Views.{α, abstractStates, viewGraph}
 use Rattle.meaning.specs.Split.{view, Valid}
 use Rattle.meaning.specs.Bound.{distance, join, summed, away, bound}
@@ -18,7 +17,7 @@ use Rattle.tables.specs.Task.{sasOf, taskOf, stateOf}
 use Rattle.sequences.specs.Judging.{judgedOf}
 use Rattle.ledger.specs.declared.Run.{Run}
 use Rattle.ledger.specs.Ledger.{offered, begun}
-use Rattle.cases.specs.Told.{Told, ofSequence, ofOffer, Offering, Claim, distances, boundAt, judging, run, EachAt, Tells, Holds}
+use Rattle.cases.specs.Told.{ofSequence, ofOffer, Offering, Claim, distances, boundAt, judging, run, EachAt, Tells, Holds}
 use Rattle.cases.proofs.Tests.{Test, lt?, eq?, same?, told?, list?, _and_, all, into, always, each?}
 use Rattle.cases.proofs.Rounds.{tableOf, table-is, rounds?}
 

@@ -1,14 +1,8 @@
 -- THE STARRED CASES HOLD, from text to answers: every row of the table by one computation. Assumes nothing.
-use mathlib.Core.Path.{_≡_, refl, subst, sym}
+use mathlib.Core.Path.{_≡_, refl}
 use mathlib.Core.List.{List, [], _∷_}
 use Prim.Native.Nat.{ℕ}
-use Prim.Native.String.{String}
-use mathlib.Core.Bool.{Bool, true, false, false≢true}
-use Rattle.refusals.specs.Listed.{numberOf, placeOf}
-use Rattle.refusals.specs.declared.Refusal.{Refusal}
-use Rattle.meaning.specs.Split.{Valid}
-use Rattle.tables.specs.Layout.{Tables}
-use Rattle.tables.specs.Task.{taskOf}
+use mathlib.Core.Bool.{true, false, false≢true}
 use Rattle.tables.specs.Steps.{rowHolds, mayRun, meetsGoal, filled, stepped}
 use Rattle.tables.specs.Scan.{each, factsFault, operatorFault, classesFault, mapFault, sharesFault, splitFault, taskFault, roomy, tablesFault, stateFault}
 use Rattle.text.specs.Fields.{pick, isDigit, bytes, shareTotal, overLine}
@@ -64,7 +58,7 @@ use Rattle.text.proofs.SpellAccepted.{accepted-spells}
 use Rattle.sequences.specs.Stepping.{steps, inputFault, stepOf}
 use Rattle.sequences.specs.Judging.{walked, limited, judgedOf}
 use Rattle.ledger.specs.Ledger.{rest, gain, booked, fresh, advanced, canRun, replayed, given, startAt, startIn, sameTo, sameStates, sameSteps, sameRun, isRun, oldStep, nextStep, judged, answered, offered, startFrom, started, begun}
-use Rattle.cases.specs.Told.{Told, ofText, Claim, EachAt, Holds, Case, AllHold, Right}
+use Rattle.cases.specs.Told.{ofText, Claim, EachAt, Holds, Case, AllHold, Right}
 use Rattle.cases.specs.Cases.{table}
 use Rattle.cases.proofs.Tests.{Test, told?, _and_, into, always, each?}
 use Rattle.cases.proofs.Rounds.{tableOf}

@@ -4,10 +4,10 @@ use mathlib.Core.Bool.{Bool, true, false, _&&_, _||_, not, false≢true}
 use mathlib.Core.Logic.{_⊎_, inl, inr, ⊎-elim}
 use mathlib.Core.List.{List, [], _∷_}
 use Prim.Native.Nat.{ℕ, zero, suc, _-_, _≤_, _<_}
-use native.Mathlib.Nat.{le-refl, not-suc-le-zero}
+use native.Mathlib.Nat.{le-refl}
 use native.Mathlib.Omega.{arith}
 use lib.Dec.{eqb, ltb, leb}
-use borrow.Author.Tests.{ltb-true, leb-true, eqb-true, eqb-false, not-true, ltb-false}
+use borrow.Author.Tests.{ltb-true, leb-true, eqb-true, eqb-false, not-true}
 use Rattle.graph.specs.Cost.{Cost, none, fin}
 use Rattle.meaning.specs.Views.{every}
 use Rattle.meaning.proofs.Facts.{every-true, and-left, and-right}

@@ -2,7 +2,7 @@
 use mathlib.Core.List.{List, [], _∷_}
 use Prim.Native.String.{String, _++_}
 use Rattle.graph.specs.Cost.{none, fin}
-use Rattle.cases.specs.Told.{Told, yes!, costs, again, no!, Offering, distances, boundAt, judging, run, Case}
+use Rattle.cases.specs.Told.{yes!, costs, again, no!, distances, boundAt, judging, run, Case}
 
 -- case A up to its operators' costs, its operators, its maps
 abbrev pub headA : String

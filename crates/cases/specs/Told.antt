@@ -3,7 +3,7 @@ use mathlib.Core.Path.{_≡_}
 use mathlib.Core.List.{List, [], _∷_}
 use Prim.Native.Nat.{ℕ, suc}
 use Prim.Native.String.{String}
-use lib.ListN.{length, take, drop}
+use lib.ListN.{length}
 use Rattle.graph.specs.Cost.{Cost}
 use Rattle.graph.specs.Least.{Rounds}
 use Rattle.refusals.specs.Listed.{numberOf, placeOf}

@@ -7,7 +7,6 @@ use Prim.Native.Nat.{ℕ}
 use lib.Dec.{ltb}
 use lib.ListN.{length, set}
 use Rattle.refusals.specs.declared.Refusal.the-variants.{TableTooShort}
-use Rattle.tables.specs.declared.Counts.{Counts}
 use Rattle.tables.specs.Layout.{Tables}
 use Rattle.text.specs.declared.Reading.{Reading}
 use Rattle.text.specs.declared.Reading.the-variants as reading

@@ -2,12 +2,12 @@
 use mathlib.Core.Path.{_≡_, sym, subst}
 use mathlib.Core.Logic.{⊎-elim}
 use mathlib.Core.List.{List, [], _∷_}
-use Prim.Native.Nat.{ℕ, zero, suc, _+_, _*_, _-_, _≤_, _<_, max, zero-le}
-use native.Mathlib.Nat.{le-refl, le-of-suc-le-suc, not-suc-le-zero, eq-or-lt-of-le, suc-mul, mul-le-mul-right}
+use Prim.Native.Nat.{ℕ, zero, suc, _*_, _-_, _≤_, _<_, zero-le}
+use native.Mathlib.Nat.{le-of-suc-le-suc, not-suc-le-zero, eq-or-lt-of-le, suc-mul, mul-le-mul-right}
 use native.Mathlib.Omega.{arith}
 use lib.ListN.{length}
 use Rattle.graph.specs.Cost.{fin}
-use Rattle.graph.specs.Graph.{Graph, Closed, Onward, Leads, total, IsLeast, AnyLength, greatest}
+use Rattle.graph.specs.Graph.{Graph, Closed, Leads, total, IsLeast, AnyLength, greatest}
 use Rattle.graph.specs.Least.{least}
 use Rattle.graph.proofs.Steps.{onward-elim}
 use Rattle.graph.proofs.Leasts.{least-is-least, least-unique}

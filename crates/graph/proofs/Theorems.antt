@@ -2,13 +2,13 @@
 -- They hold for any number of states and operators and any costs. Assumes nothing.
 use mathlib.Core.Path.{_≡_}
 use mathlib.Core.Logic.{_↔_}
-use mathlib.Core.List.{List, [], _∷_}
+use mathlib.Core.List.{List, _∷_}
 use Prim.Native.Nat.{ℕ, suc, _+_, _*_, _-_, _≤_, _<_}
 use native.Mathlib.Omega.{arith}
 use lib.ListN.{length}
 use Rattle.graph.specs.Cost.{Cost, none, fin, _⊑_}
-use Rattle.graph.specs.Graph.{to, Graph, Closed, Leads, total, IsLeast, AtMost, AnyLength, IsDistance, greatest}
-use Rattle.graph.specs.Least.{least, Unchanged, Rounds}
+use Rattle.graph.specs.Graph.{to, Graph, Closed, Leads, total, IsLeast, AtMost, IsDistance, greatest}
+use Rattle.graph.specs.Least.{least, Rounds}
 use Rattle.graph.specs.Certificate.{Certificate, scaled}
 use Rattle.graph.proofs.Costs.{⊑-mono, ⊑-fin}
 use Rattle.graph.proofs.Steps.{onward-intro}

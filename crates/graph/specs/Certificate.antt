@@ -2,7 +2,7 @@
 use mathlib.Core.Path.{_≡_}
 use mathlib.Core.Bool.{true}
 use mathlib.Core.List.{List}
-use Prim.Native.Nat.{ℕ, suc, _+_, _*_, _≤_, _<_}
+use Prim.Native.Nat.{ℕ, _+_, _*_, _≤_, _<_}
 use Rattle.graph.specs.Cost.{Cost, fin, _⊑_}
 use Rattle.graph.specs.Graph.{Graph, Leads, total}
 use Rattle.graph.specs.Least.{via}

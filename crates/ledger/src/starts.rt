@@ -4,9 +4,9 @@ ghost use Prim.Native.Nat.{_≤_};
 ghost use Rattle.tables.specs.Task.{tables};
 ghost use Rattle.tables.specs.Scan.{_then_, tablesFault, stateFault};
 ghost use Rattle.ledger.specs.Ledger.{startAt, startIn, startFrom};
+use sequences::stepping::copy;
 use tables::Counts;
 use tables::readers::DOM_ROW;
-use tables::readers::byte_at;
 use tables::readers::row_at;
 use tables::scan::Found;
 use tables::scan::state_fault;
@@ -41,14 +41,7 @@ pub fn start_from(c: Counts, s: &[u8]) -> [u8; 8]
     requires { ⌜ c .vars ≤ 8 ⌝ }
     ensures { λ r. ⌜ r ≡ startFrom c (now (s .entry)) ⌝ }
 {
-    let vars = c.vars as usize;
-    let mut t = [0u8; 8];
-    let mut v: usize = 0;
-    while v < vars {
-        t[v] = byte_at(s, v);
-        v += 1;
-    }
-    t
+    copy(c.vars, s)
 }
 
 // The first fault of a start: of the tables, then of the lent state.

@@ -1,16 +1,16 @@
 -- What holds of every valid task and split, every state and every sequence of any length, each with its statement alone;
 -- the roads are the files that this one uses. Assumes nothing.
-use mathlib.Core.Path.{_≡_, sym, _∙_}
+use mathlib.Core.Path.{_≡_}
 use mathlib.Core.Logic.{_↔_}
 use mathlib.Core.Bool.{true}
 use mathlib.Core.List.{List}
-use Prim.Native.Nat.{ℕ, suc, _+_, _≤_, _<_}
+use Prim.Native.Nat.{ℕ, _+_, _≤_, _<_}
 use Rattle.graph.specs.Cost.{Cost, none, fin, _⊑_}
 use Rattle.graph.specs.Graph.{to, Leads}
 use Rattle.graph.specs.Least.{least, Rounds}
 use Rattle.graph.proofs.Theorems as graphs
 use Rattle.meaning.specs.Numbering.{size, number, digit, Positive, Digits}
-use Rattle.meaning.specs.Sas.{State, Sas, IsState, MayRun, Transition, after, Runs, Passes, paid, Proper}
+use Rattle.meaning.specs.Sas.{State, Sas, IsState, MayRun, Transition, after, Passes, paid, Proper}
 use Rattle.meaning.specs.Views.{α, abstractStates, AbstractStep, AbstractGoal, AbstractlyLeads, IsDistanceAt, space, viewGraph}
 use Rattle.meaning.specs.Split.{Task, sum, view, Valid}
 use Rattle.meaning.specs.Bound.{distance, away, summed, bound}

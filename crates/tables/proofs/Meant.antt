@@ -6,10 +6,9 @@ use native.Mathlib.Omega.{arith}
 use lib.ListN.{length, getD}
 use Rattle.meaning.specs.Sas.{after}
 use Rattle.meaning.specs.Views.{complies}
-use Rattle.tables.specs.declared.Counts.{Counts}
 use Rattle.tables.specs.Layout.{Tables, effRow}
 use Rattle.tables.specs.Task.{sasOf, stateOf}
-use Rattle.tables.specs.Steps.{rowHolds, mayRun, meetsGoal, filled, valueAfter, stepped}
+use Rattle.tables.specs.Steps.{rowHolds, mayRun, meetsGoal, valueAfter, stepped}
 use Rattle.tables.proofs.Laws.{filled-at, filled-later, length-filled}
 
 module _ (t : Tables) (s : List ℕ) where

@@ -2,7 +2,7 @@
 ghost use mathlib.Core.Path.{_≡_};
 ghost use Prim.Native.Nat.{_<_};
 ghost use lib.ListN.{getD};
-ghost use Rattle.tables.specs.Layout.{rowAt, domRow, initRow, goalRow, preRow, effRow, classRow, costAt, shareAt};
+ghost use Rattle.tables.specs.Layout.{rowAt, preRow, effRow, classRow, costAt, shareAt};
 use meaning::OpNo;
 
 // The row of the variables' numbers of values, of the initial state, of the goal.

@@ -15,7 +15,8 @@ use Rattle.text.specs.Fields.{pick, isDigit, comma, dash, colon}
 use Rattle.text.specs.Grammar.{Verdict, refused, Next, Part, _▸_, nothing, ask, keep, demand, lit, choice, within, number, putFact, facts, factList}
 use Rattle.text.specs.Machine.{mk, up, put, dom, withDigit, leasts, limit, noted, fault, stored, mark, listEnd, after, dashHere, fresh, dashed, atNumber, live, step, refusalOf}
 use Rattle.text.proofs.BridgeReading.{tablesOf, reading, Bytes, byte, cut-short, moves, marked}
-use Rattle.text.proofs.BridgeNumbers.{Stop, nil, other, beginsDash, pick-same, within-both, faulty, sound-end, sound-byte, number-ok}
+use Rattle.text.proofs.Runs.{within-both, Stop, nil, other}
+use Rattle.text.proofs.BridgeNumbers.{beginsDash, pick-same, faulty, sound-end, sound-byte, number-ok}
 use Rattle.text.proofs.BridgeArea.{fact-kept, dom-of}
 use Rattle.text.proofs.BridgeRows.{num, then-mark, fault-plain, no-fault, Fits, Known, known-put}
 

@@ -54,7 +54,8 @@ use Rattle.text.specs.Machine.{
   dashHere,
 }
 use Rattle.text.proofs.BridgeReading.{tablesOf, reading, Bytes, kw, spelled, key-ok}
-use Rattle.text.proofs.BridgeNumbers.{beginsDash, pick-same, within-both, number-ok}
+use Rattle.text.proofs.BridgeNumbers.{beginsDash, pick-same, number-ok}
+use Rattle.text.proofs.Runs.{within-both}
 use Rattle.text.proofs.BridgeArea.{fact-kept, dom-of}
 use Rattle.text.proofs.BridgeRows.{num, then-mark, no-fault, Fits, Known, known-put, known-dom, row-ok}
 

@@ -42,7 +42,8 @@ use Rattle.text.specs.Machine.{
 }
 use Rattle.text.proofs.Masks.{maskOf, mask-none, mask-class, mask-width, mask-gapless}
 use Rattle.text.proofs.BridgeReading.{tablesOf, reading, Bytes}
-use Rattle.text.proofs.BridgeNumbers.{Stop, within-both, run-of, faulty}
+use Rattle.text.proofs.BridgeNumbers.{run-of, faulty}
+use Rattle.text.proofs.Runs.{within-both, Stop}
 use Rattle.text.proofs.BridgeArea.{fact-kept, dom-of, put-getD}
 use Rattle.text.proofs.BridgeRows.{num, then-mark, judged-in, Fits, Known, known-put}
 use Rattle.text.proofs.BridgeLines.{eol, bare}

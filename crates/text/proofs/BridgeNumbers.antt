@@ -35,7 +35,23 @@ use Rattle.text.specs.Machine.{
   ended,
   refusalOf,
 }
-use Rattle.text.proofs.BridgeReading.{told, reading, Bytes, byte, bytes-drop, both-true, stops, stops-2, moves, cut-short}
+use Rattle.text.proofs.Runs.{
+  within-both,
+  digit-both,
+  run-hit,
+  run-miss,
+  Stop,
+  nil,
+  other,
+  stop-none,
+  stop-run,
+  formed-nil,
+  formed-off,
+  formed-zero,
+  formed-lead,
+  formed-other,
+}
+use Rattle.text.proofs.BridgeReading.{told, reading, Bytes, byte, bytes-drop, stops, stops-2, moves, cut-short}
 
 -- ---- a run's value, capped
 value-min : (t : List ℕ) (v : ℕ) → min (value (min v 4294967295) t) 4294967295 ≡ min (value v t) 4294967295
@@ -87,64 +103,6 @@ within-cap v lo lim a b = rw (leb-cap v lo a, ltb-cap v lim b)
 
 within-low : (v lo lim : ℕ) → lim ≤ 4294967295 → v < lim → min v 4294967295 ≡ v
 within-low v lo lim a h = omega arith
-
-pub within-both : (v lo lim : ℕ) → within v lo lim ≡ true → (lo ≤ v) × (v < lim)
-unfolding within
-within-both v lo lim e =
-    let p = both-true (leb lo v) (ltb v lim) e in
-    (leb-true lo v (p .0), ltb-true v lim (p .1))
-
--- ---- the digits that a text begins with
-pub data Stop : List ℕ → Type 0 where
-  nil : Stop []
-  other : {b : ℕ} {t : List ℕ} → isDigit b ≡ false → Stop (b ∷ t)
-
-run-hit : (b : ℕ) (t : List ℕ) → isDigit b ≡ true → runLen (b ∷ t) ≡ suc (runLen t)
-unfolding runLen pick
-run-hit b t e = simp e
-
-run-miss : (b : ℕ) (t : List ℕ) → isDigit b ≡ false → runLen (b ∷ t) ≡ 0
-unfolding runLen pick
-run-miss b t e = simp e
-
-stop-run : (t : List ℕ) → Stop (drop (runLen t) t)
-unfolding runLen
-stop-run [] = nil
-stop-run (b ∷ t) = split (isDigit b) refl (stop-run t)
-  where
-    split : (q : Bool) → isDigit b ≡ q → Stop (drop (runLen t) t) → Stop (drop (runLen (b ∷ t)) (b ∷ t))
-    split true q r = rw (run-hit b t q) r
-    split false q r = rw (run-miss b t q) (other q)
-
-stop-none : {t : List ℕ} → Stop t → runLen t ≡ 0
-unfolding runLen
-stop-none nil = refl
-stop-none (other {b = b} {t = t} e) = run-miss b t e
-
-digit-low : (b : ℕ) → isDigit b ≡ true → 48 ≤ b
-unfolding isDigit
-digit-low b e = leb-true 48 b (both-true (leb 48 b) (leb b 57) e .0)
-
-formed-nil : formed [] ≡ false
-unfolding formed runLen pick
-formed-nil = refl
-
-formed-off : (b : ℕ) (t : List ℕ) → isDigit b ≡ false → formed (b ∷ t) ≡ false
-unfolding formed pick
-formed-off b t e = rw (run-miss b t e)
-
-formed-zero : (b : ℕ) (t : List ℕ) → isDigit b ≡ true → b ≡ 48 → runLen t ≡ 0 → formed (b ∷ t) ≡ true
-unfolding formed pick
-formed-zero b t e z n = rw (run-hit b t e, n) (simp (eq-eqb b 48 z))
-
-formed-lead : (b : ℕ) (t : List ℕ) (n : ℕ) → isDigit b ≡ true → b ≡ 48 → runLen t ≡ suc n → formed (b ∷ t) ≡ false
-unfolding formed pick
-formed-lead b t n e z q =
-    rw (run-hit b t e, q) (simp (eq-eqb b 48 z, ne-eqb (suc (suc n)) 0 (λ o. omega arith), ne-eqb (suc (suc n)) 1 (λ o. omega arith)))
-
-formed-other : (b : ℕ) (t : List ℕ) → isDigit b ≡ true → (b ≡ 48 → ⊥) → formed (b ∷ t) ≡ true
-unfolding formed pick
-formed-other b t e z = rw (run-hit b t e) (simp (ne-eqb b 48 z, ne-eqb (suc (runLen t)) 0 (λ o. omega arith)))
 
 -- ---- the grammar's number, by the run's length
 module _ (lo lim : ℕ) (p : ℕ → Part) (l : ℕ) (T : Tables) (k : Next) where
@@ -304,7 +262,7 @@ module _ (c : Ctrl) (w : List ℕ) (h : c .field ≡ 15 → ⊥) (low : getD lea
           ∙ zero-then b t q z a
       lead false e q =
           let z : b ≡ 48 → ⊥ = eqb-false b 48 e in
-          let g : 48 ≤ b = digit-low b q in
+          let g : 48 ≤ b = digit-both b q .0 in
           state q
           ∙ ap (λ (x : ℕ). reading (withDigit c x (more 0 (b - 48))) w t) (run-two 0 (b - 48) (λ o. z (omega arith)))
           ∙ run-on c w t (more 0 (b - 48)) (more-low 0 (b - 48))

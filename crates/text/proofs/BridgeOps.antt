@@ -51,7 +51,7 @@ use Rattle.text.specs.Machine.{
   dashed,
 }
 use Rattle.text.proofs.BridgeReading.{tablesOf, reading, Bytes, kw, spelled, key-ok}
-use Rattle.text.proofs.BridgeNumbers.{within-both}
+use Rattle.text.proofs.Runs.{within-both}
 use Rattle.text.proofs.BridgeArea.{cost-kept}
 use Rattle.text.proofs.BridgeRows.{num, then-mark, no-fault, Fits, Known, known-put3}
 use Rattle.text.proofs.BridgeLines.{eol, bare, single-ok}

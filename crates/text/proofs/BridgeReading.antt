@@ -34,6 +34,7 @@ use Rattle.text.specs.Machine.{
   over,
   countsOf,
 }
+use Rattle.text.proofs.Runs.{both-true}
 
 -- the tables that a work area stands for
 unfoldable pub tablesOf : Counts → List ℕ → Tables
@@ -62,12 +63,7 @@ bytes-drop (suc n) (byte h a) = bytes-drop n a
 never {ℓ} : {A : Type ℓ} → false ≡ true → A
 never e = let z : _≡_ {A = ℕ} 0 1 = cc in let n : ⊥ = omega arith in absurd n
 
--- two tests at once
-pub both-true : (p q : Bool) → pick p q false ≡ true → (p ≡ true) × (q ≡ true)
-unfolding pick
-both-true true q e = (refl, e)
-both-true false q e = never e
-
+-- two tests, the second where the first fails
 then-true : (p q : Bool) → pick p false q ≡ true → (p ≡ false) × (q ≡ true)
 unfolding pick
 then-true true q e = never e

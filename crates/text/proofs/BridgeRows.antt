@@ -14,7 +14,8 @@ use Rattle.text.specs.Fields.{pick, comma}
 use Rattle.text.specs.Grammar.{Next, _▸_, keep, lit, within, number, parted, row}
 use Rattle.text.specs.Machine.{put, put3, dom, withDigit, leasts, limit, judged, noted, lastClass, before, fault, stored, mark, after}
 use Rattle.text.proofs.BridgeReading.{tablesOf, reading, Bytes, byte, marked}
-use Rattle.text.proofs.BridgeNumbers.{Stop, nil, other, beginsDash, sound-end, sound-byte, in-range, run-of, number-ok}
+use Rattle.text.proofs.Runs.{Stop, nil, other}
+use Rattle.text.proofs.BridgeNumbers.{beginsDash, sound-end, sound-byte, in-range, run-of, number-ok}
 use Rattle.text.proofs.BridgeArea.{put-getD, put-same, put-length, put3-length, put3-getD}
 
 -- a number is due: of field f in line l and row r, for variable v, at least n, the i-th, with the classes seen and the abstract states so far

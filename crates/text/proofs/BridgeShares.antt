@@ -53,7 +53,7 @@ use Rattle.text.specs.Machine.{
   step,
 }
 use Rattle.text.proofs.BridgeReading.{tablesOf, reading, Bytes, byte, cut-short, moves, marked, kw, spelled, key-ok}
-use Rattle.text.proofs.BridgeNumbers.{within-both}
+use Rattle.text.proofs.Runs.{within-both}
 use Rattle.text.proofs.BridgeArea.{share-kept}
 use Rattle.text.proofs.BridgeRows.{num, then-mark, Fits, Known, known-put3, row-ok}
 use Rattle.text.proofs.BridgeLines.{eol, bare, single-ok}

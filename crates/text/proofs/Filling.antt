@@ -5,20 +5,8 @@ use native.Mathlib.Omega.{arith}
 use native.Mathlib.Numerals.{add-one}
 use mathlib.Core.Path.{_≡_, refl, sym, ap, _∙_}
 use mathlib.Core.Logic.{_⊎_, inl, inr}
-use mathlib.Core.List.{List, [], _∷_, _++_}
-use lib.ListN.{
-  length,
-  getD,
-  take,
-  set,
-  replicate,
-  length-append,
-  length-replicate,
-  length-set,
-  getD-replicate,
-  List·getD-append,
-  List·getD-eq-default,
-}
+use mathlib.Core.List.{List, _++_}
+use lib.ListN.{length, getD, set, replicate, length-append, length-replicate, getD-replicate, List·getD-append, List·getD-eq-default}
 use lib.Seq.{ext-getD, getD-set-same, getD-set-other, getD-append-add}
 use Rattle.text.specs.Fields.{filled}
 use Rattle.text.specs.Machine.{get3, threes}

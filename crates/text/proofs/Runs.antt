@@ -15,15 +15,15 @@ pub clash : {A : Type 0} {b : Bool} → b ≡ true → b ≡ false → A
 clash p q = let z : _≡_ {A = ℕ} 0 1 = cc in absurd (let n : ⊥ = omega arith in n)
 
 -- two tests, one after the other
-both-hold : (p q : Bool) → pick p q false ≡ true → (p ≡ true) × (q ≡ true)
+pub both-true : (p q : Bool) → pick p q false ≡ true → (p ≡ true) × (q ≡ true)
 unfolding pick
-both-hold true q e = (refl, e)
-both-hold false q e = clash e refl
+both-true true q e = (refl, e)
+both-true false q e = clash e refl
 
 pub within-both : (v lo lim : ℕ) → within v lo lim ≡ true → (lo ≤ v) × (v < lim)
 unfolding within
 within-both v lo lim e =
-    let p = both-hold (leb lo v) (ltb v lim) e in
+    let p = both-true (leb lo v) (ltb v lim) e in
     (leb-true lo v (p .0), ltb-true v lim (p .1))
 
 -- ---- digits
@@ -35,7 +35,7 @@ is-digit b p q = simp (le-leb 48 b p, le-leb b 57 q)
 pub digit-both : (b : ℕ) → isDigit b ≡ true → (48 ≤ b) × (b ≤ 57)
 unfolding isDigit
 digit-both b e =
-    let p = both-hold (leb 48 b) (leb b 57) e in
+    let p = both-true (leb 48 b) (leb b 57) e in
     (leb-true 48 b (p .0), leb-true b 57 (p .1))
 
 -- ---- the run's length

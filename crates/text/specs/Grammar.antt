@@ -14,7 +14,6 @@ use Rattle.refusals.specs.declared.Refusal.the-variants.{
   SharesAboveCost,
   TooManyStates,
 }
-use Rattle.tables.specs.declared.Counts.{Counts}
 use Rattle.tables.specs.Layout.{
   Tables,
   factsRoom,

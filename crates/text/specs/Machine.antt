@@ -2,7 +2,7 @@
 -- A small control goes from byte to byte, beside a work area of bytes: the facts as in the lent table, then each cost and each share in 3 bytes.
 use Prim.Native.Nat.{ℕ, zero, suc, _+_, _-_, _*_, _/_, _%_, _^_, min}
 use mathlib.Core.List.{List, [], _∷_}
-use mathlib.Core.Bool.{Bool, true, false}
+use mathlib.Core.Bool.{Bool, false}
 use lib.ListN.{getD, set, take, replicate}
 use lib.Dec.{ltb, leb, eqb}
 use lib.Bits.{bitOr}
@@ -29,7 +29,6 @@ use Rattle.tables.specs.Layout.{
   sharePlace,
 }
 use Rattle.text.specs.declared.Ctrl.{Ctrl}
-use Rattle.text.specs.declared.Reading.{Reading}
 use Rattle.text.specs.declared.Reading.the-variants.{Accepted, Refused}
 use Rattle.text.specs.Fields.{
   pick,

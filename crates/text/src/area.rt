@@ -1,6 +1,6 @@
 // The work area: bytes, and numbers in 3 bytes. Every place may be asked for: past the end stands 0, and nothing is stored there.
 ghost use mathlib.Core.Path.{_≡_};
-ghost use Prim.Native.Nat.{ℕ, _+_, _<_};
+ghost use Prim.Native.Nat.{_+_, _<_};
 ghost use lib.ListN.{getD};
 ghost use Rattle.text.specs.Machine.{put, get3, put3, dom};
 

@@ -1,6 +1,6 @@
 // The controls that the machine goes on with.
 ghost use mathlib.Core.Path.{_≡_};
-ghost use Prim.Native.Nat.{ℕ, _+_, min};
+ghost use Prim.Native.Nat.{_+_};
 ghost use lib.Dec.{eqb};
 ghost use Rattle.text.specs.Fields.{pick};
 ghost use Rattle.text.specs.Machine.{

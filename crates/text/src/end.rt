@@ -1,6 +1,6 @@
 // What the end of the text says.
 ghost use mathlib.Core.Path.{_≡_};
-ghost use Prim.Native.Nat.{ℕ, _≤_, _<_, _*_, min};
+ghost use Prim.Native.Nat.{_≤_, _<_, min};
 ghost use lib.ListN.{length};
 ghost use Rattle.text.specs.Fields.{shareTotal, leaves};
 ghost use Rattle.text.specs.Machine.{mk, shareIn, over, ended, refusalOf, countsOf, done};

@@ -1,24 +1,8 @@
 // The fields of the text: keywords, ranges, what a number is to the control, and where it is kept.
 ghost use mathlib.Core.Path.{_≡_};
-ghost use Prim.Native.Nat.{ℕ, _+_, _*_};
+ghost use Prim.Native.Nat.{_+_, _*_};
 ghost use lib.ListN.{getD};
-ghost use Rattle.text.specs.Machine.{
-  keyByte,
-  leasts,
-  limits,
-  limit,
-  inRange,
-  judged,
-  noted,
-  lastClass,
-  lastVar,
-  classFault,
-  before,
-  fault,
-  stored,
-  kind,
-  put,
-};
+ghost use Rattle.text.specs.Machine.{keyByte, leasts, limits, limit, inRange, judged, noted, lastClass, lastVar, classFault, before, fault, stored, kind};
 use crate::Ctrl;
 use crate::area::byte_at;
 use crate::area::put_byte;

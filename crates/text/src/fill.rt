@@ -1,6 +1,6 @@
 // The lent tables of an accepted task: its numbers in their first places, and 0 in every place beyond.
 ghost use mathlib.Core.Path.{_≡_};
-ghost use Prim.Native.Nat.{ℕ, _≤_};
+ghost use Prim.Native.Nat.{_≤_};
 ghost use lib.ListN.{length, getD, take};
 ghost use Rattle.text.specs.Fields.{filled};
 ghost use Rattle.text.specs.Machine.{threes};

@@ -1,7 +1,7 @@
 // Where a task's numbers stand in the work area.
 ghost use mathlib.Core.Path.{_≡_};
-ghost use Prim.Native.Nat.{ℕ, _+_, _*_, _<_};
-ghost use Rattle.tables.specs.Layout.{initPlace, goalPlace, prePlace, effPlace, classPlace, sharePlace};
+ghost use Prim.Native.Nat.{_+_, _*_, _<_};
+ghost use Rattle.tables.specs.Layout.{initPlace, goalPlace, prePlace, effPlace, classPlace};
 ghost use Rattle.text.specs.Machine.{costByte, shareByte};
 use crate::area::wide;
 

@@ -13,7 +13,7 @@ use Rattle.graph.proofs.Theorems.{rounds-unique}
 use Rattle.meaning.specs.Sas.{State, IsState}
 use Rattle.meaning.specs.Views.{α, abstractStates, IsDistanceAt, viewGraph}
 use Rattle.meaning.specs.Split.{Task, view, Valid}
-use Rattle.meaning.specs.Bound.{distance, away, join, summed, bound}
+use Rattle.meaning.specs.Bound.{away, join, summed, bound}
 use Rattle.meaning.proofs.Induced.{α-below}
 use Rattle.meaning.proofs.Bounds.{view-onto}
 use Rattle.meaning.proofs.Theorems.{distance-is-least, distance-unique, round-holds-distances, rounds-at-most-states}

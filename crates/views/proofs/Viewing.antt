@@ -7,7 +7,7 @@ use lib.ListN.{getD}
 use Rattle.meaning.specs.Sas.{IsState}
 use Rattle.meaning.specs.Views.{seen, Onto, classTask, viewGraph}
 use Rattle.meaning.specs.Split.{countOf, view, Valid}
-use Rattle.meaning.specs.Bound.{distance, away}
+use Rattle.meaning.specs.Bound.{away}
 use Rattle.meaning.proofs.Induced.{seen-below, α-below}
 use Rattle.meaning.proofs.Distances.{round-distance}
 use Rattle.meaning.proofs.Sums.{sum-zero}

@@ -1,8 +1,7 @@
 -- `steps::state_after` meets its contract. Assumes nothing.
 use Prim.Native.Nat.{ℕ, _≤_, _-_}
-use mathlib.Core.Path.{_≡_, refl, sym, _∙_, ap, ap₂}
+use mathlib.Core.Path.{_≡_, refl, _∙_, ap, ap₂}
 use native.Mathlib.Omega.{arith}
-use lib.ListN.{getD}
 use borrow.Author.Needs.{needs}
 use Rattle.meaning.specs.Sas.{put}
 use Rattle.tables.specs.Steps.{filled, valueAfter, stepped}

@@ -1,0 +1,166 @@
+//! Carries out a script of the vectors (docs/VECTORS.md) through the library, so that it can be held to what the judge prints for it:
+//!
+//!     script < SCRIPT
+//!
+//! The lines are read by the judge's own reader of scripts; the entries behind it are the library's, with exactly the lengths that the script lends.
+#[path = "../src/ffi.rs"]
+mod ffi;
+#[path = "../../../judge/src/limits.rs"]
+#[allow(dead_code)]
+mod limits;
+#[path = "../../../judge/src/script.rs"]
+#[allow(dead_code)]
+mod script;
+
+/// What the reader of scripts lends.
+mod tables {
+    #[derive(Clone, Copy, Default)]
+    pub struct Counts {
+        pub vars: u32,
+        pub ops: u32,
+        pub maps: u32,
+    }
+
+    #[derive(Clone, Copy)]
+    pub struct Lent<'a> {
+        pub counts: Counts,
+        pub facts: &'a [u8],
+        pub costs: &'a [u32],
+        pub shares: &'a [u32],
+    }
+}
+
+/// The run of the script, and the same in the library's memory.
+mod run {
+    use crate::limits::{MAPS, STEPS, VARS};
+
+    #[derive(Clone)]
+    pub struct Run {
+        pub start: [u8; VARS],
+        pub log: [u32; STEPS],
+        pub len: u32,
+        pub now: [u8; VARS],
+        pub columns: [u32; MAPS + 1],
+    }
+
+    impl Run {
+        pub fn lent(&self) -> (Vec<u8>, Vec<u32>) {
+            let words = [&self.log[..], &[self.len], &self.columns].concat();
+            ([self.start, self.now].concat(), words)
+        }
+
+        pub fn of(bytes: &[u8], words: &[u32]) -> Run {
+            Run {
+                start: bytes[..VARS].try_into().unwrap(),
+                log: words[..STEPS].try_into().unwrap(),
+                len: words[STEPS],
+                now: bytes[VARS..].try_into().unwrap(),
+                columns: words[STEPS + 1..].try_into().unwrap(),
+            }
+        }
+    }
+}
+
+/// The entries, each with the line that the script prints for its answer.
+mod desk {
+    use crate::ffi;
+    use crate::limits::{MAPS, STEPS, VARS};
+    use crate::run::Run;
+    use crate::tables::{Counts, Lent};
+    use std::fmt;
+
+    pub enum Answer {
+        Read(Counts),
+        Told(String),
+    }
+
+    impl fmt::Display for Answer {
+        fn fmt(&self, f: &mut fmt::Formatter<'_>) -> fmt::Result {
+            match self {
+                Answer::Read(Counts { vars, ops, maps }) => write!(f, "accepted {vars} {ops} {maps}"),
+                Answer::Told(line) => f.write_str(line),
+            }
+        }
+    }
+
+    /// The line of a word; `done` names what a number is of where the answer has one.
+    fn told(word: u64, done: &str, numbered: bool) -> Answer {
+        let (kind, number) = (word % 256, word / 256);
+        Answer::Told(match kind {
+            0 if numbered => format!("{done} {number}"),
+            0 => done.to_string(),
+            128 => "none".to_string(),
+            129 => "repeated".to_string(),
+            130 => format!("first {number}"),
+            131 => format!("second {number}"),
+            132 => "neither".to_string(),
+            _ => format!("refused {kind} {number}"),
+        })
+    }
+
+    fn over(lent: Lent<'_>) -> ffi::Lent<'_> {
+        let Counts { vars, ops, maps } = lent.counts;
+        ffi::Lent { counts: [vars, ops, maps], facts: lent.facts, costs: lent.costs, shares: lent.shares }
+    }
+
+    pub fn read(text: &[u8], facts: &mut [u8], costs: &mut [u32], shares: &mut [u32]) -> Answer {
+        let mut counts = [0; 3];
+        match ffi::read(text, &mut counts, facts, costs, shares) {
+            0 => Answer::Read(Counts { vars: counts[0], ops: counts[1], maps: counts[2] }),
+            word => told(word, "", false),
+        }
+    }
+
+    pub fn check(lent: Lent<'_>) -> Answer {
+        told(ffi::check(over(lent)), "clean", false)
+    }
+
+    pub fn distances(lent: Lent<'_>, map: u32, out: &mut [u32]) -> Answer {
+        told(ffi::distances(over(lent), map, out), "rounds", true)
+    }
+
+    pub fn distance_at(lent: Lent<'_>, map: u32, state: &[u8]) -> Answer {
+        told(ffi::distance_at(over(lent), map, state), "of", true)
+    }
+
+    pub fn bound(lent: Lent<'_>, state: &[u8]) -> Answer {
+        told(ffi::bound(over(lent), state), "of", true)
+    }
+
+    pub fn judge(lent: Lent<'_>, state: &[u8], list: &[u32]) -> Answer {
+        told(ffi::judge(over(lent), state, list), "passed", true)
+    }
+
+    pub fn cheaper(lent: Lent<'_>, state: &[u8], a: &[u32], b: &[u32]) -> Answer {
+        told(ffi::cheaper(over(lent), state, a, b), "", false)
+    }
+
+    pub fn opening(lent: Lent<'_>, state: &[u8], a: &[u32], b: &[u32]) -> Answer {
+        let word = ffi::opening(over(lent), state, a, b);
+        let (list, of) = if word % 256 == 131 { (2, b) } else { (1, a) };
+        let part = &of[..(word / 256) as usize];
+        let ops: String = part.iter().map(|op| format!(" {op}")).collect();
+        Answer::Told(format!("opening {list} {}{ops}", part.len()))
+    }
+
+    /// A refused start leaves the memory of zeros that it is lent here, and so the script's run of zeros.
+    pub fn begin(lent: Lent<'_>, start: &[u8]) -> (Run, Answer) {
+        let (mut bytes, mut words) = ([0; 2 * VARS], [0; STEPS + 1 + MAPS + 1]);
+        let word = ffi::begin(over(lent), start, &mut bytes, &mut words);
+        (Run::of(&bytes, &words), told(word, "fresh", false))
+    }
+
+    pub fn offer(run: &Run, lent: Lent<'_>, number: u32, op: u32) -> (Run, Answer) {
+        let (mut bytes, mut words) = run.lent();
+        let word = ffi::offer(over(lent), &mut bytes, &mut words, number, op);
+        (Run::of(&bytes, &words), told(word, "accepted", false))
+    }
+}
+
+use std::io::{self, Read, Write};
+
+fn main() -> io::Result<()> {
+    let mut lines = Vec::new();
+    io::stdin().read_to_end(&mut lines)?;
+    io::stdout().write_all(&script::expect(&lines))
+}
