@@ -195,6 +195,61 @@ static void runs(void)
     EXPECT(desk_judge(TASK, bytes, 3, words, desk_run_steps(words)) == word(DESK_DONE, 4));
 }
 
+/* Tables as they are lent, each with its length. */
+struct tables {
+    const uint8_t *facts;
+    size_t facts_len;
+    const uint32_t *costs;
+    size_t costs_len;
+    const uint32_t *shares;
+    size_t shares_len;
+};
+
+/* Every function that takes tables refuses these with 8, and moves nothing. */
+static void all_short(struct tables t)
+{
+    static uint32_t out[DESK_DISTANCES], words[DESK_RUN_WORDS], zeros[DESK_DISTANCES];
+    uint8_t bytes[DESK_RUN_BYTES] = {0};
+    const uint32_t all[4] = {0, 1, 2, 3};
+#define LENT COUNTED, t.facts, t.facts_len, t.costs, t.costs_len, t.shares, t.shares_len
+    EXPECT(desk_check(LENT) == SHORT);
+    EXPECT(desk_distances(LENT, 0, out, DESK_DISTANCES) == SHORT);
+    EXPECT(desk_distance_at(LENT, 0, init, 3) == SHORT);
+    EXPECT(desk_bound(LENT, init, 3) == SHORT);
+    EXPECT(desk_judge(LENT, init, 3, all, 4) == SHORT);
+    EXPECT(desk_cheaper(LENT, init, 3, all, 4, all, 4) == SHORT);
+    EXPECT(desk_opening(LENT, init, 3, all, 4, all, 4) == word(DESK_FIRST, 0));
+    EXPECT(desk_begin(LENT, init, 3, bytes, DESK_RUN_BYTES, words, DESK_RUN_WORDS) == SHORT);
+    EXPECT(desk_offer(LENT, bytes, DESK_RUN_BYTES, words, DESK_RUN_WORDS, 1, 0) == SHORT);
+    EXPECT(memcmp(out, zeros, sizeof out) == 0 && memcmp(words, zeros, sizeof words) == 0 && memcmp(bytes, zeros, sizeof bytes) == 0);
+}
+
+static void short_tables(void)
+{
+    const struct tables whole = {facts, DESK_FACTS, costs, DESK_COSTS, shares, DESK_SHARES};
+    struct tables t = whole;
+    t.facts_len--;
+    all_short(t);
+    t.facts = WILD8, t.facts_len = 0;
+    all_short(t);
+    t.facts = NULL;
+    all_short(t);
+    t = whole;
+    t.costs_len--;
+    all_short(t);
+    t.costs = WILD32, t.costs_len = 0;
+    all_short(t);
+    t.costs = NULL;
+    all_short(t);
+    t = whole;
+    t.shares_len--;
+    all_short(t);
+    t.shares = WILD32, t.shares_len = 0;
+    all_short(t);
+    t.shares = NULL;
+    all_short(t);
+}
+
 int main(int argc, char **argv)
 {
     FILE *f = argc == 2 ? fopen(argv[1], "rb") : NULL;
@@ -210,6 +265,7 @@ int main(int argc, char **argv)
     bounds();
     sequences();
     runs();
+    short_tables();
     printf("C: %d expectations hold\n", tried);
     return 0;
 }
