@@ -7,7 +7,7 @@
  * What is lent is a pointer and a length, counted in places (bytes or words) and not in bytes. The length is what is trusted, so it must not be more
  * than what the pointer has; with a length of 0 the pointer is not looked at. No two lent parts may overlap, unless both are only read. A part that is longer
  * than needed is fine; what is beyond is neither read nor written, except by desk_read, which sets what is beyond in the three tables to 0.
- * A part that is shorter than needed is refusal 8 at place 0, and nothing else happens.
+ * A part that is shorter than needed is refusal 8 at place 0, and nothing else happens; desk_opening alone never refuses, and answers the empty part then.
  *
  * A TASK is lent as three counts (variables, operators, maps) and three tables: facts (DESK_FACTS bytes at least), costs (DESK_COSTS words at least) and
  * shares (DESK_SHARES words at least). desk_read fills them from a text; crates/tables/specs/Layout.antt says where each number stands. Each function

@@ -1,5 +1,6 @@
 // THE DESK FOR C: each entry of the desk under a name that C can call, with numbers and slices of numbers alone. A slice crosses as a pointer and a length.
-// No entry asks anything of its caller: what is lent too short, a length of 0 too, is 8 and nothing else. The answer is one word (specs/Words.antt).
+// No entry asks anything of its caller: what is lent too short, a length of 0 too, is 8 and nothing else;
+// only `desk_opening` never refuses, and answers the empty part then. The answer is one word (specs/Words.antt).
 // Beside each entry stands the theorem that no second outcome could meet its contract (proofs/Unique.antt, and UniqueWritten.antt for those that write). include/desk.h tells C the same.
 ghost use mathlib.Core.Path.{_≡_};
 ghost use Rattle.tables.specs.Scan.{tablesFault};
