@@ -4,9 +4,9 @@ use mathlib.Core.List.{List, [], _∷_}
 use Prim.Native.Nat.{ℕ}
 use mathlib.Core.Bool.{true, false, false≢true}
 use Rattle.tables.specs.Steps.{rowHolds, mayRun, meetsGoal, filled, stepped}
-use Rattle.tables.specs.Scan.{each, factsFault, operatorFault, classesFault, mapFault, sharesFault, splitFault, taskFault, roomy, tablesFault, stateFault}
-use Rattle.text.specs.Fields.{pick, isDigit, bytes, shareTotal, overLine}
-use Rattle.text.specs.Grammar.{
+use Rattle.scan.specs.Scan.{each, factsFault, operatorFault, classesFault, mapFault, sharesFault, splitFault, taskFault, roomy, tablesFault, stateFault}
+use Rattle.grammar.specs.Fields.{pick, isDigit, bytes, shareTotal, overLine}
+use Rattle.grammar.specs.Grammar.{
   Verdict,
   accepted,
   refused,
@@ -54,7 +54,7 @@ use Rattle.text.specs.Grammar.{
   noTask,
   verdict,
 }
-use Rattle.text.proofs.SpellAccepted.{accepted-spells}
+use Rattle.grammar.proofs.SpellAccepted.{accepted-spells}
 use Rattle.sequences.specs.Stepping.{steps, inputFault, stepOf}
 use Rattle.sequences.specs.Judging.{walked, limited, judgedOf}
 use Rattle.ledger.specs.Ledger.{rest, gain, booked, fresh, advanced, canRun, replayed, given, startAt, startIn, sameTo, sameStates, sameSteps, sameRun, isRun, oldStep, nextStep, judged, answered, offered, startFrom, started, begun}

@@ -12,8 +12,8 @@ use Rattle.meaning.specs.Split.{view}
 use Rattle.meaning.specs.Bound.{distance, bound}
 use Rattle.tables.specs.Layout.{Tables}
 use Rattle.tables.specs.Task.{sasOf, taskOf, stateOf}
-use Rattle.text.specs.Fields.{bytes}
-use Rattle.text.specs.Grammar.{Verdict, accepted, refused, verdict}
+use Rattle.grammar.specs.Fields.{bytes}
+use Rattle.grammar.specs.Grammar.{Verdict, accepted, refused, verdict}
 use Rattle.sequences.specs.declared.judging.Judged.{Judged}
 use Rattle.sequences.specs.declared.judging.Judged.the-variants as judged
 use Rattle.sequences.specs.Judging.{judgedOf}

@@ -4,11 +4,11 @@ use mathlib.Core.Path.{_≡_, sym, _∙_}
 use mathlib.Core.List.{List}
 use Prim.Native.Nat.{ℕ}
 use denote.Ref.{RefT, now}
-use Rattle.tables.specs.declared.scan.Found.{Found}
+use Rattle.scan.specs.declared.Found.{Found}
 use Rattle.tables.specs.Layout.{Tables}
-use Rattle.tables.specs.Scan.{tablesFault}
-use Rattle.text.specs.Fields.{Outcome}
-use Rattle.text.specs.Grammar.{readText}
+use Rattle.scan.specs.Scan.{tablesFault}
+use Rattle.grammar.specs.Fields.{Outcome}
+use Rattle.grammar.specs.Grammar.{readText}
 use Rattle.views.specs.declared.DistanceAnswer.{DistanceAnswer}
 use Rattle.views.specs.declared.BoundAnswer.{BoundAnswer}
 use Rattle.views.specs.Entries.{DistancesGiven, DistanceGiven, BoundGiven}

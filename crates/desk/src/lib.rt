@@ -6,22 +6,22 @@
 // A refusal is one of the paper's list: `refusals::number` and `refusals::place` tell its number and its place.
 ghost use mathlib.Core.Path.{_≡_};
 ghost use Rattle.tables.specs.Task.{tables};
-ghost use Rattle.tables.specs.Scan.{tablesFault};
-ghost use Rattle.text.specs.Fields.{leaves};
-ghost use Rattle.text.specs.Grammar.{readText};
+ghost use Rattle.scan.specs.Scan.{tablesFault};
+ghost use Rattle.grammar.specs.Fields.{leaves};
+ghost use Rattle.grammar.specs.Grammar.{readText};
 ghost use Rattle.views.specs.Entries.{DistancesGiven, DistanceGiven, BoundGiven};
 ghost use Rattle.sequences.specs.Judging.{judgedOf};
 ghost use Rattle.sequences.specs.Choosing.{cheaperOf};
 ghost use Rattle.sequences.specs.Opening.{OpeningOf};
 ghost use Rattle.ledger.specs.Ledger.{begun, offered};
+use grammar::Reading;
 use ledger::Offered;
 use ledger::Run;
 use meaning::OpNo;
+use scan::Found;
 use sequences::choosing::Cheaper;
 use sequences::judging::Judged;
 use tables::Counts;
-use tables::scan::Found;
-use text::Reading;
 use views::BoundAnswer;
 use views::DistanceAnswer;
 use views::DistancesAnswer;
@@ -40,7 +40,7 @@ pub fn read(task: &[u8], facts: &mut [u8], costs: &mut [u32], shares: &mut [u32]
 pub fn check(c: Counts, facts: &[u8], costs: &[u32], shares: &[u32]) -> Found
     ensures { λ r. ⌜ r ≡ tablesFault (tables c (now (facts .entry)) (now (costs .entry)) (now (shares .entry))) ⌝ }
 {
-    tables::scan::tables_fault(c, facts, costs, shares)
+    scan::tables_fault(c, facts, costs, shares)
 }
 
 // The DISTANCES of a map at all its abstract states, into a lent table of at least 4,096 places (4,294,967,295 for none), with the count of rounds.

@@ -11,8 +11,8 @@ use Rattle.meaning.specs.Sas.{State, IsState}
 use Rattle.meaning.specs.Views.{α}
 use Rattle.meaning.specs.Split.{Task, view, Valid}
 use Rattle.meaning.proofs.Theorems.{distance-at-most}
-use Rattle.tables.specs.declared.scan.Found.{Found}
-use Rattle.tables.specs.declared.scan.Found.the-variants.{Clean, Fault}
+use Rattle.scan.specs.declared.Found.{Found}
+use Rattle.scan.specs.declared.Found.the-variants.{Clean, Fault}
 use Rattle.tables.specs.Layout.{Tables}
 use Rattle.tables.specs.Task.{taskOf, stateOf}
 use Rattle.views.specs.declared.BoundAnswer.{BoundAnswer}

@@ -13,10 +13,10 @@ use Rattle.refusals.specs.declared.Refusal.{Refusal}
 use Rattle.refusals.specs.declared.Refusal.the-variants.{TableTooShort}
 use Rattle.tables.specs.declared.Counts.{Counts}
 use Rattle.tables.specs.Layout.{Tables}
-use Rattle.text.specs.declared.Reading.{Reading}
-use Rattle.text.specs.declared.Reading.the-variants as reading
-use Rattle.text.specs.Fields.{leaves}
-use Rattle.text.specs.Grammar.{readText}
+use Rattle.grammar.specs.declared.Reading.{Reading}
+use Rattle.grammar.specs.declared.Reading.the-variants as reading
+use Rattle.grammar.specs.Fields.{leaves}
+use Rattle.grammar.specs.Grammar.{readText}
 use Rattle.ledger.specs.declared.Run.{Run}
 use Rattle.ledger.specs.declared.Answer.{Answer}
 use Rattle.ledger.specs.declared.Answer.the-variants.{Accepted, Repeated, Refused}

@@ -3,11 +3,11 @@ use Prim.Native.Nat.{ℕ, _+_}
 use mathlib.Core.Path.{_≡_, _∙_}
 use mathlib.Core.List.{List}
 use lib.ListN.{length, replicate, length-set, length-replicate}
-use Rattle.tables.specs.declared.scan.Found.{Found}
-use Rattle.tables.specs.declared.scan.Found.the-variants.{Clean, Fault}
+use Rattle.scan.specs.declared.Found.{Found}
+use Rattle.scan.specs.declared.Found.the-variants.{Clean, Fault}
 use Rattle.tables.specs.Layout.{Tables}
 use Rattle.tables.specs.Task.{taskOf, stateOf}
-use Rattle.tables.specs.Scan.{_then_, tablesFault, stateFault}
+use Rattle.scan.specs.Scan.{_then_, tablesFault, stateFault}
 use Rattle.tables.proofs.Laws.{length-filled}
 use Rattle.tables.proofs.Meant.{stepped-length}
 use Rattle.sequences.specs.Stepping.{steps}

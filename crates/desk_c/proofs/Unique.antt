@@ -3,7 +3,7 @@ use mathlib.Core.Path.{_≡_, sym, ap, _∙_}
 use mathlib.Core.List.{List}
 use Prim.Native.Nat.{ℕ}
 use Rattle.tables.specs.Layout.{Tables}
-use Rattle.tables.specs.Scan.{tablesFault}
+use Rattle.scan.specs.Scan.{tablesFault}
 use Rattle.views.proofs.Promises as views
 use Rattle.sequences.specs.Judging.{judgedOf}
 use Rattle.sequences.specs.Choosing.{cheaperOf, chosenOf}

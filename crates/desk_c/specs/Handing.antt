@@ -8,10 +8,10 @@ use lib.Dec.{ltb}
 use lib.ListN.{length, set}
 use Rattle.refusals.specs.declared.Refusal.the-variants.{TableTooShort}
 use Rattle.tables.specs.Layout.{Tables}
-use Rattle.text.specs.declared.Reading.{Reading}
-use Rattle.text.specs.declared.Reading.the-variants as reading
-use Rattle.text.specs.Fields.{Outcome}
-use Rattle.text.specs.Grammar.{readText}
+use Rattle.grammar.specs.declared.Reading.{Reading}
+use Rattle.grammar.specs.declared.Reading.the-variants as reading
+use Rattle.grammar.specs.Fields.{Outcome}
+use Rattle.grammar.specs.Grammar.{readText}
 use Rattle.views.specs.declared.DistancesAnswer.{DistancesAnswer}
 use Rattle.views.specs.declared.DistanceAnswer.{DistanceAnswer}
 use Rattle.views.specs.declared.BoundAnswer.{BoundAnswer}

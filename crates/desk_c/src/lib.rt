@@ -3,7 +3,7 @@
 // only `desk_opening` never refuses, and answers the empty part then. The answer is one word (specs/Words.antt).
 // Beside each entry stands the theorem that no second outcome could meet its contract (proofs/Unique.antt, and UniqueWritten.antt for those that write). include/desk.h tells C the same.
 ghost use mathlib.Core.Path.{_≡_};
-ghost use Rattle.tables.specs.Scan.{tablesFault};
+ghost use Rattle.scan.specs.Scan.{tablesFault};
 ghost use Rattle.sequences.specs.Judging.{judgedOf};
 ghost use Rattle.sequences.specs.Choosing.{cheaperOf, chosenOf};
 ghost use Rattle.desk_c.specs.Words.{foundWord, judgedWord, cheaperWord, openingWord};
@@ -26,11 +26,11 @@ use crate::words::judged_word;
 use crate::words::opening_word;
 use crate::words::refused_word;
 use crate::words::word;
+use grammar::Reading;
 use meaning::OpNo;
 use refusals::Refusal;
 use sequences::choosing::choice_of;
 use tables::Counts;
-use text::Reading;
 
 // READS a task text into the lent tables, and its counts (variables, operators, maps) into a lent row of at least 3 places.
 // `read-unique`.

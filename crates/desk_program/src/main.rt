@@ -2,6 +2,7 @@
 use desk::bound;
 use desk::distance_at;
 use desk::read;
+use grammar::Reading;
 use io::print_decimal;
 use io::read_full;
 use io::write_all;
@@ -12,7 +13,6 @@ use refusals::place;
 use tables::Counts;
 use tables::readers::INIT_ROW;
 use tables::readers::row_at;
-use text::Reading;
 use views::BoundAnswer;
 use views::DistanceAnswer;
 

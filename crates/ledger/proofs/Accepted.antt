@@ -8,10 +8,10 @@ use lib.ListN.{getD}
 use borrow.Author.Tests.{leb-true, leb-false, eqb-true, eqb-false, ltb-true, ltb-false}
 use Rattle.refusals.specs.declared.Refusal.{Refusal}
 use Rattle.refusals.specs.declared.Refusal.the-variants.{NoSuchOperator, MayNotRun, NotTheNext, OtherOperator, RunFull, NotARun}
-use Rattle.tables.specs.declared.scan.Found.{Found}
-use Rattle.tables.specs.declared.scan.Found.the-variants.{Clean, Fault}
+use Rattle.scan.specs.declared.Found.{Found}
+use Rattle.scan.specs.declared.Found.the-variants.{Clean, Fault}
 use Rattle.tables.specs.Layout.{Tables}
-use Rattle.tables.specs.Scan.{tablesFault}
+use Rattle.scan.specs.Scan.{tablesFault}
 use Rattle.tables.proofs.Laws.{by-cases}
 use Rattle.ledger.specs.declared.Run.{Run}
 use Rattle.ledger.specs.declared.Answer.{Answer}

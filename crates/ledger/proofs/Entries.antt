@@ -6,11 +6,11 @@ use mathlib.Core.List.{List}
 use lib.ListN.{replicate}
 use Rattle.refusals.specs.declared.Refusal.{Refusal}
 use Rattle.meaning.specs.Split.{Valid}
-use Rattle.tables.specs.declared.scan.Found.{Found}
-use Rattle.tables.specs.declared.scan.Found.the-variants.{Clean, Fault}
+use Rattle.scan.specs.declared.Found.{Found}
+use Rattle.scan.specs.declared.Found.the-variants.{Clean, Fault}
 use Rattle.tables.specs.Layout.{Tables}
 use Rattle.tables.specs.Task.{taskOf}
-use Rattle.tables.specs.Scan.{_then_, tablesFault, stateFault}
+use Rattle.scan.specs.Scan.{_then_, tablesFault, stateFault}
 use Rattle.ledger.specs.declared.Run.{Run}
 use Rattle.ledger.specs.declared.Answer.{Answer}
 use Rattle.ledger.specs.declared.Answer.the-variants.{Accepted, Repeated, Refused}
@@ -20,8 +20,8 @@ use Rattle.ledger.specs.Ledger.{fresh, advanced, startFrom, answered, of
 use Rattle.ledger.specs.Inside.{Bounded}
 use Rattle.ledger.proofs.Accepted.{by-found, not-refused, accepted-clean, accepted-run, accepted-exists, accepted-room}
 use Rattle.ledger.proofs.Runs.{run-bounded}
-use Rattle.tables.proofs.Walks.{clean-first}
-use Rattle.tables.proofs.Validity.{clean-valid}
+use Rattle.scan.proofs.Walks.{clean-first}
+use Rattle.scan.proofs.Validity.{clean-valid}
 
 -- ---- an offer
 

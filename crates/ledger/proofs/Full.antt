@@ -12,10 +12,10 @@ use borrow.Author.Tests.{eqb-true}
 use Rattle.refusals.specs.declared.Refusal.{Refusal}
 use Rattle.meaning.specs.Sas.{State, IsState, after, Runs, end, paid}
 use Rattle.meaning.proofs.Facts.{complies-true, every-true}
-use Rattle.tables.specs.declared.scan.Found.the-variants.{Clean}
+use Rattle.scan.specs.declared.Found.the-variants.{Clean}
 use Rattle.tables.specs.Layout.{Tables}
 use Rattle.tables.specs.Task.{taskOf, sasOf, stateOf}
-use Rattle.tables.specs.Scan.{each, factsFault, operatorFault, classesFault, mapFault, sharesFault, splitFault, taskFault, roomy, tablesFault}
+use Rattle.scan.specs.Scan.{each, factsFault, operatorFault, classesFault, mapFault, sharesFault, splitFault, taskFault, roomy, tablesFault}
 use Rattle.sequences.specs.Stepping.{steps}
 use Rattle.ledger.specs.declared.Run.{Run}
 use Rattle.ledger.specs.declared.Answer.the-variants.{Repeated, Refused}

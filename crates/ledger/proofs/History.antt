@@ -9,10 +9,10 @@ use lib.ListN.{getD}
 use Rattle.meaning.specs.Sas.{State, IsState, end, paid}
 use Rattle.meaning.specs.Split.{Task, Valid, sum}
 use Rattle.meaning.proofs.Bounds.{end-state}
-use Rattle.tables.specs.declared.scan.Found.the-variants.{Clean}
+use Rattle.scan.specs.declared.Found.the-variants.{Clean}
 use Rattle.tables.specs.Layout.{Tables}
 use Rattle.tables.specs.Task.{taskOf, sasOf, stateOf}
-use Rattle.tables.specs.Scan.{tablesFault, stateFault}
+use Rattle.scan.specs.Scan.{tablesFault, stateFault}
 use Rattle.tables.proofs.Laws.{by-cases}
 use Rattle.ledger.specs.declared.Run.{Run}
 use Rattle.ledger.specs.declared.Answer.the-variants.{Accepted}
@@ -20,8 +20,8 @@ use Rattle.ledger.specs.Ledger.{allColumns, unshared, rest, gain, fresh,
 use Rattle.ledger.specs.History.{Offer, reallyRuns, added, reallyRun, ran, runAfter, Tells, Between}
 use Rattle.ledger.proofs.Gains.{gain-map, gain-rest, gain-all}
 use Rattle.ledger.proofs.Sequences.{end-append, end-same, runs-later, runs-same, paid-append, paid-same, paid-sum}
-use Rattle.tables.proofs.Walks.{clean-first, clean-next}
-use Rattle.tables.proofs.Validity.{clean-valid, state-clean}
+use Rattle.scan.proofs.Walks.{clean-first, clean-next}
+use Rattle.scan.proofs.Validity.{clean-valid, state-clean}
 use Rattle.ledger.proofs.Entries.{begun-no-fault, begun-run}
 use Rattle.ledger.proofs.Begun.{from-inside}
 use Rattle.ledger.proofs.Told.{Told, fresh-told, offer-told}

@@ -13,12 +13,12 @@ use borrow.Author.Tests.{lt-ltb, eqb-true, ltb-true, ltb-false}
 use Rattle.meaning.specs.Sas.{State, IsState, Runs, end}
 use Rattle.meaning.specs.Split.{Task, Valid}
 use Rattle.meaning.proofs.Facts.{and-left, and-right, every-true, true-complies}
-use Rattle.tables.specs.declared.scan.Found.the-variants.{Clean}
+use Rattle.scan.specs.declared.Found.the-variants.{Clean}
 use Rattle.tables.specs.Layout.{Tables, domAt}
 use Rattle.tables.specs.Task.{taskOf, sasOf, stateOf}
-use Rattle.tables.specs.Scan.{tablesFault}
+use Rattle.scan.specs.Scan.{tablesFault}
 use Rattle.tables.proofs.Laws.{by-cases}
-use Rattle.tables.proofs.Validity.{clean-valid}
+use Rattle.scan.proofs.Validity.{clean-valid}
 use Rattle.ledger.specs.declared.Run.{Run}
 use Rattle.ledger.specs.declared.Tried.{Tried}
 use Rattle.sequences.specs.Stepping.{steps}

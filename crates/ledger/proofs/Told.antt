@@ -14,11 +14,11 @@ use Rattle.meaning.specs.Views.{complies}
 use Rattle.meaning.specs.Split.{Valid}
 use Rattle.meaning.proofs.Facts.{and-left, and-right, complies-true, complies-same}
 use Rattle.meaning.proofs.Space.{after-same}
-use Rattle.tables.specs.declared.scan.Found.the-variants.{Clean}
+use Rattle.scan.specs.declared.Found.the-variants.{Clean}
 use Rattle.tables.specs.Layout.{Tables}
 use Rattle.tables.specs.Task.{taskOf, sasOf, stateOf}
 use Rattle.tables.specs.Steps.{stepped}
-use Rattle.tables.specs.Scan.{tablesFault}
+use Rattle.scan.specs.Scan.{tablesFault}
 use Rattle.tables.proofs.Laws.{by-cases}
 use Rattle.tables.proofs.Meant.{may-run-is, stepped-is, stepped-beyond, stepped-length}
 use Rattle.ledger.specs.declared.Run.{Run}

@@ -8,12 +8,12 @@ use Rattle.refusals.specs.declared.Refusal.the-variants.{NoSuchOperator, MayNot
 use Rattle.meaning.specs.Views.{every}
 use Rattle.meaning.specs.Split.{Task, sum}
 use Rattle.tables.specs.declared.Counts.{Counts}
-use Rattle.tables.specs.declared.scan.Found.{Found}
-use Rattle.tables.specs.declared.scan.Found.the-variants.{Clean, Fault}
+use Rattle.scan.specs.declared.Found.{Found}
+use Rattle.scan.specs.declared.Found.the-variants.{Clean, Fault}
 use Rattle.tables.specs.Layout.{Tables, domAt}
 use Rattle.tables.specs.Task.{taskOf, stateOf}
 use Rattle.tables.specs.Steps.{mayRun, filled, stepped}
-use Rattle.tables.specs.Scan.{_then_, tablesFault, stateFault}
+use Rattle.scan.specs.Scan.{_then_, tablesFault, stateFault}
 use Rattle.sequences.specs.Stepping.{steps}
 use Rattle.ledger.specs.declared.Run.{Run}
 use Rattle.ledger.specs.declared.Tried.{Tried}

@@ -20,10 +20,10 @@ use crate::starts::start_from;
 use crate::starts::start_in;
 use meaning::OpNo;
 use refusals::Refusal;
+use scan::Found;
+use scan::tables_fault;
 use sequences::STEPS;
 use tables::Counts;
-use tables::scan::Found;
-use tables::scan::tables_fault;
 use tables::steps::may_run;
 use tables::steps::state_after;
 

@@ -2,15 +2,15 @@
 ghost use mathlib.Core.Path.{_≡_};
 ghost use Prim.Native.Nat.{_≤_};
 ghost use Rattle.tables.specs.Task.{tables};
-ghost use Rattle.tables.specs.Scan.{_then_, tablesFault, stateFault};
+ghost use Rattle.scan.specs.Scan.{_then_, tablesFault, stateFault};
 ghost use Rattle.ledger.specs.Ledger.{startAt, startIn, startFrom};
+use scan::Found;
+use scan::state_fault;
+use scan::tables_fault;
 use sequences::stepping::copy;
 use tables::Counts;
 use tables::readers::DOM_ROW;
 use tables::readers::row_at;
-use tables::scan::Found;
-use tables::scan::state_fault;
-use tables::scan::tables_fault;
 
 // A value of a start: in its variable, or 0 beyond the variables.
 pub fn start_at(c: Counts, facts: &[u8], v: u32, x: u8) -> bool

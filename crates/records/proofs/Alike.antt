@@ -14,31 +14,15 @@ use Rattle.meaning.specs.Views.{holds, every, complies}
 use Rattle.meaning.specs.Split.{Task, countOf, sum}
 use Rattle.meaning.proofs.Facts.{every-same}
 use Rattle.tables.specs.declared.Counts.{Counts}
-use Rattle.tables.specs.declared.scan.Found.{Found}
-use Rattle.tables.specs.declared.scan.Found.the-variants.{Clean, Fault}
+use Rattle.scan.specs.declared.Found.{Found}
+use Rattle.scan.specs.declared.Found.the-variants.{Clean, Fault}
 use Rattle.tables.specs.Layout.{domRow, initRow, goalRow, rowAt, preAt, effAt, classAt, costAt}
 use Rattle.tables.specs.Task.{tables, taskOf, stateOf}
-use Rattle.tables.specs.Scan.{
-  unless,
-  _then_,
-  each,
-  within,
-  factsFault,
-  operatorFault,
-  someHas,
-  noneMissing,
-  classesFault,
-  mapFault,
-  sharesFault,
-  splitFault,
-  taskFault,
-  roomy,
-  tablesFault,
-  stateFault,
-}
+use Rattle.scan.specs.Scan.{unless, _then_, each, within, factsFault, operatorFault, classesFault, mapFault, sharesFault, splitFault, taskFault, roomy, tablesFault, stateFault}
+use Rattle.tables.specs.Classes.{someHas, noneMissing}
 use Rattle.tables.proofs.Laws.{by-cases}
-use Rattle.tables.proofs.Walks.{clean-first, clean-next, rule-held, tests-held}
-use Rattle.tables.proofs.Rules.{within-says}
+use Rattle.scan.proofs.Walks.{clean-first, clean-next, rule-held, tests-held}
+use Rattle.scan.proofs.Rules.{within-says}
 use Rattle.sequences.specs.declared.stepping.Stepped.{Stepped}
 use Rattle.sequences.specs.declared.stepping.Stepped.the-variants.{Ran, NoSuch, MayNot}
 use Rattle.sequences.specs.declared.judging.Judged.{Judged}

@@ -7,11 +7,11 @@ use lib.Dec.{leb}
 use lib.ListN.{length}
 use borrow.Author.Tests.{lt-leb}
 use Rattle.tables.specs.declared.Counts.{Counts}
-use Rattle.tables.specs.declared.scan.Found.{Found}
+use Rattle.scan.specs.declared.Found.{Found}
 use Rattle.tables.specs.Task.{tables}
-use Rattle.tables.specs.Scan.{_then_, factsFault, taskFault, roomy, tablesFault, stateFault}
+use Rattle.scan.specs.Scan.{_then_, factsFault, taskFault, roomy, tablesFault, stateFault}
 use Rattle.tables.proofs.Laws.{by-cases}
-use Rattle.tables.proofs.Validity.{clean-valid}
+use Rattle.scan.proofs.Validity.{clean-valid}
 use Rattle.sequences.specs.Stepping.{inputFault}
 use Rattle.sequences.specs.Judging.{judgedOf}
 use Rattle.sequences.proofs.Passing.{input-clean}

@@ -13,7 +13,7 @@ use Rattle.meaning.proofs.Facts.{and-left}
 use Rattle.tables.specs.declared.Counts.{Counts}
 use Rattle.tables.specs.Layout.{Tables, place, factsRoom, costsRoom, sharesRoom, preAt, effAt, costAt}
 use Rattle.tables.specs.Task.{tables}
-use Rattle.tables.specs.Scan.{roomy}
+use Rattle.scan.specs.Scan.{roomy}
 use Rattle.tables.proofs.Laws.{by-cases}
 use Rattle.sequences.specs.declared.judging.Judged.{Judged}
 use Rattle.sequences.specs.Judging.{judgedOf}

@@ -7,12 +7,12 @@ use denote.Ref.{RefT, now}
 use types.Run.{OneOf}
 use borrow.Author.Tests.{eqb-false}
 use Rattle.refusals.specs.declared.Refusal.{Refusal}
-use Rattle.tables.specs.declared.scan.Found.{Found}
-use Rattle.tables.specs.declared.scan.Found.the-variants.{Clean, Fault}
+use Rattle.scan.specs.declared.Found.{Found}
+use Rattle.scan.specs.declared.Found.the-variants.{Clean, Fault}
 use Rattle.tables.specs.Layout.{Tables}
 use Rattle.tables.specs.Task.{sasOf, stateOf}
-use Rattle.tables.specs.Scan.{_then_, tablesFault, stateFault}
-use Rattle.tables.proofs.Validity.{clean-valid}
+use Rattle.scan.specs.Scan.{_then_, tablesFault, stateFault}
+use Rattle.scan.proofs.Validity.{clean-valid}
 use Rattle.sequences.specs.declared.judging.Judged.the-variants.{Refused}
 use Rattle.sequences.specs.declared.choosing.Choice.{Choice}
 use Rattle.sequences.specs.declared.choosing.Choice.the-variants.{Unread}
@@ -21,7 +21,7 @@ use Rattle.sequences.specs.Judging.{limited, unlessFault, judgedOf}
 use Rattle.sequences.specs.Choosing.{reachedOf, choiceOf, unlessUnread, chosenOf, listOf, stepsOf}
 use Rattle.sequences.specs.Opening.{Opening, OpeningOf}
 use Rattle.sequences.proofs.Passing.{input-clean}
-use Rattle.tables.proofs.scan.Found as F
+use Rattle.scan.proofs.Found as F
 
 module _ (t : Tables) (s : List ℕ) where
   -- a fault of the tables is the answer; else the state's

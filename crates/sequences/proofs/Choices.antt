@@ -9,8 +9,8 @@ use lib.Dec.{leb}
 use lib.ListN.{length, take}
 use borrow.Author.Tests.{leb-true, leb-false}
 use Rattle.meaning.specs.Sas.{State, Sas, Passes, paid}
-use Rattle.tables.specs.declared.scan.Found.{Found}
-use Rattle.tables.specs.declared.scan.Found.the-variants.{Clean, Fault}
+use Rattle.scan.specs.declared.Found.{Found}
+use Rattle.scan.specs.declared.Found.the-variants.{Clean, Fault}
 use Rattle.tables.specs.Layout.{Tables}
 use Rattle.tables.specs.Task.{sasOf, stateOf}
 use Rattle.sequences.specs.declared.choosing.Reached.{Reached}

@@ -13,11 +13,11 @@ use Rattle.refusals.specs.declared.Refusal.the-variants.{SequenceTooLong, NoGoa
 use Rattle.meaning.specs.Sas.{State, Sas, MayRun, after, Passes, paid}
 use Rattle.meaning.specs.Views.{complies}
 use Rattle.meaning.proofs.Facts.{complies-true, true-complies}
-use Rattle.tables.specs.declared.scan.Found.{Found}
-use Rattle.tables.specs.declared.scan.Found.the-variants.{Clean, Fault}
+use Rattle.scan.specs.declared.Found.{Found}
+use Rattle.scan.specs.declared.Found.the-variants.{Clean, Fault}
 use Rattle.tables.specs.Layout.{Tables}
 use Rattle.tables.specs.Task.{sasOf, stateOf}
-use Rattle.tables.specs.Scan.{_then_, tablesFault, stateFault}
+use Rattle.scan.specs.Scan.{_then_, tablesFault, stateFault}
 use Rattle.sequences.specs.declared.stepping.Stepped.{Stepped}
 use Rattle.sequences.specs.declared.stepping.Stepped.the-variants.{Ran, NoSuch, MayNot}
 use Rattle.sequences.specs.declared.judging.Judged.{Judged}

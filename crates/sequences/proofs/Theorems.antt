@@ -10,8 +10,8 @@ use Rattle.meaning.specs.Bound.{bound}
 use Rattle.meaning.proofs.Bounds.{admissible}
 use Rattle.tables.specs.Layout.{Tables}
 use Rattle.tables.specs.Task.{taskOf, sasOf, stateOf}
-use Rattle.tables.specs.declared.scan.Found.the-variants.{Clean}
-use Rattle.tables.proofs.Validity.{clean-valid, state-clean}
+use Rattle.scan.specs.declared.Found.the-variants.{Clean}
+use Rattle.scan.proofs.Validity.{clean-valid, state-clean}
 use Rattle.sequences.specs.declared.judging.Judged.{Judged}
 use Rattle.sequences.specs.declared.judging.Judged.the-variants.{Passed}
 use Rattle.sequences.specs.declared.choosing.Choice.{Choice}

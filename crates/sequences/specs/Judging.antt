@@ -7,8 +7,8 @@ use lib.ListN.{length}
 use Rattle.refusals.specs.declared.Refusal.the-variants.{NoSuchOperator, SequenceTooLong, MayNotRun, NoGoal}
 use Rattle.meaning.specs.Sas.{State, Sas, after}
 use Rattle.meaning.specs.Views.{complies}
-use Rattle.tables.specs.declared.scan.Found.{Found}
-use Rattle.tables.specs.declared.scan.Found.the-variants.{Clean, Fault}
+use Rattle.scan.specs.declared.Found.{Found}
+use Rattle.scan.specs.declared.Found.the-variants.{Clean, Fault}
 use Rattle.tables.specs.Layout.{Tables}
 use Rattle.tables.specs.Task.{sasOf, stateOf}
 use Rattle.sequences.specs.declared.stepping.Stepped.{Stepped}

@@ -8,10 +8,10 @@ use Rattle.meaning.specs.Sas.{State, Sas}
 use Rattle.meaning.specs.Views.{complies}
 use Rattle.tables.specs.declared.Counts.{Counts}
 use Rattle.tables.specs.Task.{sasOf, stateOf, tables}
-use Rattle.tables.specs.declared.scan.Found.{Found}
+use Rattle.scan.specs.declared.Found.{Found}
 use Rattle.tables.specs.Layout.{Tables}
 use Rattle.tables.specs.Steps.{filled}
-use Rattle.tables.specs.Scan.{_then_, tablesFault, stateFault}
+use Rattle.scan.specs.Scan.{_then_, tablesFault, stateFault}
 use Rattle.sequences.specs.declared.stepping.Stepped.{Stepped}
 use Rattle.sequences.specs.declared.stepping.Stepped.the-variants.{Ran, NoSuch, MayNot}
 

@@ -13,8 +13,8 @@ use crate::stepping::copy;
 use crate::stepping::step;
 use meaning::OpNo;
 use refusals::Refusal;
+use scan::Found;
 use tables::Counts;
-use tables::scan::Found;
 use tables::steps::meets_goal;
 use tables::steps::state_after;
 

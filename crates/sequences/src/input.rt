@@ -2,10 +2,10 @@
 ghost use mathlib.Core.Path.{_≡_};
 ghost use Rattle.tables.specs.Task.{tables};
 ghost use Rattle.sequences.specs.Stepping.{inputFault};
+use scan::Found;
+use scan::state_fault;
+use scan::tables_fault;
 use tables::Counts;
-use tables::scan::Found;
-use tables::scan::state_fault;
-use tables::scan::tables_fault;
 
 // The first fault of the tables, or else of the state.
 pub fn input_fault(c: Counts, facts: &[u8], costs: &[u32], shares: &[u32], s: &[u8]) -> Found

@@ -12,8 +12,8 @@ use crate::choosing::named;
 use crate::input::input_fault;
 use crate::judging::Judged;
 use crate::judging::judge_list;
+use scan::Found;
 use tables::Counts;
-use tables::scan::Found;
 
 pub mod choosing;
 pub mod input;

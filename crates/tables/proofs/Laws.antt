@@ -19,6 +19,10 @@ pub by-cases : {A : Type 0} (b : Bool) → (b ≡ true → A) → (b ≡ false �
 by-cases true t e = t refl
 by-cases false t e = e refl
 
+-- from two constructors that are said to be equal
+pub never : {A : Type 0} → _≡_ {A = ℕ} 0 1 → A
+never p = absurd (let n : ⊥ = omega arith in n)
+
 -- ---- a test at every number below n
 
 pub every-more : (f : ℕ → Bool) (n : ℕ) → every f n ≡ true → f n ≡ true → every f (n + 1) ≡ true

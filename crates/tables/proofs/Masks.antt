@@ -14,8 +14,7 @@ use lib.Bits.{bitOr, or-block, or-zero-r}
 use lib.Count.{ones, onesIn, leadingZeros, ones-cat, leading-unique}
 use Rattle.meaning.specs.Views.{every}
 use Rattle.meaning.specs.Split.{countOf}
-use Rattle.tables.specs.Scan.{someHas, noneMissing}
-use Rattle.tables.specs.Classes.{maskOf}
+use Rattle.tables.specs.Classes.{someHas, noneMissing, maskOf}
 
 -- ---- the number whose bit c is set exactly if f c, for each c below n
 

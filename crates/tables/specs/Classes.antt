@@ -1,15 +1,23 @@
 -- A variable's classes as the program keeps them: a mask, with a bit for each class.
-use mathlib.Core.Bool.{Bool, true, false}
+use mathlib.Core.Bool.{Bool, true, false, _||_}
 use Prim.Native.Nat.{ℕ, zero, suc, _^_}
 use lib.Bits.{bitOr}
-use lib.Dec.{ltb}
+use lib.Dec.{ltb, eqb}
 use Rattle.meaning.specs.Views.{every}
 use Rattle.meaning.specs.Split.{countOf}
 use Rattle.tables.specs.declared.classes.Mask.{Mask}
 use Rattle.tables.specs.declared.classes.Mask.the-variants.{Bits, Beyond}
 use Rattle.tables.specs.declared.classes.Classes.{Classes}
 use Rattle.tables.specs.declared.classes.Classes.the-variants.{Count, Missing, Outside}
-use Rattle.tables.specs.Scan.{noneMissing}
+
+-- some of the first n values has the class c
+abbrev pub someHas : (ℕ → ℕ) → ℕ → ℕ → Bool
+someHas class zero c = false
+someHas class (suc n) c = someHas class n c || eqb (class n) c
+
+-- the classes of the first n values are 0 to k - 1 with none missing
+abbrev pub noneMissing : (ℕ → ℕ) → ℕ → Bool
+noneMissing class n = every (someHas class n) (countOf class n)
 
 -- the number with a bit for each class of the first n values
 abbrev pub maskOf : (ℕ → ℕ) → ℕ → ℕ

@@ -1,7 +1,6 @@
-// The lent tables of a task: counts by value, facts as bytes, costs and shares as words; their readers, one step of a state, and the scan for the first fault.
+// The lent tables of a task: counts by value, facts as bytes, costs and shares as words; their readers, a row of classes, and one step of a state.
 pub mod classes;
 pub mod readers;
-pub mod scan;
 pub mod steps;
 
 // How many variables, operators and maps the task has.

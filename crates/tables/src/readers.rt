@@ -1,4 +1,4 @@
-// The readers: the only code that knows the layout. A place past a table's end reads as 0, so a reading asks nothing of its caller.
+// The readers: the code that knows the layout. A place past a table's end reads as 0, so a reading asks nothing of its caller.
 ghost use mathlib.Core.Path.{_≡_};
 ghost use Prim.Native.Nat.{_<_};
 ghost use lib.ListN.{getD};

@@ -9,8 +9,8 @@ use lib.Seq.{getD-set-same, getD-set-other, take-set-le, take-set-lt, getD-take}
 use Rattle.tables.specs.declared.Counts.{Counts}
 use Rattle.tables.specs.Layout.{factsRoom, sharePlace, costAt, shareAt, domAt}
 use Rattle.text.specs.declared.Ctrl.{Ctrl}
-use Rattle.text.specs.Fields.{shareTotal, overLine}
-use Rattle.text.specs.Grammar.{putFact, putCost, putShare}
+use Rattle.grammar.specs.Fields.{shareTotal, overLine}
+use Rattle.grammar.specs.Grammar.{putFact, putCost, putShare}
 use Rattle.text.specs.Machine.{mk, put, get3, put3, costByte, shareByte, costIn, shareIn, threes, over, dom}
 use Rattle.text.proofs.BridgeReading.{tablesOf}
 

@@ -11,8 +11,8 @@ use borrow.Author.Tests.{eq-eqb, ne-eqb}
 use Rattle.tables.specs.declared.Counts.{Counts}
 use Rattle.tables.specs.Layout.{Tables, domPlace, initPlace, domAt}
 use Rattle.text.specs.declared.Ctrl.{Ctrl}
-use Rattle.text.specs.Fields.{pick, comma, lineEnd, bytes}
-use Rattle.text.specs.Grammar.{
+use Rattle.grammar.specs.Fields.{pick, comma, lineEnd, bytes}
+use Rattle.grammar.specs.Grammar.{
   Next,
   _▸_,
   nothing,
@@ -55,7 +55,7 @@ use Rattle.text.specs.Machine.{
 }
 use Rattle.text.proofs.BridgeReading.{tablesOf, reading, Bytes, kw, spelled, key-ok}
 use Rattle.text.proofs.BridgeNumbers.{beginsDash, pick-same, number-ok}
-use Rattle.text.proofs.Runs.{within-both}
+use Rattle.grammar.proofs.Runs.{within-both}
 use Rattle.text.proofs.BridgeArea.{fact-kept, dom-of}
 use Rattle.text.proofs.BridgeRows.{num, then-mark, no-fault, Fits, Known, known-put, known-dom, row-ok}
 

@@ -10,8 +10,8 @@ use Rattle.refusals.specs.declared.Refusal.the-variants.{ClassMissing, TooManyS
 use Rattle.tables.specs.declared.Counts.{Counts}
 use Rattle.tables.specs.Layout.{Tables, classPlace, domAt}
 use Rattle.text.specs.declared.Ctrl.{Ctrl}
-use Rattle.text.specs.Fields.{pick, comma, slash, lineEnd, mostStates}
-use Rattle.text.specs.Grammar.{refused, Next, Part, _▸_, keep, demand, lit, within, parted, has, topOf, classCount, noneMissing, classes, variables}
+use Rattle.grammar.specs.Fields.{pick, comma, slash, lineEnd, mostStates}
+use Rattle.grammar.specs.Grammar.{refused, Next, Part, _▸_, keep, demand, lit, within, parted, has, topOf, classCount, noneMissing, classes, variables}
 use Rattle.text.specs.Machine.{
   up,
   put,
@@ -43,7 +43,7 @@ use Rattle.text.specs.Machine.{
 use Rattle.text.proofs.Masks.{maskOf, mask-none, mask-class, mask-width, mask-gapless}
 use Rattle.text.proofs.BridgeReading.{tablesOf, reading, Bytes}
 use Rattle.text.proofs.BridgeNumbers.{run-of, faulty}
-use Rattle.text.proofs.Runs.{within-both, Stop}
+use Rattle.grammar.proofs.Runs.{within-both, Stop}
 use Rattle.text.proofs.BridgeArea.{fact-kept, dom-of, put-getD}
 use Rattle.text.proofs.BridgeRows.{num, then-mark, judged-in, Fits, Known, known-put}
 use Rattle.text.proofs.BridgeLines.{eol, bare}

@@ -10,8 +10,8 @@ use borrow.Author.Tests.{eq-eqb, ne-eqb, eqb-true, eqb-false, le-leb, lt-leb, lt
 use Rattle.refusals.specs.declared.Refusal.the-variants.{OffForm, OutOfRange}
 use Rattle.tables.specs.Layout.{Tables}
 use Rattle.text.specs.declared.Ctrl.{Ctrl}
-use Rattle.text.specs.Fields.{pick, isDigit}
-use Rattle.text.specs.Grammar.{Verdict, refused, Next, Part, _▸_, demand, runLen, value, formed, within, number}
+use Rattle.grammar.specs.Fields.{pick, isDigit}
+use Rattle.grammar.specs.Grammar.{Verdict, refused, Next, Part, _▸_, demand, runLen, value, formed, within, number}
 use Rattle.text.specs.Machine.{
   mk,
   stopped,
@@ -35,7 +35,7 @@ use Rattle.text.specs.Machine.{
   ended,
   refusalOf,
 }
-use Rattle.text.proofs.Runs.{
+use Rattle.grammar.proofs.Runs.{
   within-both,
   digit-both,
   run-hit,

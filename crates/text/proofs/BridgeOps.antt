@@ -9,8 +9,8 @@ use borrow.Author.Tests.{eq-eqb, ne-eqb, lt-ltb, le-ltb}
 use Rattle.tables.specs.declared.Counts.{Counts}
 use Rattle.tables.specs.Layout.{Tables, goalPlace, prePlace, effPlace}
 use Rattle.text.specs.declared.Ctrl.{Ctrl}
-use Rattle.text.specs.Fields.{pick, lineEnd, semicolon, bytes}
-use Rattle.text.specs.Grammar.{
+use Rattle.grammar.specs.Fields.{pick, lineEnd, semicolon, bytes}
+use Rattle.grammar.specs.Grammar.{
   Next,
   Part,
   _▸_,
@@ -51,7 +51,7 @@ use Rattle.text.specs.Machine.{
   dashed,
 }
 use Rattle.text.proofs.BridgeReading.{tablesOf, reading, Bytes, kw, spelled, key-ok}
-use Rattle.text.proofs.Runs.{within-both}
+use Rattle.grammar.proofs.Runs.{within-both}
 use Rattle.text.proofs.BridgeArea.{cost-kept}
 use Rattle.text.proofs.BridgeRows.{num, then-mark, no-fault, Fits, Known, known-put3}
 use Rattle.text.proofs.BridgeLines.{eol, bare, single-ok}

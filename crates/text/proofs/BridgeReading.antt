@@ -11,8 +11,8 @@ use Rattle.refusals.specs.declared.Refusal.the-variants.{OffForm}
 use Rattle.tables.specs.declared.Counts.{Counts}
 use Rattle.tables.specs.Layout.{Tables, factsRoom, costsRoom, sharesRoom}
 use Rattle.text.specs.declared.Ctrl.{Ctrl}
-use Rattle.text.specs.Fields.{pick}
-use Rattle.text.specs.Grammar.{Verdict, refused, Next, _▸_, demand, lit, settled}
+use Rattle.grammar.specs.Fields.{pick}
+use Rattle.grammar.specs.Grammar.{Verdict, refused, Next, _▸_, demand, lit, settled}
 use Rattle.text.specs.Machine.{
   St,
   mk,
@@ -34,7 +34,7 @@ use Rattle.text.specs.Machine.{
   over,
   countsOf,
 }
-use Rattle.text.proofs.Runs.{both-true}
+use Rattle.grammar.proofs.Runs.{both-true}
 
 -- the tables that a work area stands for
 unfoldable pub tablesOf : Counts → List ℕ → Tables

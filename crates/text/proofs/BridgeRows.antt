@@ -10,11 +10,11 @@ use borrow.Author.Tests.{ne-eqb, eqb-true, eqb-false, le-leb}
 use Rattle.tables.specs.declared.Counts.{Counts}
 use Rattle.tables.specs.Layout.{Tables}
 use Rattle.text.specs.declared.Ctrl.{Ctrl}
-use Rattle.text.specs.Fields.{pick, comma}
-use Rattle.text.specs.Grammar.{Next, _▸_, keep, lit, within, number, parted, row}
+use Rattle.grammar.specs.Fields.{pick, comma}
+use Rattle.grammar.specs.Grammar.{Next, _▸_, keep, lit, within, number, parted, row}
 use Rattle.text.specs.Machine.{put, put3, dom, withDigit, leasts, limit, judged, noted, lastClass, before, fault, stored, mark, after}
 use Rattle.text.proofs.BridgeReading.{tablesOf, reading, Bytes, byte, marked}
-use Rattle.text.proofs.Runs.{Stop, nil, other}
+use Rattle.grammar.proofs.Runs.{Stop, nil, other}
 use Rattle.text.proofs.BridgeNumbers.{beginsDash, sound-end, sound-byte, in-range, run-of, number-ok}
 use Rattle.text.proofs.BridgeArea.{put-getD, put-same, put-length, put3-length, put3-getD}
 

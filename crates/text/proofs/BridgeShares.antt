@@ -8,8 +8,8 @@ use borrow.Author.Tests.{eq-eqb, ne-eqb}
 use Rattle.tables.specs.declared.Counts.{Counts}
 use Rattle.tables.specs.Layout.{sharePlace}
 use Rattle.text.specs.declared.Ctrl.{Ctrl}
-use Rattle.text.specs.Fields.{pick, dash, lineEnd, bytes}
-use Rattle.text.specs.Grammar.{
+use Rattle.grammar.specs.Fields.{pick, dash, lineEnd, bytes}
+use Rattle.grammar.specs.Grammar.{
   Next,
   Part,
   _▸_,
@@ -53,7 +53,7 @@ use Rattle.text.specs.Machine.{
   step,
 }
 use Rattle.text.proofs.BridgeReading.{tablesOf, reading, Bytes, byte, cut-short, moves, marked, kw, spelled, key-ok}
-use Rattle.text.proofs.Runs.{within-both}
+use Rattle.grammar.proofs.Runs.{within-both}
 use Rattle.text.proofs.BridgeArea.{share-kept}
 use Rattle.text.proofs.BridgeRows.{num, then-mark, Fits, Known, known-put3, row-ok}
 use Rattle.text.proofs.BridgeLines.{eol, bare, single-ok}

@@ -9,8 +9,8 @@ use lib.Dec.{eqb}
 use borrow.Author.Tests.{ne-eqb}
 use Rattle.tables.specs.declared.Counts.{Counts}
 use Rattle.tables.specs.Layout.{Tables}
-use Rattle.text.specs.Fields.{pick, Outcome, admitted}
-use Rattle.text.specs.Grammar.{Verdict, _▸_, domLine, initLine, goalLine, opsLine, opLines, mapsLine, mapLines, shareLines, taskLines, settled, theEnd, noTask, verdict, outcome, readText}
+use Rattle.grammar.specs.Fields.{pick, Outcome, admitted}
+use Rattle.grammar.specs.Grammar.{Verdict, _▸_, domLine, initLine, goalLine, opsLine, opLines, mapsLine, mapLines, shareLines, taskLines, settled, theEnd, noTask, verdict, outcome, readText}
 use Rattle.text.specs.Machine.{St, mk, get3, threes, keyByte, stopped, inKey, live, step, feed, start, ended, over, countsOf, written, done, areaRoom, readAll}
 use Rattle.text.proofs.BridgeReading.{tablesOf, told, reading, Bytes, none, byte, stops-2, moves, kw}
 use Rattle.text.proofs.BridgeArea.{over-of}

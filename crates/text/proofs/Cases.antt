@@ -5,8 +5,8 @@ use mathlib.Core.Bool.{Bool, true, false}
 use mathlib.Core.List.{List, [], _∷_}
 use lib.Dec.{eqb, T}
 use Rattle.refusals.specs.Listed.{numberOf, placeOf}
-use Rattle.text.specs.Fields.{pick, isDigit, bytes, shareTotal, overLine}
-use Rattle.text.specs.Grammar.{
+use Rattle.grammar.specs.Fields.{pick, isDigit, bytes, shareTotal, overLine}
+use Rattle.grammar.specs.Grammar.{
   Verdict,
   accepted,
   refused,

@@ -8,7 +8,7 @@ use mathlib.Core.Logic.{_⊎_, inl, inr}
 use mathlib.Core.List.{List, _++_}
 use lib.ListN.{length, getD, set, replicate, length-append, length-replicate, getD-replicate, List·getD-append, List·getD-eq-default}
 use lib.Seq.{ext-getD, getD-set-same, getD-set-other, getD-append-add}
-use Rattle.text.specs.Fields.{filled}
+use Rattle.grammar.specs.Fields.{filled}
 use Rattle.text.specs.Machine.{get3, threes}
 
 -- past the numbers, a place of the zeros

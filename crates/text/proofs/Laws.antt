@@ -9,7 +9,7 @@ use mathlib.Core.List.{List, [], _∷_}
 use lib.ListN.{length, getD, drop}
 use lib.Seq.{drop-cons}
 use borrow.Author.Tests.{le-leb, lt-leb}
-use Rattle.text.specs.Fields.{pick, shareTotal, overLine}
+use Rattle.grammar.specs.Fields.{pick, shareTotal, overLine}
 use Rattle.text.specs.Machine.{St, step, feed}
 
 -- within a list the default is not read

@@ -10,8 +10,8 @@ use lib.Dec.{eqb, lit≤}
 use Rattle.meaning.specs.Views.{every}
 use Rattle.tables.proofs.Laws.{by-cases}
 use Rattle.tables.proofs.Masks.{bits, top, topIf, bits-same, bits-none, or-bits, width-top, width-is-count}
-use Rattle.text.specs.Fields.{pick}
-use Rattle.text.specs.Grammar.{has, topOf, allOf, classCount, noneMissing}
+use Rattle.grammar.specs.Fields.{pick}
+use Rattle.grammar.specs.Grammar.{has, topOf, allOf, classCount, noneMissing}
 use Rattle.text.specs.Machine.{withClass, width, gapless}
 
 -- the mask of the numbers below n that pass a test

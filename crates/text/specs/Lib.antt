@@ -1,4 +1,1 @@
-pub mod Fields
-pub mod Grammar
 pub mod Machine
-pub mod Spelling

@@ -29,8 +29,8 @@ use Rattle.tables.specs.Layout.{
   sharePlace,
 }
 use Rattle.text.specs.declared.Ctrl.{Ctrl}
-use Rattle.text.specs.declared.Reading.the-variants.{Accepted, Refused}
-use Rattle.text.specs.Fields.{
+use Rattle.grammar.specs.declared.Reading.the-variants.{Accepted, Refused}
+use Rattle.grammar.specs.Fields.{
   pick,
   isDigit,
   bytes,

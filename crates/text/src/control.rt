@@ -2,7 +2,7 @@
 ghost use mathlib.Core.Path.{_≡_};
 ghost use Prim.Native.Nat.{_+_};
 ghost use lib.Dec.{eqb};
-ghost use Rattle.text.specs.Fields.{pick};
+ghost use Rattle.grammar.specs.Fields.{pick};
 ghost use Rattle.text.specs.Machine.{
   up,
   stopped,

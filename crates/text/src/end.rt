@@ -2,16 +2,16 @@
 ghost use mathlib.Core.Path.{_≡_};
 ghost use Prim.Native.Nat.{_≤_, _<_, min};
 ghost use lib.ListN.{length};
-ghost use Rattle.text.specs.Fields.{shareTotal, leaves};
+ghost use Rattle.grammar.specs.Fields.{shareTotal, leaves};
 ghost use Rattle.text.specs.Machine.{mk, shareIn, over, ended, refusalOf, countsOf, done};
 use crate::Ctrl;
-use crate::Reading;
 use crate::area::word_at;
 use crate::fields::fault_of;
 use crate::fill::fill_bytes;
 use crate::fill::fill_words;
 use crate::places::cost_byte;
 use crate::places::share_byte;
+use grammar::Reading;
 use refusals::Refusal;
 use tables::Counts;
 

@@ -2,7 +2,7 @@
 ghost use mathlib.Core.Path.{_≡_};
 ghost use Prim.Native.Nat.{_≤_};
 ghost use lib.ListN.{length, getD, take};
-ghost use Rattle.text.specs.Fields.{filled};
+ghost use Rattle.grammar.specs.Fields.{filled};
 ghost use Rattle.text.specs.Machine.{threes};
 use crate::area::byte_at;
 use crate::area::word_at;

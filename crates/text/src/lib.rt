@@ -1,7 +1,7 @@
 // The reader of the task text: a byte at a time, into a work area; the lent tables are written at the end, on acceptance only.
 ghost use mathlib.Core.Path.{_≡_};
-ghost use Rattle.text.specs.Fields.{leaves};
-ghost use Rattle.text.specs.Grammar.{readText};
+ghost use Rattle.grammar.specs.Fields.{leaves};
+ghost use Rattle.grammar.specs.Grammar.{readText};
 
 mod area;
 mod control;
@@ -13,15 +13,8 @@ mod places;
 mod step;
 mod whole;
 
-use refusals::Refusal;
-use tables::Counts;
+use grammar::Reading;
 use whole::read_by_machine;
-
-// What the reader answers: the task's counts, or why not.
-pub enum Reading {
-    Accepted(Counts),
-    Refused(Refusal),
-}
 
 // Where the reading stands between two bytes: the fault that stopped it (0 for none) and the line; the part of the line, the field, and
 // the place in its keyword; the digit run and its value; the variable, the least variable allowed, the place in a row, the row of the line;

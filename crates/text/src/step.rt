@@ -3,7 +3,7 @@ ghost use mathlib.Core.Path.{_≡_};
 ghost use Prim.Native.Nat.{_+_, _-_};
 ghost use mathlib.Core.Bool.{false};
 ghost use lib.Dec.{eqb};
-ghost use Rattle.text.specs.Fields.{isDigit, pick};
+ghost use Rattle.grammar.specs.Fields.{isDigit, pick};
 ghost use Rattle.text.specs.Machine.{
   mk,
   inKey,

@@ -1,11 +1,11 @@
 // A whole text at once.
 ghost use mathlib.Core.Path.{_≡_};
-ghost use Rattle.text.specs.Fields.{leaves};
+ghost use Rattle.grammar.specs.Fields.{leaves};
 ghost use Rattle.text.specs.Machine.{readAll};
-use crate::Reading;
 use crate::control::start_of_text;
 use crate::end::finish;
 use crate::step::feed_piece;
+use grammar::Reading;
 use refusals::Refusal;
 
 // What the machine answers: 8 for a short table, then 1 for a long text, then the text's own answer.

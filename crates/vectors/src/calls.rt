@@ -22,6 +22,7 @@ use desk::judge;
 use desk::offer;
 use desk::opening;
 use desk::read;
+use grammar::Reading;
 use meaning::OpNo;
 use script::commands::Command;
 use script::held::COSTS;
@@ -44,7 +45,6 @@ use script::parts::least;
 use script::setting::counts_held;
 use script::setting::say_counts;
 use script::setting::set_counts;
-use text::Reading;
 
 // The answer of `read`; the counts of an accepted text are kept.
 fn keep_reading(held: &mut [u32], answer: Reading) {

@@ -17,10 +17,10 @@ use Rattle.meaning.specs.Bound.{away, join, summed, bound}
 use Rattle.meaning.proofs.Induced.{α-below}
 use Rattle.meaning.proofs.Bounds.{view-onto}
 use Rattle.meaning.proofs.Theorems.{distance-is-least, distance-unique, round-holds-distances, rounds-at-most-states}
-use Rattle.views.specs.Said.{read}
-use Rattle.views.specs.Sweeps.{Counted}
+use Rattle.sweep.specs.Said.{read}
+use Rattle.sweep.specs.Sweeps.{Counted}
 use Rattle.views.specs.Entries.{DistancesOf, IsAway, IsBound}
-use Rattle.views.proofs.Saids.{said-inj}
+use Rattle.sweep.proofs.Saids.{said-inj}
 
 module _ (T : Task) (ok : Valid T) (m : ℕ) (lm : m < T .maps) where
   -- the rounds and the table are settled

@@ -14,21 +14,21 @@ use Rattle.meaning.specs.Views.{viewGraph}
 use Rattle.meaning.specs.Split.{view, Valid}
 use Rattle.meaning.specs.Bound.{away, bound}
 use Rattle.tables.specs.declared.Counts.{Counts}
-use Rattle.tables.specs.declared.scan.Found.{Found}
-use Rattle.tables.specs.declared.scan.Found.the-variants.{Clean, Fault}
+use Rattle.scan.specs.declared.Found.{Found}
+use Rattle.scan.specs.declared.Found.the-variants.{Clean, Fault}
 use Rattle.tables.specs.Layout.{Tables, shareAt}
 use Rattle.tables.specs.Task.{sasOf, taskOf, tables, stateOf}
-use Rattle.tables.specs.Scan.{unless, _then_, tablesFault, stateFault}
-use Rattle.tables.proofs.Walks.{clean-first, clean-next, kept, broken, rule-held}
-use Rattle.tables.proofs.Validity.{clean-valid, state-clean}
+use Rattle.scan.specs.Scan.{unless, _then_, tablesFault, stateFault}
+use Rattle.scan.proofs.Walks.{clean-first, clean-next, kept, broken, rule-held}
+use Rattle.scan.proofs.Validity.{clean-valid, state-clean}
 use Rattle.views.specs.declared.DistancesAnswer.the-variants as distances
 use Rattle.views.specs.declared.DistanceAnswer.{DistanceAnswer}
 use Rattle.views.specs.declared.DistanceAnswer.the-variants as distance
 use Rattle.views.specs.declared.BoundAnswer.{BoundAnswer}
 use Rattle.views.specs.declared.BoundAnswer.the-variants as bounds
-use Rattle.views.specs.Said.{said}
-use Rattle.views.specs.Sweeps.{Counted}
-use Rattle.views.specs.Classes.{viewGraphOf}
+use Rattle.sweep.specs.Said.{said}
+use Rattle.sweep.specs.Sweeps.{Counted}
+use Rattle.sweep.specs.Classes.{viewGraphOf}
 use Rattle.views.specs.Entries.{
   noSuchMap,
   askedFault,
@@ -42,8 +42,8 @@ use Rattle.views.specs.Entries.{
   DistanceGiven,
   BoundGiven,
 }
-use Rattle.views.proofs.Alike.{counted-alike}
-use Rattle.views.proofs.Viewing.{priced-alike}
+use Rattle.sweep.proofs.Alike.{counted-alike}
+use Rattle.sweep.proofs.Viewing.{priced-alike}
 use Rattle.views.proofs.Answers.{counted-distances, away-is, bound-is}
 
 -- ---- one fault after the other

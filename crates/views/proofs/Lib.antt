@@ -1,11 +1,3 @@
-pub mod Saids
-pub mod Makes
-pub mod Walking
-pub mod Sweeping
-pub mod Rounding
-pub mod Classing
-pub mod Alike
-pub mod Viewing
 pub mod Summing
 pub mod Answers
 pub mod Judging

@@ -11,8 +11,8 @@ use Rattle.meaning.specs.Views.{α, abstractStates}
 use Rattle.meaning.specs.Split.{view}
 use Rattle.meaning.specs.Bound.{bound}
 use Rattle.meaning.proofs.Bounds.{admissible}
-use Rattle.tables.specs.declared.scan.Found.{Found}
-use Rattle.tables.specs.declared.scan.Found.the-variants.{Clean, Fault}
+use Rattle.scan.specs.declared.Found.{Found}
+use Rattle.scan.specs.declared.Found.the-variants.{Clean, Fault}
 use Rattle.tables.specs.Layout.{Tables}
 use Rattle.tables.specs.Task.{sasOf, taskOf, stateOf}
 use Rattle.views.specs.declared.DistancesAnswer.{DistancesAnswer}
@@ -20,7 +20,7 @@ use Rattle.views.specs.declared.DistancesAnswer.the-variants as distance
 use Rattle.views.specs.declared.DistanceAnswer.{DistanceAnswer}
 use Rattle.views.specs.declared.BoundAnswer.{BoundAnswer}
 use Rattle.views.specs.declared.BoundAnswer.the-variants as bounds
-use Rattle.views.specs.Said.{read}
+use Rattle.sweep.specs.Said.{read}
 use Rattle.views.specs.Entries.{
   distancesFault,
   distanceFault,

@@ -5,9 +5,9 @@ use Prim.Native.Nat.{ℕ, _+_}
 use native.Mathlib.Numerals.{add-one}
 use Rattle.graph.specs.Cost.{Cost, none, fin}
 use Rattle.meaning.specs.Bound.{join, summed}
-use Rattle.views.specs.Said.{NONE, said}
+use Rattle.sweep.specs.Said.{NONE, said}
 use Rattle.views.specs.Sums.{totalIf}
-use Rattle.views.proofs.Saids.{said-none, said-fin}
+use Rattle.sweep.proofs.Saids.{said-none, said-fin}
 
 join-none : (v : Cost) → v ≡ join v none
 join-none none = refl

@@ -12,18 +12,18 @@ use Rattle.meaning.specs.Sas.{State}
 use Rattle.meaning.specs.Views.{α, abstractStates, IsDistanceAt, viewGraph}
 use Rattle.meaning.specs.Split.{Task, view}
 use Rattle.meaning.specs.Bound.{summed}
-use Rattle.tables.specs.declared.scan.Found.{Found}
-use Rattle.tables.specs.declared.scan.Found.the-variants.{Clean, Fault}
+use Rattle.scan.specs.declared.Found.{Found}
+use Rattle.scan.specs.declared.Found.the-variants.{Clean, Fault}
 use Rattle.tables.specs.Layout.{Tables}
 use Rattle.tables.specs.Task.{taskOf, stateOf}
-use Rattle.tables.specs.Scan.{unless, _then_, tablesFault, stateFault}
+use Rattle.scan.specs.Scan.{unless, _then_, tablesFault, stateFault}
 use Rattle.views.specs.declared.DistancesAnswer.{DistancesAnswer}
 use Rattle.views.specs.declared.DistancesAnswer.the-variants as distances
 use Rattle.views.specs.declared.DistanceAnswer.{DistanceAnswer}
 use Rattle.views.specs.declared.DistanceAnswer.the-variants as distance
 use Rattle.views.specs.declared.BoundAnswer.{BoundAnswer}
 use Rattle.views.specs.declared.BoundAnswer.the-variants as bound
-use Rattle.views.specs.Said.{said}
+use Rattle.sweep.specs.Said.{said}
 
 -- DISTANCES. out′ holds the distances of map m at all its abstract states, r is the count of rounds, and the places beyond the map are as they were
 pub record DistancesOf (T : Task) (m : ℕ) (out : List ℕ) (r : ℕ) (out′ : List ℕ) : Type 0 where

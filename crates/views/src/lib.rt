@@ -1,27 +1,23 @@
 // Goal distances in simplified views, and the summed bound of a state.
-pub mod classes;
-pub mod maps;
 pub mod sums;
-pub mod sweep;
-pub mod walk;
 
 ghost use mathlib.Core.Path.{_≡_};
 ghost use Rattle.tables.specs.Task.{tables};
-ghost use Rattle.views.specs.Said.{said};
+ghost use Rattle.sweep.specs.Said.{said};
 ghost use Rattle.views.specs.Sums.{sumSaid};
 ghost use Rattle.views.specs.Entries.{askedFault, distanceFault, boundFault, distanceSaid, boundSaid, DistancesGiven, DistanceGiven, BoundGiven};
-use crate::maps::STATES;
-use crate::maps::away_of;
-use crate::maps::share_row;
-use crate::maps::view_rounds;
 use crate::sums::Sum;
 use crate::sums::sum_of;
-use crate::sweep::NO_COST;
 use refusals::Refusal;
+use scan::Found;
+use scan::state_fault;
+use scan::tables_fault;
+use sweep::maps::STATES;
+use sweep::maps::away_of;
+use sweep::maps::share_row;
+use sweep::maps::view_rounds;
+use sweep::rounds::NO_COST;
 use tables::Counts;
-use tables::scan::Found;
-use tables::scan::state_fault;
-use tables::scan::tables_fault;
 
 // The answer of `distances`: the count of rounds, or why not.
 pub enum DistancesAnswer {

@@ -6,11 +6,11 @@ ghost use Rattle.meaning.specs.Sas.{IsState};
 ghost use Rattle.meaning.specs.Split.{Valid};
 ghost use Rattle.meaning.specs.Bound.{bound, join};
 ghost use Rattle.tables.specs.Task.{taskOf, tables, stateOf};
-ghost use Rattle.views.specs.Said.{said};
-ghost use Rattle.views.specs.Classes.{unpriced, SharesSmall};
+ghost use Rattle.sweep.specs.Said.{said};
+ghost use Rattle.sweep.specs.Classes.{unpriced, SharesSmall};
 ghost use Rattle.views.specs.Sums.{sumSaid};
-use crate::maps::away_of;
-use crate::sweep::NO_COST;
+use sweep::maps::away_of;
+use sweep::rounds::NO_COST;
 use tables::Counts;
 
 // A sum under way: whether some map said a number, and their total.

@@ -2,7 +2,7 @@
 use borrow.Author.Needs.{needs}
 use mathlib.Core.Path.{_∙_}
 use Rattle.tables.specs.Task.{tables}
-use Rattle.tables.specs.Scan.{tablesFault}
+use Rattle.scan.specs.Scan.{tablesFault}
 use Rattle.views.specs.Entries.{noSuchMap, askedFault}
 use Rattle.views.proofs.Judging.{hands-on, goes-on, map-there, map-missing}
 use Rattle.views.proofs.asked_fault.Statement.{statement}

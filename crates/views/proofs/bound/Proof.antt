@@ -3,7 +3,7 @@ use borrow.Author.Needs.{needs}
 use mathlib.Core.Path.{sym, _∙_}
 use Rattle.tables.specs.Task.{tables}
 use Rattle.views.specs.Sums.{sumSaid}
-use Rattle.views.proofs.Viewing.{valid-unpriced}
+use Rattle.sweep.proofs.Viewing.{valid-unpriced}
 use Rattle.views.proofs.Judging.{bound-clean, given-bound-refused, given-bound}
 use Rattle.views.proofs.bound.Statement.{statement}
 use Rattle.views.proofs.bound.Tie as tie

@@ -2,7 +2,7 @@
 use borrow.Author.Needs.{needs}
 use mathlib.Core.Path.{_∙_}
 use Rattle.tables.specs.Task.{tables}
-use Rattle.tables.specs.Scan.{tablesFault, stateFault}
+use Rattle.scan.specs.Scan.{tablesFault, stateFault}
 use Rattle.views.specs.Entries.{boundFault}
 use Rattle.views.proofs.Judging.{hands-on, goes-on}
 use Rattle.views.proofs.bound_fault.Statement.{statement}

@@ -2,7 +2,7 @@
 use borrow.Author.Needs.{needs}
 use mathlib.Core.Path.{sym, _∙_}
 use Rattle.tables.specs.Task.{tables}
-use Rattle.views.proofs.Viewing.{valid-unpriced}
+use Rattle.sweep.proofs.Viewing.{valid-unpriced}
 use Rattle.views.proofs.Judging.{distance-clean, given-distance-refused, given-distance}
 use Rattle.views.proofs.distance_at.Statement.{statement}
 use Rattle.views.proofs.distance_at.Tie as tie

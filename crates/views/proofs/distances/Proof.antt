@@ -3,7 +3,7 @@ use borrow.Author.Needs.{needs}
 use mathlib.Core.Path.{sym, _∙_}
 use native.Mathlib.Omega.{arith}
 use Rattle.tables.specs.Task.{tables}
-use Rattle.views.proofs.Viewing.{valid-unpriced, shares-priced}
+use Rattle.sweep.proofs.Viewing.{valid-unpriced, shares-priced}
 use Rattle.views.proofs.Judging.{asked-clean, given-short, given-refused, given-rounds}
 use Rattle.views.proofs.distances.Statement.{statement}
 use Rattle.views.proofs.distances.Tie as tie

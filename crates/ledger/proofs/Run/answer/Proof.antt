@@ -1,7 +1,7 @@
 -- `Run::answer` meets its contract. Assumes nothing.
 use Rattle.ledger.proofs.Accepted.{answered-fault, answered-judged, answered-not-a-run}
 use Rattle.ledger.proofs.Runs.{run-len}
-use Rattle.tables.proofs.Validity.{clean-valid}
+use Rattle.scan.proofs.Validity.{clean-valid}
 use Rattle.tables.specs.Layout.{Tables}
 use Rattle.tables.specs.Task.{tables}
 use borrow.Author.Needs.{needs}

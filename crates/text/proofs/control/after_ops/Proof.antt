@@ -1,5 +1,5 @@
 -- `text::control::after_ops` meets its contract: by whether there are operators. Assumes nothing.
-use Rattle.text.specs.Fields.{pick}
+use Rattle.grammar.specs.Fields.{pick}
 use borrow.Author.Needs.{needs}
 use borrow.Author.Tests.{eq-eqb, ne-eqb}
 use Rattle.text.proofs.control.after_ops.Statement.{statement}

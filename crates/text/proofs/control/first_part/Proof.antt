@@ -1,5 +1,5 @@
 -- `text::control::first_part` meets its contract: by the field and the number of operators. Assumes nothing.
-use Rattle.text.specs.Fields.{pick}
+use Rattle.grammar.specs.Fields.{pick}
 use borrow.Author.Tests.{eq-eqb, ne-eqb}
 use Rattle.text.proofs.control.first_part.Statement.{statement}
 use Rattle.text.proofs.control.first_part.Tie as tie

@@ -1,5 +1,5 @@
 -- `text::end::end_code` meets its contract: a fault found before, the end, or the run that stands there. Assumes nothing.
-use Rattle.text.specs.Fields.{pick}
+use Rattle.grammar.specs.Fields.{pick}
 use Rattle.text.specs.Machine.{ended}
 use borrow.Author.Needs.{needs}
 use borrow.Author.Tests.{eq-eqb, ne-eqb}

@@ -1,5 +1,5 @@
 -- `text::end::finish` meets its contract: a fault, an operator above its cost, or the tables filled. Assumes nothing.
-use Rattle.text.specs.Fields.{pick}
+use Rattle.grammar.specs.Fields.{pick}
 use Rattle.text.specs.Machine.{done, written}
 use borrow.Author.Needs.{needs}
 use borrow.Author.Tests.{eq-eqb, ne-eqb}

@@ -1,7 +1,7 @@
 -- `text::end::over_line` meets its contract: the invariant is by the operators that are left. Assumes nothing.
 use Prim.Native.Nat.{_-_, _≤_}
 use Rattle.text.proofs.Laws.{over-none, over-passed, over-told}
-use Rattle.text.specs.Fields.{overLine}
+use Rattle.grammar.specs.Fields.{overLine}
 use Rattle.text.specs.Machine.{costIn, over, shareIn}
 use borrow.Author.Needs.{needs}
 use mathlib.Core.Path.{_∙_, _≡_, sym}

@@ -1,5 +1,5 @@
 -- `text::end::refusal_of` meets its contract: by the number. Assumes nothing.
-use Rattle.text.specs.Fields.{pick}
+use Rattle.grammar.specs.Fields.{pick}
 use Rattle.text.specs.Machine.{refusalOf}
 use borrow.Author.Tests.{eq-eqb, ne-eqb}
 use Rattle.text.proofs.end.refusal_of.Statement.{statement}

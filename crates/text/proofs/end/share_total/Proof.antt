@@ -1,7 +1,7 @@
 -- `text::end::share_total` meets its contract: the invariant is the total of the maps passed, and its bound. Assumes nothing.
 use Prim.Native.Nat.{_*_, _-_, _≤_, ℕ}
 use Rattle.text.proofs.Laws.{total-next}
-use Rattle.text.specs.Fields.{shareTotal}
+use Rattle.grammar.specs.Fields.{shareTotal}
 use Rattle.text.specs.Machine.{shareIn}
 use borrow.Author.Needs.{needs}
 use mathlib.Core.Path.{_∙_, _≡_, ap, refl, sym}

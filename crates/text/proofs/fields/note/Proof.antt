@@ -1,6 +1,6 @@
 -- `text::fields::note` meets its contract: by the field. Assumes nothing.
 use Rattle.text.proofs.Laws.{at-field}
-use Rattle.text.specs.Fields.{pick}
+use Rattle.grammar.specs.Fields.{pick}
 use Rattle.text.specs.Machine.{noted}
 use borrow.Author.Needs.{needs}
 use borrow.Author.Tests.{ne-eqb}

@@ -1,5 +1,5 @@
 -- `text::fields::store` meets its contract: by the field, each number to its place. Assumes nothing.
-use Rattle.text.specs.Fields.{pick}
+use Rattle.grammar.specs.Fields.{pick}
 use Rattle.text.specs.Machine.{stored}
 use borrow.Author.Needs.{needs}
 use borrow.Author.Tests.{ne-eqb}

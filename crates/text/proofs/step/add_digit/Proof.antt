@@ -1,5 +1,5 @@
 -- `text::step::add_digit` meets its contract: after a single 0 none may stand. Assumes nothing.
-use Rattle.text.specs.Fields.{pick}
+use Rattle.grammar.specs.Fields.{pick}
 use Rattle.text.specs.Machine.{digit}
 use borrow.Author.Needs.{needs}
 use borrow.Author.Tests.{eq-eqb, ne-eqb}

@@ -1,5 +1,5 @@
 -- `text::step::after_class` meets its contract: within a list, between two lists, after the last. Assumes nothing.
-use Rattle.text.specs.Fields.{pick}
+use Rattle.grammar.specs.Fields.{pick}
 use Rattle.text.specs.Machine.{afterClass}
 use borrow.Author.Needs.{needs}
 use Rattle.text.proofs.step.after_class.Statement.{statement}

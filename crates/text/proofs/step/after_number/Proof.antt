@@ -1,5 +1,5 @@
 -- `text::step::after_number` meets its contract: by the kind of the field. Assumes nothing.
-use Rattle.text.specs.Fields.{pick}
+use Rattle.grammar.specs.Fields.{pick}
 use Rattle.text.specs.Machine.{after}
 use borrow.Author.Needs.{needs}
 use borrow.Author.Tests.{ne-eqb}

@@ -1,5 +1,5 @@
 -- `text::step::close_run` meets its contract: the fault, or the number kept and the byte judged. Assumes nothing.
-use Rattle.text.specs.Fields.{pick}
+use Rattle.grammar.specs.Fields.{pick}
 use Rattle.text.specs.Machine.{closed}
 use borrow.Author.Needs.{needs}
 use borrow.Author.Tests.{eq-eqb, ne-eqb}

@@ -1,5 +1,5 @@
 -- `text::step::dash_here` meets its contract: the dash, the field, and nothing before. Assumes nothing.
-use Rattle.text.specs.Fields.{pick}
+use Rattle.grammar.specs.Fields.{pick}
 use Rattle.text.specs.Machine.{dashHere}
 use borrow.Author.Needs.{needs}
 use borrow.Author.Tests.{eq-eqb, ne-eqb}

@@ -1,5 +1,5 @@
 -- `text::step::is_digit` meets its contract: between the two. Assumes nothing.
-use Rattle.text.specs.Fields.{isDigit, pick}
+use Rattle.grammar.specs.Fields.{isDigit, pick}
 use borrow.Author.Tests.{le-leb, lt-leb}
 use Rattle.text.proofs.step.is_digit.Statement.{statement}
 use Rattle.text.proofs.step.is_digit.Tie as tie

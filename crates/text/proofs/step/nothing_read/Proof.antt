@@ -1,5 +1,5 @@
 -- `text::step::nothing_read` meets its contract: two tests. Assumes nothing.
-use Rattle.text.specs.Fields.{pick}
+use Rattle.grammar.specs.Fields.{pick}
 use borrow.Author.Tests.{eq-eqb, ne-eqb}
 use Rattle.text.proofs.step.nothing_read.Statement.{statement}
 use Rattle.text.proofs.step.nothing_read.Tie as tie

@@ -1,6 +1,6 @@
 -- `text::step::run_after` meets its contract: a first digit that is 0, and any other. Assumes nothing.
 use Prim.Native.Nat.{_+_}
-use Rattle.text.specs.Fields.{pick}
+use Rattle.grammar.specs.Fields.{pick}
 use borrow.Author.Tests.{ne-eqb}
 use native.Mathlib.Omega.{arith}
 use Rattle.text.proofs.step.run_after.Statement.{statement}

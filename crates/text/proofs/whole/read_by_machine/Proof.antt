@@ -1,5 +1,5 @@
 -- `text::whole::read_by_machine` meets its contract: a short table, a long text, or what the machine says. Assumes nothing.
-use Rattle.text.specs.Fields.{admitted, pick}
+use Rattle.grammar.specs.Fields.{admitted, pick}
 use Rattle.text.specs.Machine.{St, areaRoom, done, feed, mk, readAll}
 use Rattle.text.specs.declared.Ctrl.{Ctrl}
 use borrow.Author.Needs.{needs}

@@ -1,0 +1,202 @@
+-- Each line of the text on what is spelled: what the scan says of the same numbers, and the numbers in their places. Assumes nothing.
+use Prim.Native.String.{String}
+use Prim.Native.Nat.{ℕ, zero, suc, _+_, _≤_, _<_}
+use native.Mathlib.Omega.{arith}
+use mathlib.Core.Path.{_≡_, refl, ap, _∙_}
+use mathlib.Core.List.{List, [], _∷_, _++_, append-assoc}
+use mathlib.Core.Bool.{Bool, true, false, _&&_}
+use lib.Dec.{leb, ltb, leb·suc-suc}
+use lib.ListN.{set}
+use Rattle.refusals.specs.declared.Refusal.the-variants.{OutOfRange}
+use Rattle.meaning.specs.Split.{Task}
+use Rattle.scan.specs.declared.Found.the-variants.{Clean}
+use Rattle.tables.specs.Layout.{Tables, domAt, domPlace, initPlace, goalPlace, prePlace, effPlace, sharePlace}
+use Rattle.scan.specs.Scan.{unless, _then_, each, factsFault, operatorFault, mapFault, sharesFault, within as scanWithin}
+use Rattle.grammar.specs.Fields.{pick, isDigit, lineEnd, comma, dash, semicolon, mostValues, mostCost}
+use Rattle.grammar.specs.Grammar.{Next, Part, _▸_, nothing, ask, keep, lit, within, number, row as numberRow, line, factList, withCounts, putFact, putCost, putShare, editionLine, varsLine, domLine, initLine, goalLine, opsLine, operator, mapsLine, variables, amounts}
+use Rattle.grammar.specs.Spelling.{digits, joined, numbers, someFacts, keyed, opText, mapText, shareText, changed, row, factRow, opRows, mapRows}
+use Rattle.grammar.proofs.Runs.{other}
+use Rattle.grammar.proofs.SpellParts.{judged, next, Told, ToldLine, lit-told, number-told, row-told, line-told}
+use Rattle.grammar.proofs.SpellFacts.{within-below, on, on-changed, Knows, knows-set, knows-facts, Ends, facts-told}
+use Rattle.grammar.proofs.SpellMaps.{variables-told}
+
+-- ---- ranges as the grammar and as the scan have them
+
+within-range : (v least most : ℕ) → within v least (suc most) ≡ scanWithin least most v
+unfolding within pick
+within-range v least most = go (leb least v)
+  where
+    go : (p : Bool) → pick p (ltb v (suc most)) false ≡ p && leb v most
+    go true = leb·suc-suc v most
+    go false = refl
+
+within-most : (v most : ℕ) → within v 0 (suc most) ≡ leb v most
+within-most v most = within-below v (suc most) ∙ leb·suc-suc v most
+
+-- ---- what may follow
+
+line-ends : Ends lineEnd
+unfolding isDigit pick
+line-ends = record { no-digit = refl; no-comma = refl }
+
+semicolon-ends : Ends semicolon
+unfolding isDigit pick
+semicolon-ends = record { no-digit = refl; no-comma = refl }
+
+-- ---- a line with one number
+
+count-told : (least most v : ℕ) (p : ℕ → Part) (rest : List ℕ) (l : ℕ) (T U : Tables) (test : Bool) → within v least (suc most) ≡ test
+    → ((k : Next) → p v (lineEnd ∷ rest) l T k ≡ k (lineEnd ∷ rest) l U) → Told (number least (suc most) p) (digits v) (lineEnd ∷ rest) l T (unless test (OutOfRange l)) U
+count-told least most v p rest l T U test e h k =
+    number-told least (suc most) v p (lineEnd ∷ rest) l T k (other (line-ends .no-digit))
+    ∙ ap (judged (unless (within v least (suc most)) (OutOfRange l))) (h k)
+    ∙ ap (λ (b : Bool). judged (unless b (OutOfRange l)) (k (lineEnd ∷ rest) l U)) e
+
+module _ (rest : List ℕ) (l : ℕ) (T : Tables) where
+  pub edition-told : ToldLine editionLine (keyed "edition=" (digits 1)) rest l T Clean T
+  unfolding editionLine nothing within pick
+  edition-told = line-told "edition=" _ (digits 1) rest l T T Clean (count-told 1 1 1 (λ e. nothing) rest l T T true refl (λ k. refl))
+
+  count-line : (key : String) (least most v : ℕ) (f : ℕ → Tables → Tables) (test : Bool) → within v least (suc most) ≡ test
+      → ToldLine (line key (number least (suc most) (λ n. keep (f n)))) (keyed key (digits v)) rest l T (unless test (OutOfRange l)) (f v T)
+  unfolding keep
+  count-line key least most v f test e =
+      line-told key (number least (suc most) (λ n. keep (f n))) (digits v) rest l T (f v T) (unless test (OutOfRange l))
+      (count-told least most v (λ n. keep (f n)) rest l T (f v T) test e (λ k. refl))
+
+  pub vars-told : (n : ℕ) → ToldLine varsLine (keyed "vars=" (digits n)) rest l T (unless (scanWithin 1 8 n) (OutOfRange l)) (withCounts n (T .counts .ops) (T .counts .maps) T)
+  unfolding varsLine
+  vars-told n = count-line "vars=" 1 8 n _ (scanWithin 1 8 n) (within-range n 1 8)
+
+  pub ops-told : (n : ℕ) → ToldLine opsLine (keyed "ops=" (digits n)) rest l T (unless (leb n 64) (OutOfRange l)) (withCounts (T .counts .vars) n (T .counts .maps) T)
+  unfolding opsLine
+  ops-told n = count-line "ops=" 0 64 n _ (leb n 64) (within-most n 64)
+
+  pub maps-told : (n : ℕ) → ToldLine mapsLine (keyed "maps=" (digits n)) rest l T (unless (scanWithin 1 8 n) (OutOfRange l)) (withCounts (T .counts .vars) (T .counts .ops) n T)
+  unfolding mapsLine
+  maps-told n = count-line "maps=" 1 8 n _ (scanWithin 1 8 n) (within-range n 1 8)
+
+-- ---- dom=, init= and goal=
+
+module _ (key : String) (least : ℕ) (limit : ℕ → Tables → ℕ) (place f : ℕ → ℕ) (test : ℕ → Bool) (P : Tables → Type 0) (N : ℕ)
+    (keeps : (i : ℕ) (T : Tables) → i < N → P T → P (putFact (place i) (f i) T))
+    (tests : (i : ℕ) (T : Tables) → i < N → P T → within (f i) least (limit i T) ≡ test i) where
+  abbrev rowPart : ℕ → Part
+  rowPart n = numberRow least limit (λ v x. putFact (place v) x) n 0
+
+  row-line : (rest : List ℕ) (l : ℕ) (T : Tables) → T .counts .vars ≡ N → P T
+      → ToldLine (line key (ask (λ U. rowPart (U .counts .vars)))) (keyed key (numbers f N)) rest l T (each (λ v. unless (test v) (OutOfRange l)) N 0) (on (row place f N) T)
+  unfolding ask numbers row
+  row-line rest l T e p =
+      line-told key (ask (λ U. rowPart (U .counts .vars))) (joined comma (λ v. digits (f v)) N 0) rest l T
+      (on (changed (λ v w. set w (place v) (f v)) N 0) T) (each (λ v. unless (test v) (OutOfRange l)) N 0)
+      (λ k. ap (λ (n : ℕ). rowPart n (joined comma (λ v. digits (f v)) N 0 ++ lineEnd ∷ rest) l T k) e
+      ∙ row-told least limit (λ v x. putFact (place v) x) f test P N keeps tests N 0 (omega arith) (lineEnd ∷ rest) (other (line-ends .no-digit)) l T p k
+      ∙ ap (λ (U : Tables). judged (each (λ v. unless (test v) (OutOfRange l)) N 0) (k (lineEnd ∷ rest) l U)) (on-changed (λ v w. set w (place v) (f v)) N 0 T))
+
+module _ (τ : Task) (rest : List ℕ) (l : ℕ) (T : Tables) where
+  pub dom-told : T .counts .vars ≡ τ .sas .vars
+      → ToldLine domLine (keyed "dom=" (numbers (τ .sas .dom) (τ .sas .vars))) rest l T (each (λ v. unless (scanWithin 1 8 (τ .sas .dom v)) (OutOfRange l)) (τ .sas .vars) 0)
+      (on (row domPlace (τ .sas .dom) (τ .sas .vars)) T)
+  unfolding domLine
+  dom-told e =
+      row-line "dom=" 1 (λ v U. mostValues + 1) domPlace (τ .sas .dom) (λ v. scanWithin 1 8 (τ .sas .dom v)) (λ U. Unit {0}) (τ .sas .vars)
+      (λ i U h p. tt) (λ i U h p. within-range (τ .sas .dom i) 1 8) rest l T e tt
+
+  pub init-told : Knows (τ .sas .vars) (τ .sas .dom) T
+      → ToldLine initLine (keyed "init=" (numbers (τ .sas .init) (τ .sas .vars))) rest l T (each (λ v. unless (ltb (τ .sas .init v) (τ .sas .dom v)) (OutOfRange l)) (τ .sas .vars) 0)
+      (on (row initPlace (τ .sas .init) (τ .sas .vars)) T)
+  unfolding initLine
+  init-told w =
+      row-line "init=" 0 (λ v U. domAt (U .facts) v) initPlace (τ .sas .init) (λ v. ltb (τ .sas .init v) (τ .sas .dom v)) (Knows (τ .sas .vars) (τ .sas .dom)) (τ .sas .vars)
+      (λ i U h p. knows-set U (initPlace i) (τ .sas .init i) (omega arith) p) (λ i U h p. within-below (τ .sas .init i) (domAt (U .facts) i) ∙ ap (ltb (τ .sas .init i)) (p .doms i h))
+      rest l T (w .vars) w
+
+  pub goal-told : Knows (τ .sas .vars) (τ .sas .dom) T
+      → ToldLine goalLine (keyed "goal=" (someFacts (τ .sas .goal) (τ .sas .vars) 0)) rest l T (factsFault τ (τ .sas .goal) l) (on (factRow goalPlace (τ .sas .goal) (τ .sas .vars)) T)
+  unfolding goalLine factsFault
+  goal-told w =
+      line-told "goal=" (factList goalPlace) (someFacts (τ .sas .goal) (τ .sas .vars) 0) rest l T _ (factsFault τ (τ .sas .goal) l)
+      (facts-told goalPlace (λ v. omega arith) (τ .sas .goal) (τ .sas .dom) (τ .sas .vars) lineEnd rest line-ends l T w)
+
+-- ---- op=cost;preconditions;effects
+
+abbrev pub opChange : Task → ℕ → Tables → Tables
+opChange τ o T = on (opRows τ o) (putCost o (τ .sas .cost o) T)
+
+module _ (τ : Task) (o : ℕ) (T : Tables) (w : Knows (τ .sas .vars) (τ .sas .dom) T) (rest : List ℕ) where
+  -- the two lists of facts
+  abbrev effPart : List ℕ
+  effPart = someFacts (τ .sas .eff o) (τ .sas .vars) 0 ++ lineEnd ∷ rest
+
+  abbrev prePart : List ℕ
+  prePart = someFacts (τ .sas .pre o) (τ .sas .vars) 0 ++ semicolon ∷ effPart
+
+  abbrev preDone : Tables
+  preDone = on (factRow (prePlace o) (τ .sas .pre o) (τ .sas .vars)) (putCost o (τ .sas .cost o) T)
+
+  eff-told : (k : Next) → (lit (semicolon ∷ []) ▸ factList (effPlace o)) (semicolon ∷ effPart) (7 + o) preDone k
+      ≡ judged (factsFault τ (τ .sas .eff o) (7 + o)) (k (lineEnd ∷ rest) (7 + o) (opChange τ o T))
+  unfolding _▸_ factsFault opRows
+  eff-told k =
+      lit-told (semicolon ∷ []) effPart (7 + o) preDone _
+      ∙ facts-told (effPlace o) (λ v. omega arith) (τ .sas .eff o) (τ .sas .dom) (τ .sas .vars) lineEnd rest line-ends (7 + o) preDone
+      (knows-facts (prePlace o) (τ .sas .pre o) (λ v. omega arith) (τ .sas .vars) (putCost o (τ .sas .cost o) T) (record { vars = w .vars; few = w .few; doms = w .doms })) k
+
+  pre-told : (k : Next) → (lit (semicolon ∷ []) ▸ factList (prePlace o) ▸ lit (semicolon ∷ []) ▸ factList (effPlace o)) (semicolon ∷ prePart) (7 + o) (putCost o (τ .sas .cost o) T) k
+      ≡ judged (factsFault τ (τ .sas .pre o) (7 + o) then factsFault τ (τ .sas .eff o) (7 + o)) (k (lineEnd ∷ rest) (7 + o) (opChange τ o T))
+  unfolding _▸_ factsFault
+  pre-told k =
+      lit-told (semicolon ∷ []) prePart (7 + o) (putCost o (τ .sas .cost o) T) _
+      ∙ next (factsFault τ (τ .sas .pre o) (7 + o)) (factsFault τ (τ .sas .eff o) (7 + o)) _
+      (facts-told (prePlace o) (λ v. omega arith) (τ .sas .pre o) (τ .sas .dom) (τ .sas .vars) semicolon effPart semicolon-ends (7 + o) (putCost o (τ .sas .cost o) T)
+      (record { vars = w .vars; few = w .few; doms = w .doms }) _)
+      (λ c. eff-told k)
+
+  operator-told : Told (operator o) (opText τ o) (lineEnd ∷ rest) (7 + o) T (operatorFault τ o) (opChange τ o T)
+  unfolding operator opText operatorFault _▸_ keep
+  operator-told k =
+      let e : opText τ o ++ lineEnd ∷ rest ≡ digits (τ .sas .cost o) ++ (semicolon ∷ prePart) = simp append-assoc in
+      next (unless (leb (τ .sas .cost o) 1000000) (OutOfRange (7 + o))) (factsFault τ (τ .sas .pre o) (7 + o) then factsFault τ (τ .sas .eff o) (7 + o)) _
+      (ap (λ (t : List ℕ). operator o t (7 + o) T k) e
+      ∙ number-told 0 (mostCost + 1) (τ .sas .cost o) _ (semicolon ∷ prePart) (7 + o) T _ (other (semicolon-ends .no-digit))
+      ∙ rw (within-most (τ .sas .cost o) 1000000) refl)
+      (λ c. pre-told k)
+
+  pub op-told : ToldLine (line "op=" (operator o)) (keyed "op=" (opText τ o)) rest (7 + o) T (operatorFault τ o) (opChange τ o T)
+  op-told = line-told "op=" (operator o) (opText τ o) rest (7 + o) T (opChange τ o T) (operatorFault τ o) operator-told
+
+-- ---- map=
+
+module _ (τ : Task) (m : ℕ) (T : Tables) (w : Knows (τ .sas .vars) (τ .sas .dom) T) (small : (v : ℕ) → v < τ .sas .vars → τ .sas .dom v ≤ 8) (rest : List ℕ) where
+  pub map-told : ToldLine (line "map=" (variables m (τ .sas .vars) 0 1)) (keyed "map=" (mapText τ m)) rest (8 + τ .sas .ops + m) T (mapFault τ m) (on (mapRows τ m) T)
+  unfolding mapText mapFault mapRows
+  map-told =
+      line-told "map=" (variables m (τ .sas .vars) 0 1) (mapText τ m) rest (8 + τ .sas .ops + m) T (on (mapRows τ m) T) (mapFault τ m)
+      (variables-told τ m (8 + τ .sas .ops + m) (lineEnd ∷ rest) (other (line-ends .no-digit)) small (τ .sas .vars) 0 1 (omega arith) refl T w)
+
+-- ---- share=
+
+abbrev pub onShares : (List ℕ → List ℕ) → Tables → Tables
+onShares g T = record { counts = T .counts; facts = T .facts; costs = T .costs; shares = g (T .shares) }
+
+pub shares-changed : (g : ℕ → List ℕ → List ℕ) (n i : ℕ) (T : Tables) → changed (λ j. onShares (g j)) n i T ≡ onShares (changed g n i) T
+unfolding changed
+shares-changed g zero i T = refl
+shares-changed g (suc n) i T = shares-changed g n (suc i) (onShares (g i) T)
+
+amounts-told : (share : ℕ → ℕ) (m n : ℕ) (rest : List ℕ) (l : ℕ) (T : Tables)
+    → Told (amounts m n) (shareText share n) (lineEnd ∷ rest) l T (each (λ o. unless (leb (share o) 1000000) (OutOfRange l)) n 0) (onShares (row (sharePlace m) share n) T)
+unfolding amounts shareText row numbers each changed
+amounts-told share m zero rest l T k = lit-told (dash ∷ []) (lineEnd ∷ rest) l T k
+amounts-told share m (suc n) rest l T k =
+    row-told 0 (λ o U. mostCost + 1) (λ o x. putShare (sharePlace m o) x) share (λ o. leb (share o) 1000000) (λ U. Unit {0}) (suc n)
+    (λ i U h p. tt) (λ i U h p. within-most (share i) 1000000) (suc n) 0 (omega arith) (lineEnd ∷ rest) (other (line-ends .no-digit)) l T tt k
+    ∙ ap (λ (U : Tables). judged (each (λ o. unless (leb (share o) 1000000) (OutOfRange l)) (suc n) 0) (k (lineEnd ∷ rest) l U)) (shares-changed (λ o x. set x (sharePlace m o) (share o)) (suc n) 0 T)
+
+pub share-told : (τ : Task) (m : ℕ) (T : Tables) (rest : List ℕ)
+    → ToldLine (line "share=" (amounts m (τ .sas .ops))) (keyed "share=" (shareText (τ .share m) (τ .sas .ops))) rest (8 + τ .sas .ops + τ .maps + m) T (sharesFault τ m) (onShares (row (sharePlace m) (τ .share m) (τ .sas .ops)) T)
+unfolding sharesFault
+share-told τ m T rest =
+    line-told "share=" (amounts m (τ .sas .ops)) (shareText (τ .share m) (τ .sas .ops)) rest (8 + τ .sas .ops + τ .maps + m) T _ (sharesFault τ m)
+    (amounts-told (τ .share m) m (τ .sas .ops) rest (8 + τ .sas .ops + τ .maps + m) T)

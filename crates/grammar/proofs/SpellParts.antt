@@ -1,0 +1,144 @@
+-- Parts of the text on what is spelled: each reads it, and says what the scan says of the same numbers: a number, a row, a line, several lines.
+-- Assumes nothing.
+use Prim.Native.Nat.{ℕ, zero, suc, _+_, _<_}
+use Prim.Native.String.{String}
+use native.Mathlib.Omega.{arith}
+use native.Mathlib.Numerals.{add-one}
+use mathlib.Core.Path.{_≡_, refl, sym, ap, _∙_}
+use mathlib.Core.List.{List, [], _∷_, _++_, append-assoc}
+use mathlib.Core.Bool.{Bool, true, false}
+use borrow.Author.Tests.{eq-eqb}
+use Rattle.refusals.specs.declared.Refusal.{Refusal}
+use Rattle.refusals.specs.declared.Refusal.the-variants.{OutOfRange}
+use Rattle.scan.specs.declared.Found.{Found}
+use Rattle.scan.specs.declared.Found.the-variants.{Clean, Fault}
+use Rattle.tables.specs.Layout.{Tables}
+use Rattle.scan.specs.Scan.{unless, _then_, each}
+use Rattle.grammar.specs.Fields.{pick, isDigit, bytes, lineEnd, comma}
+use Rattle.grammar.specs.Grammar.{Verdict, refused, Next, Part, _▸_, keep, demand, lit, within, number, parted, row, endOfLine, line, lines}
+use Rattle.grammar.specs.Spelling.{digits, gap, joined, keyed, stacked, changed}
+use Rattle.grammar.proofs.Runs.{Stop, other}
+use Rattle.grammar.proofs.Decimal.{digits-read}
+
+-- the verdict where a rule comes first
+abbrev pub judged : Found → Verdict → Verdict
+judged Clean A = A
+judged (Fault r) A = refused r
+
+-- what follows counts only if the rule holds
+pub judged-on : (f : Found) {A B : Verdict} → (f ≡ Clean → A ≡ B) → judged f A ≡ judged f B
+judged-on Clean h = h refl
+judged-on (Fault r) h = refl
+
+pub judged-then : (f g : Found) (A : Verdict) → judged (f then g) A ≡ judged f (judged g A)
+judged-then Clean g A = refl
+judged-then (Fault r) g A = refl
+
+-- one rule, and then, if it holds, another
+pub next : {A B : Verdict} (f g : Found) (C : Verdict) → A ≡ judged f B → (f ≡ Clean → B ≡ judged g C) → A ≡ judged (f then g) C
+next f g C p q = p ∙ judged-on f q ∙ sym (judged-then f g C)
+
+-- the part p on xs and what follows it: the rule f, and if it holds what follows goes on with the tables U
+abbrev pub Told : Part → List ℕ → List ℕ → ℕ → Tables → Found → Tables → Type 0
+Told p xs rest l T f U = (k : Next) → p (xs ++ rest) l T k ≡ judged f (k rest l U)
+
+-- a whole line: what follows stands in the next
+abbrev pub ToldLine : Part → List ℕ → List ℕ → ℕ → Tables → Found → Tables → Type 0
+ToldLine p xs rest l T f U = (k : Next) → p (xs ++ rest) l T k ≡ judged f (k rest (l + 1) U)
+
+pub demand-told : (b : Bool) (r : ℕ → Refusal) (t : List ℕ) (l : ℕ) (T : Tables) (k : Next) → demand b r t l T k ≡ judged (unless b (r l)) (k t l T)
+unfolding demand
+demand-told true r t l T k = refl
+demand-told false r t l T k = refl
+
+pub lit-told : (bs t : List ℕ) (l : ℕ) (T : Tables) (k : Next) → lit bs (bs ++ t) l T k ≡ k t l T
+unfolding lit _▸_ demand
+lit-told [] t l T k = refl
+lit-told (b ∷ bs) t l T k = rw (eq-eqb b b refl) (lit-told bs t l T k)
+
+-- A NUMBER, however large
+pub number-told : (least limit v : ℕ) (p : ℕ → Part) (u : List ℕ) (l : ℕ) (T : Tables) (k : Next) → Stop u
+    → number least limit p (digits v ++ u) l T k ≡ judged (unless (within v least limit) (OutOfRange l)) (p v u l T k)
+unfolding number _▸_ demand
+number-told least limit v p u l T k s =
+    let r = digits-read v u s in
+    rw (r .form, r .says, r .rest) (demand-told (within v least limit) OutOfRange u l T (λ u₁ m U. p v u₁ m U k))
+
+pub parted-told : (n mark : ℕ) (u : List ℕ) (l : ℕ) (T : Tables) (k : Next) → parted n mark (gap mark n ++ u) l T k ≡ k u l T
+unfolding parted gap
+parted-told zero mark u l T k = refl
+parted-told (suc n) mark u l T k = lit-told (mark ∷ []) u l T k
+
+comma-no-digit : isDigit comma ≡ false
+unfolding isDigit pick
+comma-no-digit = refl
+
+pub stop-gap : (n : ℕ) (xs u : List ℕ) → Stop u → (n ≡ 0 → xs ≡ []) → Stop (gap comma n ++ (xs ++ u))
+unfolding gap
+stop-gap zero xs u s e = rw (e refl) s
+stop-gap (suc n) xs u s e = other comma-no-digit
+
+pub joined-none : (mark : ℕ) (f : ℕ → List ℕ) (n i : ℕ) → n ≡ 0 → joined mark f n i ≡ []
+unfolding joined
+joined-none mark f zero i e = refl
+joined-none mark f (suc n) i e = absurd (let z : ⊥ = omega arith in z)
+
+-- the text of a row, taken apart
+pub joined-front : (mark : ℕ) (f : ℕ → List ℕ) (n i : ℕ) (u : List ℕ) → joined mark f (suc n) i ++ u ≡ f i ++ (gap mark n ++ (joined mark f n (suc i) ++ u))
+unfolding joined
+joined-front mark f n i u = simp append-assoc
+
+-- A ROW of numbers, each with its test
+module _ (least : ℕ) (limit : ℕ → Tables → ℕ) (put : ℕ → ℕ → Tables → Tables) (f : ℕ → ℕ) (test : ℕ → Bool) (P : Tables → Type 0) (N : ℕ)
+    (keeps : (i : ℕ) (T : Tables) → i < N → P T → P (put i (f i) T))
+    (tests : (i : ℕ) (T : Tables) → i < N → P T → within (f i) least (limit i T) ≡ test i) where
+  pub row-told : (n i : ℕ) → i + n ≡ N → (rest : List ℕ) → Stop rest → (l : ℕ) (T : Tables) → P T
+      → Told (row least limit put n i) (joined comma (λ j. digits (f j)) n i) rest l T (each (λ j. unless (test j) (OutOfRange l)) n i) (changed (λ j. put j (f j)) n i T)
+  unfolding row each changed _▸_ keep
+  row-told zero i e rest s l T p k = rw (joined-none comma (λ j. digits (f j)) 0 i refl) refl
+  row-told (suc n) i e rest s l T p k =
+      let tail = joined comma (λ j. digits (f j)) n (suc i) in
+      let U = put i (f i) T in
+      next {B = parted n comma (gap comma n ++ (tail ++ rest)) l U (λ u m W. row least limit put n (i + 1) u m W k)}
+      (unless (test i) (OutOfRange l)) (each (λ j. unless (test j) (OutOfRange l)) n (suc i)) _
+      (ap (λ (t : List ℕ). row least limit put (suc n) i t l T k) (joined-front comma (λ j. digits (f j)) n i rest)
+      ∙ number-told least (limit i T) (f i) _ (gap comma n ++ (tail ++ rest)) l T k (stop-gap n tail rest s (joined-none comma (λ j. digits (f j)) n (suc i)))
+      ∙ rw (tests i T (omega arith) p) refl)
+      (λ q. parted-told n comma (tail ++ rest) l U _
+      ∙ ap (λ (x : ℕ). row least limit put n x (tail ++ rest) l U k) (add-one i)
+      ∙ row-told n (suc i) (omega arith) rest s l U (keeps i T (omega arith) p) k)
+
+-- A LINE
+pub end-told : (rest : List ℕ) (l : ℕ) (T : Tables) (k : Next) → endOfLine (lineEnd ∷ rest) l T k ≡ k rest (l + 1) T
+unfolding endOfLine _▸_
+end-told rest l T k = lit-told (lineEnd ∷ []) rest l T _
+
+pub line-told : (key : String) (p : Part) (xs rest : List ℕ) (l : ℕ) (T U : Tables) (f : Found) → Told p xs (lineEnd ∷ rest) l T f U
+    → ToldLine (line key p) (keyed key xs) rest l T f U
+unfolding line keyed _▸_
+line-told key p xs rest l T U f h k =
+    let e : ((bytes key ++ xs) ++ lineEnd ∷ []) ++ rest ≡ bytes key ++ (xs ++ lineEnd ∷ rest) = simp append-assoc in
+    ap (λ (t : List ℕ). line key p t l T k) e
+    ∙ lit-told (bytes key) (xs ++ lineEnd ∷ rest) l T _
+    ∙ h _
+    ∙ ap (judged f) (end-told rest l U k)
+
+-- SEVERAL LINES, each with its rule
+module _ (p : ℕ → Part) (text : ℕ → List ℕ) (rule : ℕ → Found) (change : ℕ → Tables → Tables) (P : Tables → Type 0) (N base : ℕ)
+    (keeps : (i : ℕ) (T : Tables) → i < N → P T → P (change i T))
+    (told : (i : ℕ) (T : Tables) (rest : List ℕ) → i < N → P T → ToldLine (p i) (text i) rest (base + i) T (rule i) (change i T)) where
+  pub lines-told : (n i : ℕ) → i + n ≡ N → (rest : List ℕ) (T : Tables) → P T → (k : Next)
+      → lines p n i (stacked text n i ++ rest) (base + i) T k ≡ judged (each rule n i) (k rest (base + i + n) (changed change n i T))
+  unfolding lines stacked each changed _▸_
+  lines-told zero i e rest T pT k = let z : base + i + 0 ≡ base + i = omega arith in rw z refl
+  lines-told (suc n) i e rest T pT k =
+      let z : base + i + suc n ≡ base + suc i + n = omega arith in
+      let y : base + i + 1 ≡ base + suc i = omega arith in
+      next (rule i) (each rule n (suc i)) _
+      (ap (λ (t : List ℕ). lines p (suc n) i t (base + i) T k) (append-assoc (text i) (stacked text n (suc i)) rest)
+      ∙ told i T (stacked text n (suc i) ++ rest) (omega arith) pT (λ u m U. lines p n (i + 1) u m U k))
+      (λ c.
+      ap (λ (x : ℕ). lines p n x (stacked text n (suc i) ++ rest) (base + i + 1) (change i T) k) (add-one i)
+      ∙ ap (λ (x : ℕ). lines p n (suc i) (stacked text n (suc i) ++ rest) x (change i T) k) y
+      ∙ lines-told n (suc i) (omega arith) rest (change i T) (keeps i T (omega arith) pT) k
+      ∙ ap (λ (x : ℕ). judged (each rule n (suc i)) (k rest x (changed change n (suc i) (change i T)))) (sym z))

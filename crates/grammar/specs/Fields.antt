@@ -1,0 +1,105 @@
+-- What the grammar of the task text and the machine that reads it share: bytes, keywords, limits, and what a reading leaves behind.
+use Prim.Native.Nat.{ℕ, zero, suc, _+_, _-_}
+use Prim.Native.Char.{code}
+use Prim.Native.String.{String, [] as []ˢ, _∷_ as _∷ˢ_}
+use mathlib.Core.List.{List, [], _∷_, _++_}
+use mathlib.Core.Bool.{Bool, true, false}
+use lib.ListN.{length, replicate}
+use lib.Dec.{ltb, leb}
+use Rattle.refusals.specs.declared.Refusal.the-variants.{TextTooLong, TableTooShort}
+use Rattle.tables.specs.Layout.{factsRoom, costsRoom, sharesRoom}
+use Rattle.grammar.specs.declared.Reading.{Reading}
+use Rattle.grammar.specs.declared.Reading.the-variants.{Refused}
+
+unfoldable pub pick {ℓ} : {A : Type ℓ} → Bool → A → A → A
+pick true a b = a
+pick false a b = b
+
+-- the bytes 0 to 9
+unfoldable pub isDigit : ℕ → Bool
+isDigit b = pick (leb 48 b) (leb b 57) false
+
+-- the bytes of a text that is written out
+abbrev pub bytes : String → List ℕ
+bytes []ˢ = []
+bytes (c ∷ˢ s) = code c ∷ bytes s
+
+-- the marks between numbers
+abbrev pub lineEnd : ℕ
+lineEnd = code "\n"
+
+abbrev pub comma : ℕ
+comma = code ","
+
+abbrev pub dash : ℕ
+dash = code "-"
+
+abbrev pub slash : ℕ
+slash = code "/"
+
+abbrev pub colon : ℕ
+colon = code ":"
+
+abbrev pub semicolon : ℕ
+semicolon = code ";"
+
+-- the limits of the paper
+abbrev pub mostBytes : ℕ
+mostBytes = 16384
+
+abbrev pub mostVars : ℕ
+mostVars = 8
+
+abbrev pub mostValues : ℕ
+mostValues = 8
+
+abbrev pub mostOps : ℕ
+mostOps = 64
+
+abbrev pub mostCost : ℕ
+mostCost = 1000000
+
+abbrev pub mostMaps : ℕ
+mostMaps = 8
+
+abbrev pub mostStates : ℕ
+mostStates = 4096
+
+-- what operator o has in the first n maps together
+unfoldable pub shareTotal : (ℕ → ℕ → ℕ) → ℕ → ℕ → ℕ
+shareTotal share zero o = 0
+shareTotal share (suc n) o = shareTotal share n o + share n o
+
+-- the line of operator o in a text
+abbrev pub opLine : ℕ → ℕ
+opLine o = 7 + o
+
+-- the line of the lowest operator, of the n from o on, whose shares in all maps total above its cost; 0 if there is none
+unfoldable pub overLine : (ℕ → ℕ) → (ℕ → ℕ → ℕ) → ℕ → ℕ → ℕ → ℕ
+overLine cost share maps zero o = 0
+overLine cost share maps (suc n) o = pick (leb (shareTotal share maps o) (cost o)) (overLine cost share maps n (o + 1)) (opLine o)
+
+-- what a reading leaves behind: the answer, and the three lent tables
+pub record Outcome : Type 0 where
+  pub answer : Reading
+  pub facts : List ℕ
+  pub costs : List ℕ
+  pub shares : List ℕ
+
+abbrev pub leaves : Reading → List ℕ → List ℕ → List ℕ → Outcome
+leaves a f c s = record { answer = a; facts = f; costs = c; shares = s }
+
+-- the numbers in the first places of a lent table, and 0 in every place beyond
+unfoldable pub filled : ℕ → List ℕ → List ℕ → List ℕ
+filled room xs lent = xs ++ replicate (length lent - room) 0
+
+-- 8 for a lent table shorter than its room, then 1 for a text above the limit, then what the text itself gives
+unfoldable pub admitted : List ℕ → List ℕ → List ℕ → List ℕ → Outcome → Outcome
+admitted text f c s o =
+    pick (ltb (length f) factsRoom)
+    (leaves (Refused TableTooShort) f c s)
+    (pick (ltb (length c) costsRoom)
+    (leaves (Refused TableTooShort) f c s)
+    (pick (ltb (length s) sharesRoom)
+    (leaves (Refused TableTooShort) f c s)
+    (pick (ltb mostBytes (length text)) (leaves (Refused TextTooLong) f c s) o)))

@@ -1,0 +1,312 @@
+-- The task text as a grammar, from left to right, the first fault deciding.
+use Prim.Native.Nat.{ℕ, zero, suc, _+_, _-_, _*_}
+use Prim.Native.String.{String}
+use mathlib.Core.List.{List, [], _∷_}
+use mathlib.Core.Bool.{Bool, true, false}
+use lib.ListN.{getD, set, take, drop, replicate}
+use lib.Dec.{ltb, leb, eqb}
+use Rattle.refusals.specs.declared.Refusal.{Refusal}
+use Rattle.refusals.specs.declared.Refusal.the-variants.{
+  OffForm,
+  OutOfRange,
+  NotRising,
+  ClassMissing,
+  SharesAboveCost,
+  TooManyStates,
+}
+use Rattle.tables.specs.Layout.{
+  Tables,
+  factsRoom,
+  costsRoom,
+  sharesRoom,
+  domPlace,
+  initPlace,
+  goalPlace,
+  prePlace,
+  effPlace,
+  classPlace,
+  sharePlace,
+  domAt,
+  costAt,
+  shareAt,
+}
+use Rattle.grammar.specs.declared.Reading.the-variants.{Accepted, Refused}
+use Rattle.grammar.specs.Fields.{
+  pick,
+  isDigit,
+  bytes,
+  lineEnd,
+  comma,
+  dash,
+  slash,
+  colon,
+  semicolon,
+  mostVars,
+  mostValues,
+  mostOps,
+  mostCost,
+  mostMaps,
+  mostStates,
+  overLine,
+  Outcome,
+  leaves,
+  filled,
+  admitted,
+}
+
+-- accepted with the task's tables, or refused
+pub data Verdict : Type 0 where
+  accepted : Tables → Verdict
+  refused : Refusal → Verdict
+
+-- what follows: it gets the text that is left, the line it stands in, and the tables filled so far
+abbrev pub Next : Type 0
+Next = List ℕ → ℕ → Tables → Verdict
+
+-- a part of the text: it gets the same, and what follows it
+abbrev pub Part : Type 0
+Part = List ℕ → ℕ → Tables → Next → Verdict
+
+-- one part after another
+infixr 20 _▸_
+unfoldable pub _▸_ : Part → Part → Part
+_▸_ p q t l T k = p t l T (λ u m U. q u m U k)
+
+-- nothing is read
+unfoldable pub nothing : Part
+nothing t l T k = k t l T
+
+-- what stands next depends on the tables so far
+unfoldable pub ask : (Tables → Part) → Part
+ask p t l T k = p T t l T k
+
+unfoldable pub keep : (Tables → Tables) → Part
+keep f t l T k = k t l (f T)
+
+-- this must hold here, before the next byte is read
+unfoldable pub demand : Bool → (ℕ → Refusal) → Part
+demand true r t l T k = k t l T
+demand false r t l T k = refused (r l)
+
+-- these bytes must stand here
+unfoldable pub lit : List ℕ → Part
+lit [] t l T k = k t l T
+lit (b ∷ bs) [] l T k = refused (OffForm l)
+lit (b ∷ bs) (x ∷ t) l T k = (demand (eqb x b) OffForm ▸ lit bs) t l T k
+
+-- p after the byte b, or q where another byte or the end stands
+unfoldable pub choice : ℕ → Part → Part → Part
+choice b p q [] l T k = q [] l T k
+choice b p q (x ∷ t) l T k = pick {A = List ℕ → Verdict} (eqb x b) (λ u. p u l T k) (λ u. q (x ∷ u) l T k) t
+
+-- the digits that a text begins with: how many, and their value
+unfoldable pub runLen : List ℕ → ℕ
+runLen [] = 0
+runLen (b ∷ t) = pick (isDigit b) (suc (runLen t)) 0
+
+unfoldable pub value : ℕ → List ℕ → ℕ
+value v [] = v
+value v (b ∷ t) = value (10 * v + (b - 48)) t
+
+-- not empty, and without a needless leading zero
+unfoldable pub formed : List ℕ → Bool
+formed t = pick (eqb (runLen t) 0) false (pick (eqb (getD t 0 0) 48) (eqb (runLen t) 1) true)
+
+unfoldable pub within : ℕ → ℕ → ℕ → Bool
+within v least limit = pick (leb least v) (ltb v limit) false
+
+-- a number from least to below limit, and then what follows it; its form first, then its value, however long
+unfoldable pub number : ℕ → ℕ → (ℕ → Part) → Part
+number least limit p t l T k =
+    (demand (formed t) OffForm
+    ▸ demand (within (value 0 (take (runLen t) t)) least limit) OutOfRange
+    ▸ p (value 0 (take (runLen t) t)))
+    (drop (runLen t) t)
+    l
+    T
+    k
+
+-- the mark between two things of a row: none after the last
+unfoldable pub parted : ℕ → ℕ → Part
+parted zero mark t l T k = k t l T
+parted (suc n) mark t l T k = lit (mark ∷ []) t l T k
+
+-- n numbers parted by commas, from the i-th on, each in its range and kept in its place
+unfoldable pub row : ℕ → (ℕ → Tables → ℕ) → (ℕ → ℕ → Tables → Tables) → ℕ → ℕ → Part
+row least limit put zero i t l T k = k t l T
+row least limit put (suc n) i t l T k =
+    number least (limit i T) (λ v. keep (put i v) ▸ parted n comma ▸ row least limit put n (i + 1)) t l T k
+
+unfoldable pub endOfLine : Part
+endOfLine = lit (lineEnd ∷ []) ▸ (λ t l T k. k t (l + 1) T)
+
+unfoldable pub line : String → Part → Part
+line key p = lit (bytes key) ▸ p ▸ endOfLine
+
+-- n lines, from the i-th on
+unfoldable pub lines : (ℕ → Part) → ℕ → ℕ → Part
+lines p zero i t l T k = k t l T
+lines p (suc n) i t l T k = (p i ▸ lines p n (i + 1)) t l T k
+
+-- the tables with one number more
+abbrev pub withCounts : ℕ → ℕ → ℕ → Tables → Tables
+withCounts v o m T = record { counts = record { vars = v; ops = o; maps = m }; facts = T .facts; costs = T .costs; shares = T .shares }
+
+abbrev pub putFact : ℕ → ℕ → Tables → Tables
+putFact i v T = record { counts = T .counts; facts = set (T .facts) i v; costs = T .costs; shares = T .shares }
+
+abbrev pub putCost : ℕ → ℕ → Tables → Tables
+putCost o v T = record { counts = T .counts; facts = T .facts; costs = set (T .costs) o v; shares = T .shares }
+
+abbrev pub putShare : ℕ → ℕ → Tables → Tables
+putShare i v T = record { counts = T .counts; facts = T .facts; costs = T .costs; shares = set (T .shares) i v }
+
+-- edition=1
+unfoldable pub editionLine : Part
+editionLine = line "edition=" (number 1 2 (λ e. nothing))
+
+-- vars=, dom= and init=
+unfoldable pub varsLine : Part
+varsLine = line "vars=" (number 1 (mostVars + 1) (λ n. keep (λ T. withCounts n (T .counts .ops) (T .counts .maps) T)))
+
+unfoldable pub domLine : Part
+domLine = line "dom=" (ask (λ T. row 1 (λ v U. mostValues + 1) (λ v n. putFact (domPlace v) n) (T .counts .vars) 0))
+
+unfoldable pub initLine : Part
+initLine = line "init=" (ask (λ T. row 0 (λ v U. domAt (U .facts) v) (λ v x. putFact (initPlace v) x) (T .counts .vars) 0))
+
+-- facts from the variable `least` on, of which at most n can still come: the variable's range and order before its colon, then the value's range;
+-- a comma means one more, anything else ends the list
+unfoldable pub facts : (ℕ → ℕ) → ℕ → ℕ → Part
+facts place zero least t l T k = number 0 (T .counts .vars) (λ v. demand false NotRising) t l T k
+facts place (suc n) least t l T k =
+    number
+    0
+    (T .counts .vars)
+    (λ v.
+    demand (leb least v) NotRising
+    ▸ lit (colon ∷ [])
+    ▸ number 0 (domAt (T .facts) v) (λ x. keep (putFact (place v) (x + 1)) ▸ choice comma (facts place n (v + 1)) nothing))
+    t
+    l
+    T
+    k
+
+-- a list of facts: - if it is empty
+unfoldable pub factList : (ℕ → ℕ) → Part
+factList place = choice dash nothing (ask (λ T. facts place (T .counts .vars) 0))
+
+unfoldable pub goalLine : Part
+goalLine = line "goal=" (factList goalPlace)
+
+-- ops=, and one op=cost;preconditions;effects for each
+unfoldable pub opsLine : Part
+opsLine = line "ops=" (number 0 (mostOps + 1) (λ n. keep (λ T. withCounts (T .counts .vars) n (T .counts .maps) T)))
+
+unfoldable pub operator : ℕ → Part
+operator o =
+    number 0 (mostCost + 1) (λ c. keep (putCost o c))
+    ▸ lit (semicolon ∷ [])
+    ▸ factList (prePlace o)
+    ▸ lit (semicolon ∷ [])
+    ▸ factList (effPlace o)
+
+unfoldable pub opLines : Part
+opLines = ask (λ T. lines (λ o. line "op=" (operator o)) (T .counts .ops) 0)
+
+-- a class is among these
+unfoldable pub has : List ℕ → ℕ → Bool
+has [] d = false
+has (c ∷ cs) d = pick (eqb d c) true (has cs d)
+
+-- the largest number below n that passes the test, and one; whether all below n pass it
+unfoldable pub topOf : ℕ → (ℕ → Bool) → ℕ
+topOf zero f = 0
+topOf (suc n) f = pick (f n) (suc n) (topOf n f)
+
+unfoldable pub allOf : ℕ → (ℕ → Bool) → Bool
+allOf zero f = true
+allOf (suc n) f = pick (f n) (allOf n f) false
+
+-- a list of classes: the k of '0 to k-1', and that none of these is missing
+unfoldable pub classCount : List ℕ → ℕ
+classCount cs = topOf mostValues (has cs)
+
+unfoldable pub noneMissing : List ℕ → Bool
+noneMissing cs = allOf (classCount cs) (has cs)
+
+-- in map m the classes of variable v's last n values, from value x on, after the classes cs of those before; a missing class is told at their end
+unfoldable pub classes : ℕ → ℕ → (List ℕ → Part) → ℕ → ℕ → List ℕ → Part
+classes m v p zero x cs t l T k = (demand (noneMissing cs) ClassMissing ▸ p cs) t l T k
+classes m v p (suc n) x cs t l T k =
+    number
+    0
+    (domAt (T .facts) v)
+    (λ c. keep (putFact (classPlace m v x) c) ▸ parted n comma ▸ classes m v p n (x + 1) (c ∷ cs))
+    t
+    l
+    T
+    k
+
+-- in map m the classes of the last n variables, from v on, with the abstract states of those before; too many states are told at the end
+unfoldable pub variables : ℕ → ℕ → ℕ → ℕ → Part
+variables m zero v states t l T k = demand (leb states mostStates) TooManyStates t l T k
+variables m (suc n) v states t l T k =
+    classes m v (λ cs. parted n slash ▸ variables m n (v + 1) (states * classCount cs)) (domAt (T .facts) v) 0 [] t l T k
+
+-- maps=, and one map= for each
+unfoldable pub mapsLine : Part
+mapsLine = line "maps=" (number 1 (mostMaps + 1) (λ n. keep (λ T. withCounts (T .counts .vars) (T .counts .ops) n T)))
+
+unfoldable pub mapLines : Part
+mapLines = ask (λ T. lines (λ m. line "map=" (variables m (T .counts .vars) 0 1)) (T .counts .maps) 0)
+
+-- a map's shares, one number an operator; - exactly if there are no operators
+unfoldable pub amounts : ℕ → ℕ → Part
+amounts m zero t l T k = lit (dash ∷ []) t l T k
+amounts m (suc n) t l T k = row 0 (λ o U. mostCost + 1) (λ o v. putShare (sharePlace m o) v) (suc n) 0 t l T k
+
+unfoldable pub shareLines : Part
+shareLines = ask (λ T. lines (λ m. line "share=" (amounts m (T .counts .ops))) (T .counts .maps) 0)
+
+-- the lines of a text, in this order
+unfoldable pub taskLines : Part
+taskLines =
+    editionLine
+    ▸ varsLine
+    ▸ domLine
+    ▸ initLine
+    ▸ goalLine
+    ▸ opsLine
+    ▸ opLines
+    ▸ mapsLine
+    ▸ mapLines
+    ▸ shareLines
+
+-- after all else: an operator's shares total at most its cost
+unfoldable pub settled : ℕ → Tables → Verdict
+settled zero T = accepted T
+settled (suc l) T = refused (SharesAboveCost (suc l))
+
+-- after the last line nothing stands
+unfoldable pub theEnd : Next
+theEnd [] l T = settled (overLine (costAt (T .costs)) (shareAt (T .shares)) (T .counts .maps) (T .counts .ops) 0) T
+theEnd (b ∷ t) l T = refused (OffForm l)
+
+-- tables with nothing in them yet
+unfoldable pub noTask : Tables
+noTask =
+    record { counts = record { vars = 0; ops = 0; maps = 0 }; facts = replicate factsRoom 0; costs = replicate costsRoom 0; shares = replicate sharesRoom 0 }
+
+unfoldable pub verdict : List ℕ → Verdict
+verdict text = taskLines text 1 noTask theEnd
+
+-- a refusal leaves every lent table as it was; an accepted task fills them
+unfoldable pub outcome : Verdict → List ℕ → List ℕ → List ℕ → Outcome
+outcome (accepted T) f c s =
+    leaves (Accepted (T .counts)) (filled factsRoom (T .facts) f) (filled costsRoom (T .costs) c) (filled sharesRoom (T .shares) s)
+outcome (refused r) f c s = leaves (Refused r) f c s
+
+-- THE READER: what it answers to a text, and what it leaves in the lent tables
+unfoldable pub readText : List ℕ → List ℕ → List ℕ → List ℕ → Outcome
+readText text f c s = admitted text f c s (outcome (verdict text) f c s)

@@ -1,0 +1,129 @@
+-- Laws of the rounds: the count is the first unchanged round, and the table holds the least costs. Assumes nothing.
+use mathlib.Core.Path.{_≡_, refl, sym, ap, _∙_, subst}
+use mathlib.Core.Bool.{Bool, true, false}
+use mathlib.Core.List.{List}
+use Prim.Native.Nat.{ℕ, _+_, _-_, _≤_, _<_}
+use native.Mathlib.Nat.{not-suc-le-zero, le-refl}
+use native.Mathlib.Decide.{ℕ-discrete, decLt}
+use native.Mathlib.Omega.{arith}
+use native.Mathlib.Numerals.{add-one}
+use lib.ListN.{length, getD}
+use Rattle.graph.specs.Graph.{Graph, Closed}
+use Rattle.graph.specs.Least.{least, Unchanged}
+use Rattle.graph.proofs.Leasts.{least-zero, least-suc}
+use Rattle.graph.proofs.Settles.{best-same}
+use Rattle.graph.proofs.Rounded.{settled-at}
+use Rattle.graph.proofs.Sizes.{least-most}
+use Rattle.tables.specs.declared.Counts.{Counts}
+use Rattle.sweep.specs.Said.{said, read}
+use Rattle.sweep.specs.Walks.{spaceOf, Walkable}
+use Rattle.sweep.specs.Sweeps.{Priced, Within, Filled, Copied, Swept, Held, Counted}
+use Rattle.sweep.proofs.Saids.{said-lt, said-inj}
+use Rattle.sweep.proofs.Walking.{walkable-closed, walkable-some}
+
+-- a graph with few states and small costs whose steps stay inside
+pub record Good (G : Graph) : Type 0 where
+  pub some : 1 ≤ G .states
+  pub few : G .states ≤ 4096
+  pub closed : Closed G
+  pub small : (o : ℕ) → o < G .ops → G .cost o ≤ 1000000
+
+pub walkable-good : (c : Counts) (facts prices : List ℕ) → Walkable c facts → Priced c prices → Good (spaceOf c facts prices)
+walkable-good c facts prices W P =
+    record { some = walkable-some c facts prices W; few = W .few; closed = walkable-closed c facts prices W; small = P }
+
+-- what the tables hold after r rounds, all of which changed something; t₀ and w₀ are the tables where the rounds begin
+pub record Turn (G : Graph) (t₀ w₀ t w : List ℕ) (r : ℕ) : Type 0 where
+  pub less : r < G .states
+  pub table : Held G t₀ t r
+  pub work : length w ≡ length w₀
+  pub first : (i : ℕ) → 1 ≤ i → i ≤ r → Unchanged G i → ⊥
+
+module _ (G : Graph) (good : Good G) where
+  pub held-within : (t₀ t : List ℕ) (r : ℕ) → r < G .states → Held G t₀ t r → Within (G .states) t
+  held-within t₀ t r l h a k s =
+      omega
+      (arith, good .few, least-most G 1000000 (good .small) r a (getD t a 0) (sym (h .made a k) ∙ said-lt (getD t a 0) s))
+
+-- n is the number of states
+module _ (G : Graph) (good : Good G) (n : ℕ) (is : n ≡ G .states) where
+  pub turn-within : (t₀ w₀ t w : List ℕ) (r : ℕ) → Turn G t₀ w₀ t w r → Within n t
+  turn-within t₀ w₀ t w r turn = rw is (held-within G good t₀ t r (turn .less) (turn .table))
+
+  pub turn-none : (t₀ t w : List ℕ) → Filled n G t₀ t → Turn G t w t w 0
+  turn-none t₀ t w filled =
+      let f : Filled (G .states) G t₀ t = subst (λ (k : ℕ). Filled k G t₀ t) is filled in
+      record {
+        less = good .some;
+        table = record { size = refl; made = λ a l. f .made a l ∙ sym (least-zero G a); kept = λ a l. refl };
+        work = refl;
+        first = λ i p l. absurd (not-suc-le-zero (let z : 1 ≤ 0 = omega arith in z));
+      }
+
+  module _ (t₀ w₀ t w w′ : List ℕ) (r : ℕ) (changed : Bool) (turn : Turn G t₀ w₀ t w r) (swept : Swept n G t w w′ changed) where
+    sw : Swept (G .states) G t w w′ changed
+    sw = subst (λ (k : ℕ). Swept k G t w w′ changed) is swept
+
+    next-made : (a : ℕ) → a < G .states → read w′ a ≡ least G (r + 1) a
+    next-made a l =
+        rw add-one
+        (sw .table .made a l ∙ best-same G (good .closed) (read t) (least G r) (turn .table .made) a l (G .ops) (le-refl (G .ops))
+        ∙ sym (least-suc G r a))
+
+    back : r + 1 - 1 ≡ r
+    back = omega arith
+
+    so-unchanged : changed ≡ false → Unchanged G (r + 1)
+    so-unchanged e a l = rw back (sym (next-made a l) ∙ ap said (sw .same e a l) ∙ turn .table .made a l)
+
+    so-changed : changed ≡ true → Unchanged G (r + 1) → ⊥
+    so-changed e s =
+        sw .differs e
+        (λ a l. said-inj (getD w′ a 0) (getD t a 0) (next-made a l ∙ (rw back at (s a l)) ∙ sym (turn .table .made a l)))
+
+    -- the last round
+    pub ends : (u₀ : List ℕ) → Filled n G u₀ t₀ → changed ≡ false → Counted G u₀ t (r + 1)
+    ends u₀ filled e =
+        let f : Filled (G .states) G u₀ t₀ = subst (λ (k : ℕ). Filled k G u₀ t₀) is filled in
+        record {
+          rounds = record { positive = omega arith; unchanged = so-unchanged e; smallest = λ i p l. turn .first i p (omega arith) };
+          table =
+              record {
+                size = turn .table .size ∙ f .size;
+                made = λ a l. ap said (sym (sw .same e a l)) ∙ next-made a l;
+                kept = λ a l. turn .table .kept a l ∙ f .kept a l;
+              };
+        }
+
+    first-more : changed ≡ true → (i : ℕ) → 1 ≤ i → i ≤ r + 1 → Unchanged G i → ⊥
+    first-more e i p l s = pick (ℕ-discrete i (r + 1))
+      where
+        pick : Dec (i ≡ r + 1) → ⊥
+        pick (yes q) = so-changed e (subst (λ (x : ℕ). Unchanged G x) q s)
+        pick (no q) = turn .first i p (omega arith) s
+
+    less-more : changed ≡ true → r + 1 < G .states
+    less-more e = pick (decLt (r + 1) (G .states))
+      where
+        pick : Dec (r + 1 < G .states) → r + 1 < G .states
+        pick (yes l) = l
+        pick (no l) =
+            absurd
+            (first-more e (G .states) (good .some) (omega arith)
+            (settled-at G (good .closed) (G .states) (good .some) (le-refl (G .states))))
+
+    -- any other round
+    pub goes-on : (t′ : List ℕ) → Copied n w′ t t′ → changed ≡ true → Turn G t₀ w₀ t′ w′ (r + 1)
+    goes-on t′ copied e =
+        let cp : Copied (G .states) w′ t t′ = subst (λ (k : ℕ). Copied k w′ t t′) is copied in
+        record {
+          less = less-more e;
+          table =
+              record {
+                size = cp .size ∙ turn .table .size;
+                made = λ a l. ap said (cp .made a l) ∙ next-made a l;
+                kept = λ a l. cp .kept a l ∙ turn .table .kept a l;
+              };
+          work = sw .table .size ∙ turn .work;
+          first = first-more e;
+        }

@@ -1,0 +1,78 @@
+-- `classes::class_facts` meets its contract: the numbers of classes of the variables passed so far are in the first row. Assumes nothing.
+use borrow.Author.Needs.{needs}
+use Prim.Native.Nat.{_≤_, _<_, _-_}
+use mathlib.Core.Path.{_≡_}
+use native.Mathlib.Omega.{arith}
+use lib.ListN.{length}
+use Rattle.meaning.specs.Split.{countOf}
+use Rattle.tables.specs.Layout.{domAt, classAt}
+use Rattle.sweep.specs.Sweeps.{Made}
+use Rattle.sweep.proofs.Makes.{made-none, made-more, made-end}
+use Rattle.sweep.proofs.Classing.{classed}
+use Rattle.sweep.proofs.classes.class_facts.Statement.{statement}
+use Rattle.sweep.proofs.classes.class_facts.Tie as tie
+
+abbrev Inv-loop : tie.InvT-loop
+Inv-loop c facts m t₀ vars v₀ t v =
+    (v ≤ vars) × Made (λ u x. x ≡ countOf (classAt facts m u) (domAt facts u)) v t₀ t
+
+abbrev μ-loop : tie.MeasureT-loop
+μ-loop c facts m t₀ vars v₀ t v = vars - v
+
+seen-facts-requires : tie.Need-seen-facts-requires Inv-loop μ-loop
+seen-facts-requires c κs = omega (arith, c .before .pre .1, c .before .pre .0 .maps .1)
+
+loop-holds : tie.Need-loop-holds Inv-loop μ-loop
+loop-holds c = (omega arith, made-none _ _)
+
+class-count-requires : tie.Need-class-count-requires Inv-loop μ-loop
+class-count-requires c κs =
+    let pre = c .before .before .before .before .pre in
+    (pre .0, pre .1, c .loop-test .taken)
+
+cast-t : tie.Need-cast-t Inv-loop μ-loop
+cast-t c = search needs
+
+array-write-t : tie.Need-array-write-t Inv-loop μ-loop
+array-write-t c =
+    let pre = c .before .before .before .before .before .pre in
+    omega (arith, c .before .loop-test .taken, pre .0 .vars .1)
+
+add-v : tie.Need-add-v Inv-loop μ-loop
+add-v c = search needs
+
+loop-less : tie.Need-loop-less Inv-loop μ-loop
+loop-less c = search needs
+
+loop-again : tie.Need-loop-again Inv-loop μ-loop
+loop-again c =
+    let pre = c .before .before .before .before .before .pre in
+    let seen-facts = c .before .before .before .seen-facts in
+    let l = c .before .before .loop in
+    let inside : l .v < length (l .t) = omega (arith, l .inv .1 .size, seen-facts .ensures .0, c .before .loop-test .taken, pre .0 .vars .1) in
+    (search needs, made-more _ _ (l .v) (c .class-count .result) (l .t) inside (l .inv .1) (c .class-count .ensures))
+
+returns : tie.Need-returns Inv-loop μ-loop
+returns c =
+    let pre = c .before .before .before .before .pre in
+    let a = c .before .before .before .before .args in
+    let seen-facts = c .before .before .seen-facts in
+    let l = c .before .loop in
+    classed (a .c) (a .facts .now) (a .m) (seen-facts .result) (l .t) (pre .0 .vars .1) (seen-facts .ensures .1)
+    (made-end _ _ (a .c .vars) (l .v) (l .t) (l .inv .1) (l .inv .0) (c .loop-test .left))
+
+pub class-facts-spec : {M : Type 1} → statement M
+class-facts-spec =
+    tie.close
+    (tie.spec
+    Inv-loop
+    μ-loop
+    seen-facts-requires
+    loop-holds
+    class-count-requires
+    cast-t
+    array-write-t
+    add-v
+    loop-less
+    loop-again
+    returns)

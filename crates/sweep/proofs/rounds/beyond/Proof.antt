@@ -1,0 +1,39 @@
+-- `sweep::beyond` meets its contract. Assumes nothing.
+use borrow.Author.Needs.{needs}
+use mathlib.Core.Path.{ap, sym, _∙_}
+use Prim.Native.Nat.{ℕ}
+use lib.ListN.{getD}
+use Rattle.graph.specs.Least.{afterStep}
+use Rattle.sweep.specs.Said.{said, read}
+use Rattle.sweep.specs.Walks.{nextOf}
+use Rattle.sweep.proofs.rounds.beyond.Statement.{statement}
+use Rattle.sweep.proofs.rounds.beyond.Tie as tie
+
+enum-known-s : tie.Need-enum-known-s
+enum-known-s c = search needs
+
+state-index-requires : tie.Need-state-index-requires
+state-index-requires c κs = search needs
+
+word-at-requires : tie.Need-word-at-requires
+word-at-requires c κs = search needs
+
+enum-told : tie.Need-enum-told
+enum-told c = search needs
+
+returns : tie.Need-returns
+returns c =
+    let args = c .before .before .before .before .before .before .args in
+    let s = c .before .before .before .s in
+    let old = args .old .now in
+    ap said (c .word-at .ensures ∙ ap (λ (i : ℕ). getD old i 0) (c .before .state-index .ensures))
+    ∙ sym (ap (λ s. afterStep (read old) (nextOf s)) (s .given .1))
+
+returns-2 : tie.Need-returns-2
+unfolding said
+returns-2 c = search needs
+
+pub beyond-spec : {M : Type 1} → statement M
+beyond-spec =
+    tie.close
+    (tie.spec enum-known-s state-index-requires word-at-requires enum-told returns returns-2)

@@ -1,0 +1,4 @@
+pub mod Said
+pub mod Walks
+pub mod Sweeps
+pub mod Classes

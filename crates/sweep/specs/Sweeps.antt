@@ -1,0 +1,47 @@
+-- Distance tables, round by round: what the functions below the entries ask and give.
+use mathlib.Core.Path.{_≡_}
+use mathlib.Core.Bool.{Bool, true, false}
+use mathlib.Core.List.{List}
+use Prim.Native.Nat.{ℕ, _≤_, _<_}
+use lib.ListN.{length, getD}
+use Rattle.graph.specs.Graph.{Graph}
+use Rattle.graph.specs.Least.{atGoal, best, least, Rounds}
+use Rattle.tables.specs.declared.Counts.{Counts}
+use Rattle.sweep.specs.Said.{NONE, said, read}
+
+-- prices of at most 1,000,000
+abbrev pub Priced : Counts → List ℕ → Type 0
+Priced c prices = (o : ℕ) → o < c .ops → getD prices o 0 ≤ 1000000
+
+-- the numbers of the first n places are none, or small enough for one price more
+abbrev pub Within : ℕ → List ℕ → Type 0
+Within n t = (a : ℕ) → a < n → getD t a 0 < NONE → getD t a 0 ≤ 4290000000
+
+-- each of the first k places of t is as P says, and the others are those of t₀
+pub record Made (P : ℕ → ℕ → Type 0) (k : ℕ) (t₀ t : List ℕ) : Type 0 where
+  pub size : length t ≡ length t₀
+  pub made : (a : ℕ) → a < k → P a (getD t a 0)
+  pub kept : (a : ℕ) → k ≤ a → getD t a 0 ≡ getD t₀ a 0
+
+-- the first k places say the costs over no steps
+abbrev pub Filled : ℕ → Graph → List ℕ → List ℕ → Type 0
+Filled k G t₀ t = Made (λ a x. said x ≡ atGoal (G .goal a)) k t₀ t
+
+-- the first k places are those of s
+abbrev pub Copied : ℕ → List ℕ → List ℕ → List ℕ → Type 0
+Copied k s t₀ t = Made (λ a x. x ≡ getD s a 0) k t₀ t
+
+-- the first k places are made of old by one step more; changed says whether one of them differs from old
+pub record Swept (k : ℕ) (G : Graph) (old new₀ new : List ℕ) (changed : Bool) : Type 0 where
+  pub table : Made (λ a x. said x ≡ best G (read old) a (G .ops)) k new₀ new
+  pub same : changed ≡ false → (a : ℕ) → a < k → getD new a 0 ≡ getD old a 0
+  pub differs : changed ≡ true → ((a : ℕ) → a < k → getD new a 0 ≡ getD old a 0) → ⊥
+
+-- the places of the states say the least costs over at most r steps
+abbrev pub Held : Graph → List ℕ → List ℕ → ℕ → Type 0
+Held G t₀ t r = Made (λ a x. said x ≡ least G r a) (G .states) t₀ t
+
+-- r rounds were made of t₀, and t is their table
+pub record Counted (G : Graph) (t₀ t : List ℕ) (r : ℕ) : Type 0 where
+  pub rounds : Rounds G r
+  pub table : Held G t₀ t r

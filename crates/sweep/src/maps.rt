@@ -1,0 +1,60 @@
+// The distances of a map at any row of prices, and what its shares say of a state.
+ghost use mathlib.Core.Path.{_≡_};
+ghost use mathlib.Core.List.{[]};
+ghost use Prim.Native.Nat.{ℕ, _+_, _≤_, _<_};
+ghost use lib.ListN.{length, getD};
+ghost use Rattle.meaning.specs.Sas.{IsState};
+ghost use Rattle.meaning.specs.Split.{Valid};
+ghost use Rattle.meaning.specs.Bound.{away};
+ghost use Rattle.tables.specs.Layout.{shareAt};
+ghost use Rattle.tables.specs.Task.{taskOf, tables, stateOf};
+ghost use Rattle.sweep.specs.Said.{said};
+ghost use Rattle.sweep.specs.Sweeps.{Priced, Counted};
+ghost use Rattle.sweep.specs.Classes.{unpriced, viewGraphOf, SharesSmall};
+use crate::classes::class_facts;
+use crate::classes::image_of;
+use crate::classes::states_of;
+use crate::rounds::count_rounds;
+use meaning::OpNo;
+use meaning::state_index;
+use tables::Counts;
+use tables::readers::share_at;
+
+// The room for the largest map's distances.
+pub const STATES: usize = 4096;
+
+// The count of rounds of a map at a row of prices; `out` holds its distances then.
+pub fn view_rounds(c: Counts, facts: &[u8], prices: &[u32], map: u32, out: &mut [u32]) -> u32
+    requires { ⌜ Valid (unpriced c (now facts)) × (map < c .maps) × Priced c (now prices) × (4096 ≤ length (now out)) ⌝ }
+    ensures { λ r. ⌜ Counted (viewGraphOf c (now (facts .entry)) map (now (prices .entry))) (now (out .entry)) (now (out .exit)) r ⌝ }
+{
+    let seen = class_facts(c, facts, map);
+    let n = states_of(c, &seen);
+    let mut work = [0u32; STATES];
+    count_rounds(c, &seen, prices, n, out, &mut work)
+}
+
+// A map's row of shares.
+pub fn share_row(shares: &[u32], map: u32) -> [u32; 64]
+    ensures { λ r. ⌜ ((o : ℕ) → o < 64 → getD r o 0 ≡ shareAt (now (shares .entry)) map o) ⌝ }
+{
+    let mut prices = [0u32; 64];
+    let mut o = 0u32;
+    while o < 64 {
+        prices[o as usize] = share_at(shares, map, OpNo(o));
+        o += 1;
+    }
+    prices
+}
+
+// The distance of a state's image in a map, as a distance table has it.
+pub fn away_of(c: Counts, facts: &[u8], shares: &[u32], map: u32, s: &[u8]) -> u32
+    requires { ⌜ Valid (unpriced c (now facts)) × (map < c .maps) × SharesSmall c (now shares) map × IsState (unpriced c (now facts) .sas) (stateOf (now s)) ⌝ }
+    ensures { λ r. ⌜ said r ≡ away (taskOf (tables c (now (facts .entry)) [] (now (shares .entry)))) (stateOf (now (s .entry))) map ⌝ }
+{
+    let prices = share_row(shares, map);
+    let mut out = [0u32; STATES];
+    view_rounds(c, facts, &prices, map, &mut out);
+    let a = image_of(c, facts, map, s);
+    out[state_index(a)]
+}
