@@ -14,7 +14,7 @@ use Rattle.scan.specs.declared.Found.the-variants.{Clean}
 use Rattle.tables.specs.Layout.{Tables}
 use Rattle.tables.specs.Task.{taskOf, sasOf, stateOf}
 use Rattle.scan.specs.Scan.{tablesFault}
-use Rattle.sequences.specs.Stepping.{steps}
+use Rattle.meaning.specs.Limits.{mostSteps}
 use Rattle.ledger.specs.declared.Run.{Run}
 use Rattle.ledger.specs.declared.Answer.{Answer}
 use Rattle.ledger.specs.declared.Answer.the-variants.{Accepted, Repeated, Refused}
@@ -46,32 +46,32 @@ module _ (r : Run) (sized : Sized r) (bytes words : List ℕ) (long-bytes : runB
   now-back = parts.part-put started 8 (r .now) 8 (sized .now) (omega (arith, parts.part-put-length bytes 0 (r .start) 8))
 
   abbrev logged : List ℕ
-  logged = withPart words 0 (r .log) steps
+  logged = withPart words 0 (r .log) mostSteps
 
   abbrev counted : List ℕ
-  counted = set logged steps (r .len)
+  counted = set logged mostSteps (r .len)
 
   logged-length : length logged ≡ length words
-  logged-length = parts.part-put-length words 0 (r .log) steps
+  logged-length = parts.part-put-length words 0 (r .log) mostSteps
 
-  log-back : part (wordsWith r words) 0 steps ≡ r .log
+  log-back : part (wordsWith r words) 0 mostSteps ≡ r .log
   unfolding wordsWith
   log-back =
-      parts.part-put-before counted (steps + 1) (r .columns) allColumns 0 steps (omega arith)
-      ∙ parts.part-same counted logged 0 steps (λ i h. getD-set-other logged steps (0 + i) (r .len) 0 (λ e. omega arith))
-      ∙ parts.part-put words 0 (r .log) steps (sized .log) (omega arith)
+      parts.part-put-before counted (mostSteps + 1) (r .columns) allColumns 0 mostSteps (omega arith)
+      ∙ parts.part-same counted logged 0 mostSteps (λ i h. getD-set-other logged mostSteps (0 + i) (r .len) 0 (λ e. omega arith))
+      ∙ parts.part-put words 0 (r .log) mostSteps (sized .log) (omega arith)
 
-  len-back : getD (wordsWith r words) steps 0 ≡ r .len
+  len-back : getD (wordsWith r words) mostSteps 0 ≡ r .len
   unfolding wordsWith
   len-back =
-      parts.put-before counted (steps + 1) (r .columns) allColumns steps (omega arith)
-      ∙ getD-set-same logged steps (r .len) 0 (omega (arith, logged-length))
+      parts.put-before counted (mostSteps + 1) (r .columns) allColumns mostSteps (omega arith)
+      ∙ getD-set-same logged mostSteps (r .len) 0 (omega (arith, logged-length))
 
-  columns-back : part (wordsWith r words) (steps + 1) allColumns ≡ r .columns
+  columns-back : part (wordsWith r words) (mostSteps + 1) allColumns ≡ r .columns
   unfolding wordsWith
   columns-back =
-      parts.part-put counted (steps + 1) (r .columns) allColumns (sized .columns)
-      (omega (arith, logged-length, length-set logged steps (r .len)))
+      parts.part-put counted (mostSteps + 1) (r .columns) allColumns (sized .columns)
+      (omega (arith, logged-length, length-set logged mostSteps (r .len)))
 
   pub taken-back : runIn (bytesWith r bytes) (wordsWith r words) ≡ r
   unfolding runIn
@@ -83,7 +83,7 @@ pub left-alone : (bytes words : List ℕ) → (bytesWith (runIn bytes words) byt
 unfolding runIn bytesWith wordsWith
 left-alone bytes words = (
   rw (parts.put-part bytes 0 8) (parts.put-part bytes 8 8),
-  rw (parts.put-part words 0 steps, set-getD words steps 0) (parts.put-part words (steps + 1) allColumns),
+  rw (parts.put-part words 0 mostSteps, set-getD words mostSteps 0) (parts.put-part words (mostSteps + 1) allColumns),
 )
 
 -- ---- places beyond the run's are as they were, and no length changes
@@ -93,12 +93,12 @@ pub beyond-kept : (r : Run) (bytes words : List ℕ) (k : ℕ)
 unfolding bytesWith wordsWith
 beyond-kept r bytes words k =
     let started = withPart bytes 0 (r .start) 8 in
-    let logged = withPart words 0 (r .log) steps in (
+    let logged = withPart words 0 (r .log) mostSteps in (
       λ h. parts.put-after started 8 (r .now) 8 k (omega arith) ∙ parts.put-after bytes 0 (r .start) 8 k (omega arith),
       λ h.
-          parts.put-after (set logged steps (r .len)) (steps + 1) (r .columns) allColumns k (omega arith)
-          ∙ getD-set-other logged steps k (r .len) 0 (λ e. omega arith)
-          ∙ parts.put-after words 0 (r .log) steps k (omega arith),
+          parts.put-after (set logged mostSteps (r .len)) (mostSteps + 1) (r .columns) allColumns k (omega arith)
+          ∙ getD-set-other logged mostSteps k (r .len) 0 (λ e. omega arith)
+          ∙ parts.put-after words 0 (r .log) mostSteps k (omega arith),
     )
 
 pub lengths-kept : (r : Run) (bytes words : List ℕ)

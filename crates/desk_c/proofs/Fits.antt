@@ -17,12 +17,13 @@ use Rattle.tables.specs.Layout.{Tables}
 use Rattle.tables.specs.Task.{taskOf, stateOf}
 use Rattle.views.specs.declared.BoundAnswer.{BoundAnswer}
 use Rattle.views.specs.declared.BoundAnswer.the-variants as bounds
-use Rattle.views.specs.Entries.{boundFault, Judged, IsBound, boundSaid, BoundGiven}
+use Rattle.views.specs.Entries.{Judged, IsBound, boundSaid, BoundGiven}
+use Rattle.scan.specs.Scan.{inputFault}
 use Rattle.views.proofs.Answers.{image-inside, bound-is, bound-only}
 use Rattle.views.proofs.Judging.{bound-clean}
 use Rattle.sequences.specs.declared.choosing.Choice.{Choice}
 use Rattle.sequences.specs.declared.choosing.Choice.the-variants.{FirstPart, SecondPart, NoPart, Unread}
-use Rattle.sequences.specs.Stepping.{steps}
+use Rattle.meaning.specs.Limits.{mostSteps}
 use Rattle.sequences.specs.Choosing.{chosenOf, stepsOf}
 use Rattle.sequences.proofs.Choices.{Promised, chosen-promised}
 use Rattle.desk_c.specs.Words.{SumFits}
@@ -59,9 +60,9 @@ said-fits none k l h = tt
 said-fits (fin b) k l h = omega arith
 
 pub sum-fits : (t : Tables) (s : List ℕ) (a : BoundAnswer) → BoundGiven t s a → SumFits a
-sum-fits t s a = at (boundFault t s) refl
+sum-fits t s a = at (inputFault t s) refl
   where
-    at : (g : Found) → boundFault t s ≡ g
+    at : (g : Found) → inputFault t s ≡ g
         → Judged g (λ f. a ≡ bounds.Refused f) ((v : Cost) × (a ≡ boundSaid v) × IsBound (taskOf t) (stateOf s) v) → SumFits a
     at Clean e p =
         let c = bound-clean t s e in
@@ -72,11 +73,11 @@ sum-fits t s a = at (boundFault t s) refl
 
 -- ---- the opening part
 
-promised-steps : (t : Tables) (s a b : List ℕ) (d : Choice) → Promised t s a b d → stepsOf d ≤ steps
+promised-steps : (t : Tables) (s a b : List ℕ) (d : Choice) → Promised t s a b d → stepsOf d ≤ mostSteps
 promised-steps t s a b (FirstPart n p) h = omega (arith, h .1 .within, h .1 .moment .inside)
 promised-steps t s a b (SecondPart n p) h = omega (arith, h .1 .within, h .1 .moment .inside)
 promised-steps t s a b NoPart h = omega arith
 promised-steps t s a b (Unread r) h = omega arith
 
-pub chosen-steps-most : (t : Tables) (s a b : List ℕ) → stepsOf (chosenOf t s a b) ≤ steps
+pub chosen-steps-most : (t : Tables) (s a b : List ℕ) → stepsOf (chosenOf t s a b) ≤ mostSteps
 chosen-steps-most t s a b = promised-steps t s a b (chosenOf t s a b) (chosen-promised t s a b)

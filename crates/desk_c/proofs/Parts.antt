@@ -6,7 +6,7 @@ use mathlib.Core.List.{List}
 use native.Mathlib.Omega.{arith}
 use lib.ListN.{length, getD, set, replicate, length-set, length-replicate}
 use lib.Seq.{ext-getD}
-use Rattle.sequences.specs.Stepping.{steps}
+use Rattle.meaning.specs.Limits.{mostSteps}
 use Rattle.ledger.specs.declared.Run.{Run}
 use Rattle.ledger.specs.Ledger.{allColumns}
 use Rattle.desk_c.specs.Lent.{placed, part, withPart, runIn, bytesWith, wordsWith}
@@ -28,20 +28,20 @@ pub bytes-put : (r : Run) (bytes b b′ : List ℕ) → b ≡ placed (λ k. getD
 unfolding bytesWith
 bytes-put r bytes b b′ p q = placed-part (r .now) 8 b b′ 8 q ∙ ap (λ (l : List ℕ). withPart l 8 (r .now) 8) (placed-part (r .start) 0 bytes b 8 p)
 
-pub words-put : (r : Run) (words w w′ : List ℕ) → w ≡ placed (λ k. getD (r .log) (0 + k) 0) 0 words steps
-    → w′ ≡ placed (λ k. getD (r .columns) (0 + k) 0) (steps + 1) (set w steps (r .len)) allColumns
+pub words-put : (r : Run) (words w w′ : List ℕ) → w ≡ placed (λ k. getD (r .log) (0 + k) 0) 0 words mostSteps
+    → w′ ≡ placed (λ k. getD (r .columns) (0 + k) 0) (mostSteps + 1) (set w mostSteps (r .len)) allColumns
     → w′ ≡ wordsWith r words
 unfolding wordsWith
 words-put r words w w′ p q =
-    placed-part (r .columns) (steps + 1) (set w steps (r .len)) w′ allColumns q
-    ∙ ap (λ (l : List ℕ). withPart (set l steps (r .len)) (steps + 1) (r .columns) allColumns)
-    (placed-part (r .log) 0 words w steps p)
+    placed-part (r .columns) (mostSteps + 1) (set w mostSteps (r .len)) w′ allColumns q
+    ∙ ap (λ (l : List ℕ). withPart (set l mostSteps (r .len)) (mostSteps + 1) (r .columns) allColumns)
+    (placed-part (r .log) 0 words w mostSteps p)
 
 pub run-taken : (bytes words start log now columns : List ℕ) → start ≡ placed (λ k. getD bytes (0 + k) 0) 0 (replicate 8 0) 8
-    → log ≡ placed (λ k. getD words (0 + k) 0) 0 (replicate steps 0) steps
+    → log ≡ placed (λ k. getD words (0 + k) 0) 0 (replicate mostSteps 0) mostSteps
     → now ≡ placed (λ k. getD bytes (8 + k) 0) 0 (replicate 8 0) 8
-    → columns ≡ placed (λ k. getD words (steps + 1 + k) 0) 0 (replicate allColumns 0) allColumns
-    → record { start = start; log = log; len = getD words steps 0; now = now; columns = columns } ≡ runIn bytes words
+    → columns ≡ placed (λ k. getD words (mostSteps + 1 + k) 0) 0 (replicate allColumns 0) allColumns
+    → record { start = start; log = log; len = getD words mostSteps 0; now = now; columns = columns } ≡ runIn bytes words
 unfolding runIn part
 run-taken bytes words start log now columns p q u v = rw (p, q, u, v) refl
 
@@ -59,11 +59,11 @@ bytes-length r bytes b p =
 pub words-length : (r : Run) (words w : List ℕ) → w ≡ wordsWith r words → length w ≡ length words
 unfolding wordsWith
 words-length r words w p =
-    let logged = withPart words 0 (r .log) steps in
+    let logged = withPart words 0 (r .log) mostSteps in
     ap length p
-    ∙ part-put-length (set logged steps (r .len)) (steps + 1) (r .columns) allColumns
-    ∙ length-set logged steps (r .len)
-    ∙ part-put-length words 0 (r .log) steps
+    ∙ part-put-length (set logged mostSteps (r .len)) (mostSteps + 1) (r .columns) allColumns
+    ∙ length-set logged mostSteps (r .len)
+    ∙ part-put-length words 0 (r .log) mostSteps
 
 -- ---- a part, and a list with a part put into it
 

@@ -7,10 +7,10 @@ use Rattle.scan.specs.declared.Found.{Found}
 use Rattle.scan.specs.declared.Found.the-variants.{Clean, Fault}
 use Rattle.tables.specs.Layout.{Tables}
 use Rattle.tables.specs.Task.{taskOf, stateOf}
-use Rattle.scan.specs.Scan.{_then_, tablesFault, stateFault}
+use Rattle.scan.specs.Scan.{inputFault}
 use Rattle.tables.proofs.Laws.{length-filled}
 use Rattle.tables.proofs.Meant.{stepped-length}
-use Rattle.sequences.specs.Stepping.{steps}
+use Rattle.meaning.specs.Limits.{mostSteps}
 use Rattle.ledger.specs.declared.Run.{Run}
 use Rattle.ledger.specs.declared.Answer.{Answer}
 use Rattle.ledger.specs.declared.Answer.the-variants.{Accepted, Repeated, Refused}
@@ -25,9 +25,9 @@ unfolding runIn
 run-in-lengths bytes words =
     record {
       start = part-length bytes 0 8;
-      log = part-length words 0 steps;
+      log = part-length words 0 mostSteps;
       now = part-length bytes 8 8;
-      columns = part-length words (steps + 1) allColumns;
+      columns = part-length words (mostSteps + 1) allColumns;
     }
 
 -- ---- a start
@@ -35,12 +35,12 @@ run-in-lengths bytes words =
 fresh-sized : (s : List ℕ) → length s ≡ 8 → Sized (fresh s)
 unfolding fresh
 fresh-sized s e =
-    record { start = e; log = length-replicate {A = ℕ} steps 0; now = e; columns = length-replicate {A = ℕ} allColumns 0 }
+    record { start = e; log = length-replicate {A = ℕ} mostSteps 0; now = e; columns = length-replicate {A = ℕ} allColumns 0 }
 
 pub begun-sized : (t : Tables) (s : List ℕ) → Sized (begun t s .run)
 unfolding begun started startFrom
 begun-sized t s =
-    either (tablesFault t then stateFault (t .counts) (t .facts) s) (fresh (startFrom (t .counts) s))
+    either (inputFault t s) (fresh (startFrom (t .counts) s))
     (fresh-sized (startFrom (t .counts) s)
     (length-filled (stateOf s) (replicate 8 0) (t .counts .vars) ∙ length-replicate {A = ℕ} 8 0))
   where

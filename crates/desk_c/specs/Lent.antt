@@ -4,7 +4,7 @@ use mathlib.Core.List.{List}
 use lib.ListN.{getD, set, replicate}
 use Rattle.tables.specs.Layout.{Tables}
 use Rattle.tables.specs.Task.{tables}
-use Rattle.sequences.specs.Stepping.{steps}
+use Rattle.meaning.specs.Limits.{mostSteps}
 use Rattle.ledger.specs.declared.Run.{Run}
 use Rattle.ledger.specs.Ledger.{allColumns}
 
@@ -30,16 +30,16 @@ abbrev pub runBytes : ℕ
 runBytes = 16
 
 abbrev pub runWords : ℕ
-runWords = steps + 1 + allColumns
+runWords = mostSteps + 1 + allColumns
 
 unfoldable pub runIn : List ℕ → List ℕ → Run
 runIn bytes words =
     record {
       start = part bytes 0 8;
-      log = part words 0 steps;
-      len = getD words steps 0;
+      log = part words 0 mostSteps;
+      len = getD words mostSteps 0;
       now = part bytes 8 8;
-      columns = part words (steps + 1) allColumns;
+      columns = part words (mostSteps + 1) allColumns;
     }
 
 -- the lent memory with the run in it; places beyond are as they were
@@ -47,4 +47,4 @@ unfoldable pub bytesWith : Run → List ℕ → List ℕ
 bytesWith r bytes = withPart (withPart bytes 0 (r .start) 8) 8 (r .now) 8
 
 unfoldable pub wordsWith : Run → List ℕ → List ℕ
-wordsWith r words = withPart (set (withPart words 0 (r .log) steps) steps (r .len)) (steps + 1) (r .columns) allColumns
+wordsWith r words = withPart (set (withPart words 0 (r .log) mostSteps) mostSteps (r .len)) (mostSteps + 1) (r .columns) allColumns

@@ -9,13 +9,13 @@ use ledger::Answer;
 use ledger::COLUMNS;
 use ledger::Offered;
 use ledger::Run;
-use sequences::STEPS;
+use meaning::limits::STEPS_MOST;
 
 // The lent bytes of a run: its start and its state now.
 pub const RUN_BYTES: usize = 16;
 
 // The lent words of a run: its log, the number of its steps, and its columns.
-pub const RUN_WORDS: usize = STEPS + 1 + COLUMNS;
+pub const RUN_WORDS: usize = STEPS_MOST + 1 + COLUMNS;
 
 // Sets n bytes of `to` from its place j on to those of `from` from its place i on.
 fn copy_bytes(from: &[u8], i: usize, to: &mut [u8], j: usize, n: usize)
@@ -57,17 +57,17 @@ pub fn run_in(bytes: &[u8], words: &[u32]) -> Run
     ensures { λ r. ⌜ r ≡ runIn (now (bytes .entry)) (now (words .entry)) ⌝ }
 {
     let mut start = [0u8; 8];
-    let mut log = [0u32; STEPS];
+    let mut log = [0u32; STEPS_MOST];
     let mut now = [0u8; 8];
     let mut columns = [0u32; COLUMNS];
     copy_bytes(bytes, 0, &mut start, 0, 8);
-    copy_words(words, 0, &mut log, 0, STEPS);
+    copy_words(words, 0, &mut log, 0, STEPS_MOST);
     copy_bytes(bytes, 8, &mut now, 0, 8);
-    copy_words(words, STEPS + 1, &mut columns, 0, COLUMNS);
+    copy_words(words, STEPS_MOST + 1, &mut columns, 0, COLUMNS);
     Run {
         start,
         log,
-        len: words[STEPS],
+        len: words[STEPS_MOST],
         now,
         columns,
     }
@@ -91,9 +91,9 @@ fn put_words(run: Run, words: &mut [u32])
 {
     let log = run.log;
     let columns = run.columns;
-    copy_words(&log, 0, words, 0, STEPS);
-    words[STEPS] = run.len;
-    copy_words(&columns, 0, words, STEPS + 1, COLUMNS);
+    copy_words(&log, 0, words, 0, STEPS_MOST);
+    words[STEPS_MOST] = run.len;
+    copy_words(&columns, 0, words, STEPS_MOST + 1, COLUMNS);
 }
 
 // Hands back the answer to a start or an offer, with the run in lent memory if it was accepted; else nothing there moves.

@@ -2,7 +2,7 @@
 ghost use mathlib.Core.Path.{_≡_};
 ghost use Prim.Native.Nat.{_≤_};
 ghost use Rattle.sequences.specs.Choosing.{stepsOf};
-ghost use Rattle.sequences.specs.Stepping.{steps};
+ghost use Rattle.meaning.specs.Limits.{mostSteps};
 ghost use Rattle.desk_c.specs.Words.{word, refusedWord, foundWord, distancesWord, distanceWord, boundWord, SumFits, judgedWord, cheaperWord, openingWord, answerWord};
 use ledger::Answer;
 use refusals::Refusal;
@@ -110,7 +110,7 @@ pub fn cheaper_word(a: Cheaper) -> u64
 
 // Of which list the opening part is, and how many steps it has; for neither, or refused input, the empty part of the first.
 pub fn opening_word(d: Choice) -> u64
-    requires { ⌜ stepsOf d ≤ steps ⌝ }
+    requires { ⌜ stepsOf d ≤ mostSteps ⌝ }
     ensures { λ w. ⌜ w ≡ openingWord d ⌝ }
 {
     match d {

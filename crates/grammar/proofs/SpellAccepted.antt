@@ -26,6 +26,7 @@ use Rattle.grammar.proofs.SpellTask.{at-most, spelled-judged, scan-is-g
 use Rattle.grammar.proofs.SpellBack.{not-refused, joined-same, stacked-same}
 use Rattle.grammar.proofs.SpellBackFacts.{some-same}
 use Rattle.grammar.proofs.SpellBackTask.{accepted-task}
+use Rattle.tables.specs.Lines.{lineOfMaps}
 
 -- ---- a clean task is small
 
@@ -39,7 +40,7 @@ clean-small τ p =
     ∷ factsFault τ (τ .sas .goal) 5
     ∷ unless (leb (τ .sas .ops) 64) (OutOfRange 6)
     ∷ each (operatorFault τ) (τ .sas .ops) 0
-    ∷ unless (scanWithin 1 8 (τ .maps)) (OutOfRange (7 + τ .sas .ops))
+    ∷ unless (scanWithin 1 8 (τ .maps)) (OutOfRange (lineOfMaps (τ .sas .ops)))
     ∷ (each (mapFault τ) (τ .maps) 0 then each (sharesFault τ) (τ .maps) 0 then each (splitFault τ) (τ .sas .ops) 0)
     ∷ []) p in
     let r = q .1 .1 .1 .1 in
@@ -47,7 +48,7 @@ clean-small τ p =
       vars = at-most 1 8 (τ .sas .vars) (OutOfRange 2) (q .0);
       doms = λ v h. at-most 1 8 (τ .sas .dom v) (OutOfRange 3) (walk-clean doms (τ .sas .vars) v (q .1 .0) h);
       ops = leb-true (τ .sas .ops) 64 (rule-held (leb (τ .sas .ops) 64) (OutOfRange 6) (r .0));
-      maps = at-most 1 8 (τ .maps) (OutOfRange (7 + τ .sas .ops)) (r .1 .1 .0);
+      maps = at-most 1 8 (τ .maps) (OutOfRange (lineOfMaps (τ .sas .ops))) (r .1 .1 .0);
     }
 
 -- ---- the tables of a small task spell the same text

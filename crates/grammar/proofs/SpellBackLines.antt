@@ -9,7 +9,8 @@ use lib.ListN.{set}
 use Rattle.refusals.specs.declared.Refusal.the-variants.{ClassMissing, TooManyStates}
 use Rattle.meaning.specs.Sas.{Facts}
 use Rattle.tables.specs.Layout.{Tables, domAt, prePlace, effPlace, classPlace, sharePlace}
-use Rattle.grammar.specs.Fields.{comma, dash, slash, semicolon, mostCost, mostStates}
+use Rattle.grammar.specs.Fields.{comma, dash, slash, semicolon}
+use Rattle.meaning.specs.Limits.{mostCost, mostStates}
 use Rattle.grammar.specs.Grammar.{accepted, Next, Part, _▸_, ask, keep, parted, row as numberRow, putFact, putCost, putShare, operator, classCount, noneMissing, classes, variables, amounts}
 use Rattle.grammar.specs.Spelling.{digits, joined, numbers, someFacts, shareText, changed, row, factRow}
 use Rattle.grammar.proofs.SpellParts.{joined-none}

@@ -8,7 +8,8 @@ use lib.ListN.{length, getD, replicate, length-replicate}
 use Rattle.meaning.specs.Sas.{Facts}
 use Rattle.meaning.specs.Split.{Task}
 use Rattle.tables.specs.Layout.{Tables, factsRoom, domAt, domPlace, initPlace, goalPlace, prePlace, effPlace, classPlace, sharePlace}
-use Rattle.grammar.specs.Fields.{slash, mostVars, mostValues, mostOps, mostMaps}
+use Rattle.grammar.specs.Fields.{slash}
+use Rattle.meaning.specs.Limits.{mostVars, mostValues, mostOps, mostMaps}
 use Rattle.grammar.specs.Grammar.{accepted, Next, Part, _▸_, nothing, ask, keep, within, number, line, lines, factList, withCounts, putCost, editionLine, varsLine, domLine, initLine, goalLine, operator, opsLine, opLines, variables, mapsLine, mapLines, amounts, shareLines, taskLines, theEnd, noTask, verdict}
 use Rattle.grammar.specs.Spelling.{digits, joined, numbers, someFacts, keyed, stacked, opText, mapText, shareText, spelled, changed, row, factRow}
 use Rattle.grammar.proofs.Runs.{within-both}

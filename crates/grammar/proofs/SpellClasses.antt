@@ -12,7 +12,8 @@ use Rattle.meaning.specs.Split.{countOf}
 use Rattle.scan.specs.declared.Found.the-variants.{Clean, Fault}
 use Rattle.tables.specs.Classes.{someHas, noneMissing as scanNoneMissing}
 use Rattle.tables.proofs.Laws.{by-cases}
-use Rattle.grammar.specs.Fields.{pick, mostValues}
+use Rattle.grammar.specs.Fields.{pick}
+use Rattle.meaning.specs.Limits.{mostValues}
 use Rattle.grammar.specs.Grammar.{has, topOf, allOf, classCount, noneMissing}
 
 -- a fault is not clean

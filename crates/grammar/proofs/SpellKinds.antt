@@ -22,6 +22,7 @@ use Rattle.grammar.specs.Grammar.{accepted, refused, verdict}
 use Rattle.grammar.specs.Spelling.{textOf, canon}
 use Rattle.grammar.proofs.SpellParts.{judged}
 use Rattle.grammar.proofs.SpellTask.{scan-is-grammar}
+use Rattle.tables.specs.Lines.{lineOfOp, lineOfMaps, lineOfMap, lineOfShares}
 
 -- a refusal for a number, a class, a total or a map's size: 3, 5, 6 or 7
 abbrev pub OfNumbers : Refusal → Type 0
@@ -66,10 +67,10 @@ module _ (T : Task) where
   of-operator : (o : ℕ) → Kind (operatorFault T o)
   unfolding operatorFault
   of-operator o =
-      let pre = factsFault T (T .sas .pre o) (7 + o) in
-      let eff = factsFault T (T .sas .eff o) (7 + o) in
-      both (unless (leb (T .sas .cost o) 1000000) (OutOfRange (7 + o))) (pre then eff) (range (leb (T .sas .cost o) 1000000) (7 + o))
-      (both pre eff (of-facts (T .sas .pre o) (7 + o)) (of-facts (T .sas .eff o) (7 + o)))
+      let pre = factsFault T (T .sas .pre o) (lineOfOp o) in
+      let eff = factsFault T (T .sas .eff o) (lineOfOp o) in
+      both (unless (leb (T .sas .cost o) 1000000) (OutOfRange (lineOfOp o))) (pre then eff) (range (leb (T .sas .cost o) 1000000) (lineOfOp o))
+      (both pre eff (of-facts (T .sas .pre o) (lineOfOp o)) (of-facts (T .sas .eff o) (lineOfOp o)))
 
   of-classes : (m l v : ℕ) → Kind (classesFault T m l v)
   unfolding classesFault
@@ -81,18 +82,18 @@ module _ (T : Task) where
   of-map : (m : ℕ) → Kind (mapFault T m)
   unfolding mapFault
   of-map m =
-      let l = 8 + T .sas .ops + m in
+      let l = lineOfMap (T .sas .ops) m in
       let few = leb (abstractStates (T .sas) (view T m)) 4096 in
       both (each (classesFault T m l) (T .sas .vars) 0) (unless few (TooManyStates l)) (walk (classesFault T m l) (of-classes m l) (T .sas .vars) 0)
       (rule few (TooManyStates l) (λ e. omega arith, λ e. omega arith))
 
   of-shares : (m : ℕ) → Kind (sharesFault T m)
   unfolding sharesFault
-  of-shares m = ranges (λ o. leb (T .share m o) 1000000) (8 + T .sas .ops + T .maps + m) (T .sas .ops)
+  of-shares m = ranges (λ o. leb (T .share m o) 1000000) (lineOfShares (T .sas .ops) (T .maps) m) (T .sas .ops)
 
   of-split : (o : ℕ) → Kind (splitFault T o)
   unfolding splitFault
-  of-split o = rule (leb (sum (λ m. T .share m o) (T .maps)) (T .sas .cost o)) (SharesAboveCost (7 + o)) (λ e. omega arith, λ e. omega arith)
+  of-split o = rule (leb (sum (λ m. T .share m o) (T .maps)) (T .sas .cost o)) (SharesAboveCost (lineOfOp o)) (λ e. omega arith, λ e. omega arith)
 
   of-task : Kind (taskFault T)
   unfolding taskFault
@@ -103,7 +104,7 @@ module _ (T : Task) where
       (more (of-facts (T .sas .goal) 5)
       (more (range (leb (T .sas .ops) 64) 6)
       (more (walk (operatorFault T) of-operator (T .sas .ops) 0)
-      (more (range (scanWithin 1 8 (T .maps)) (7 + T .sas .ops))
+      (more (range (scanWithin 1 8 (T .maps)) (lineOfMaps (T .sas .ops)))
       (more (walk (mapFault T) of-map (T .maps) 0)
       (more (walk (sharesFault T) of-shares (T .maps) 0)
       (more (walk (splitFault T) of-split (T .sas .ops) 0) none)))))))))

@@ -12,13 +12,15 @@ use Rattle.meaning.specs.Split.{Task}
 use Rattle.scan.specs.declared.Found.the-variants.{Clean}
 use Rattle.tables.specs.Layout.{Tables, domAt, domPlace, initPlace, goalPlace, prePlace, effPlace, sharePlace}
 use Rattle.scan.specs.Scan.{unless, _then_, each, factsFault, operatorFault, mapFault, sharesFault, within as scanWithin}
-use Rattle.grammar.specs.Fields.{pick, isDigit, lineEnd, comma, dash, semicolon, mostValues, mostCost}
+use Rattle.grammar.specs.Fields.{pick, isDigit, lineEnd, comma, dash, semicolon}
+use Rattle.meaning.specs.Limits.{mostValues, mostCost}
 use Rattle.grammar.specs.Grammar.{Next, Part, _▸_, nothing, ask, keep, lit, within, number, row as numberRow, line, factList, withCounts, putFact, putCost, putShare, editionLine, varsLine, domLine, initLine, goalLine, opsLine, operator, mapsLine, variables, amounts}
 use Rattle.grammar.specs.Spelling.{digits, joined, numbers, someFacts, keyed, opText, mapText, shareText, changed, row, factRow, opRows, mapRows}
 use Rattle.grammar.proofs.Runs.{other}
 use Rattle.grammar.proofs.SpellParts.{judged, next, Told, ToldLine, lit-told, number-told, row-told, line-told}
 use Rattle.grammar.proofs.SpellFacts.{within-below, on, on-changed, Knows, knows-set, knows-facts, Ends, facts-told}
 use Rattle.grammar.proofs.SpellMaps.{variables-told}
+use Rattle.tables.specs.Lines.{lineOfOp, lineOfMap, lineOfShares}
 
 -- ---- ranges as the grammar and as the scan have them
 
@@ -135,45 +137,45 @@ module _ (τ : Task) (o : ℕ) (T : Tables) (w : Knows (τ .sas .vars) (τ .sas 
   abbrev preDone : Tables
   preDone = on (factRow (prePlace o) (τ .sas .pre o) (τ .sas .vars)) (putCost o (τ .sas .cost o) T)
 
-  eff-told : (k : Next) → (lit (semicolon ∷ []) ▸ factList (effPlace o)) (semicolon ∷ effPart) (7 + o) preDone k
-      ≡ judged (factsFault τ (τ .sas .eff o) (7 + o)) (k (lineEnd ∷ rest) (7 + o) (opChange τ o T))
+  eff-told : (k : Next) → (lit (semicolon ∷ []) ▸ factList (effPlace o)) (semicolon ∷ effPart) (lineOfOp o) preDone k
+      ≡ judged (factsFault τ (τ .sas .eff o) (lineOfOp o)) (k (lineEnd ∷ rest) (lineOfOp o) (opChange τ o T))
   unfolding _▸_ factsFault opRows
   eff-told k =
-      lit-told (semicolon ∷ []) effPart (7 + o) preDone _
-      ∙ facts-told (effPlace o) (λ v. omega arith) (τ .sas .eff o) (τ .sas .dom) (τ .sas .vars) lineEnd rest line-ends (7 + o) preDone
+      lit-told (semicolon ∷ []) effPart (lineOfOp o) preDone _
+      ∙ facts-told (effPlace o) (λ v. omega arith) (τ .sas .eff o) (τ .sas .dom) (τ .sas .vars) lineEnd rest line-ends (lineOfOp o) preDone
       (knows-facts (prePlace o) (τ .sas .pre o) (λ v. omega arith) (τ .sas .vars) (putCost o (τ .sas .cost o) T) (record { vars = w .vars; few = w .few; doms = w .doms })) k
 
-  pre-told : (k : Next) → (lit (semicolon ∷ []) ▸ factList (prePlace o) ▸ lit (semicolon ∷ []) ▸ factList (effPlace o)) (semicolon ∷ prePart) (7 + o) (putCost o (τ .sas .cost o) T) k
-      ≡ judged (factsFault τ (τ .sas .pre o) (7 + o) then factsFault τ (τ .sas .eff o) (7 + o)) (k (lineEnd ∷ rest) (7 + o) (opChange τ o T))
+  pre-told : (k : Next) → (lit (semicolon ∷ []) ▸ factList (prePlace o) ▸ lit (semicolon ∷ []) ▸ factList (effPlace o)) (semicolon ∷ prePart) (lineOfOp o) (putCost o (τ .sas .cost o) T) k
+      ≡ judged (factsFault τ (τ .sas .pre o) (lineOfOp o) then factsFault τ (τ .sas .eff o) (lineOfOp o)) (k (lineEnd ∷ rest) (lineOfOp o) (opChange τ o T))
   unfolding _▸_ factsFault
   pre-told k =
-      lit-told (semicolon ∷ []) prePart (7 + o) (putCost o (τ .sas .cost o) T) _
-      ∙ next (factsFault τ (τ .sas .pre o) (7 + o)) (factsFault τ (τ .sas .eff o) (7 + o)) _
-      (facts-told (prePlace o) (λ v. omega arith) (τ .sas .pre o) (τ .sas .dom) (τ .sas .vars) semicolon effPart semicolon-ends (7 + o) (putCost o (τ .sas .cost o) T)
+      lit-told (semicolon ∷ []) prePart (lineOfOp o) (putCost o (τ .sas .cost o) T) _
+      ∙ next (factsFault τ (τ .sas .pre o) (lineOfOp o)) (factsFault τ (τ .sas .eff o) (lineOfOp o)) _
+      (facts-told (prePlace o) (λ v. omega arith) (τ .sas .pre o) (τ .sas .dom) (τ .sas .vars) semicolon effPart semicolon-ends (lineOfOp o) (putCost o (τ .sas .cost o) T)
       (record { vars = w .vars; few = w .few; doms = w .doms }) _)
       (λ c. eff-told k)
 
-  operator-told : Told (operator o) (opText τ o) (lineEnd ∷ rest) (7 + o) T (operatorFault τ o) (opChange τ o T)
+  operator-told : Told (operator o) (opText τ o) (lineEnd ∷ rest) (lineOfOp o) T (operatorFault τ o) (opChange τ o T)
   unfolding operator opText operatorFault _▸_ keep
   operator-told k =
       let e : opText τ o ++ lineEnd ∷ rest ≡ digits (τ .sas .cost o) ++ (semicolon ∷ prePart) = simp append-assoc in
-      next (unless (leb (τ .sas .cost o) 1000000) (OutOfRange (7 + o))) (factsFault τ (τ .sas .pre o) (7 + o) then factsFault τ (τ .sas .eff o) (7 + o)) _
-      (ap (λ (t : List ℕ). operator o t (7 + o) T k) e
-      ∙ number-told 0 (mostCost + 1) (τ .sas .cost o) _ (semicolon ∷ prePart) (7 + o) T _ (other (semicolon-ends .no-digit))
+      next (unless (leb (τ .sas .cost o) 1000000) (OutOfRange (lineOfOp o))) (factsFault τ (τ .sas .pre o) (lineOfOp o) then factsFault τ (τ .sas .eff o) (lineOfOp o)) _
+      (ap (λ (t : List ℕ). operator o t (lineOfOp o) T k) e
+      ∙ number-told 0 (mostCost + 1) (τ .sas .cost o) _ (semicolon ∷ prePart) (lineOfOp o) T _ (other (semicolon-ends .no-digit))
       ∙ rw (within-most (τ .sas .cost o) 1000000) refl)
       (λ c. pre-told k)
 
-  pub op-told : ToldLine (line "op=" (operator o)) (keyed "op=" (opText τ o)) rest (7 + o) T (operatorFault τ o) (opChange τ o T)
-  op-told = line-told "op=" (operator o) (opText τ o) rest (7 + o) T (opChange τ o T) (operatorFault τ o) operator-told
+  pub op-told : ToldLine (line "op=" (operator o)) (keyed "op=" (opText τ o)) rest (lineOfOp o) T (operatorFault τ o) (opChange τ o T)
+  op-told = line-told "op=" (operator o) (opText τ o) rest (lineOfOp o) T (opChange τ o T) (operatorFault τ o) operator-told
 
 -- ---- map=
 
 module _ (τ : Task) (m : ℕ) (T : Tables) (w : Knows (τ .sas .vars) (τ .sas .dom) T) (small : (v : ℕ) → v < τ .sas .vars → τ .sas .dom v ≤ 8) (rest : List ℕ) where
-  pub map-told : ToldLine (line "map=" (variables m (τ .sas .vars) 0 1)) (keyed "map=" (mapText τ m)) rest (8 + τ .sas .ops + m) T (mapFault τ m) (on (mapRows τ m) T)
+  pub map-told : ToldLine (line "map=" (variables m (τ .sas .vars) 0 1)) (keyed "map=" (mapText τ m)) rest (lineOfMap (τ .sas .ops) m) T (mapFault τ m) (on (mapRows τ m) T)
   unfolding mapText mapFault mapRows
   map-told =
-      line-told "map=" (variables m (τ .sas .vars) 0 1) (mapText τ m) rest (8 + τ .sas .ops + m) T (on (mapRows τ m) T) (mapFault τ m)
-      (variables-told τ m (8 + τ .sas .ops + m) (lineEnd ∷ rest) (other (line-ends .no-digit)) small (τ .sas .vars) 0 1 (omega arith) refl T w)
+      line-told "map=" (variables m (τ .sas .vars) 0 1) (mapText τ m) rest (lineOfMap (τ .sas .ops) m) T (on (mapRows τ m) T) (mapFault τ m)
+      (variables-told τ m (lineOfMap (τ .sas .ops) m) (lineEnd ∷ rest) (other (line-ends .no-digit)) small (τ .sas .vars) 0 1 (omega arith) refl T w)
 
 -- ---- share=
 
@@ -195,8 +197,8 @@ amounts-told share m (suc n) rest l T k =
     ∙ ap (λ (U : Tables). judged (each (λ o. unless (leb (share o) 1000000) (OutOfRange l)) (suc n) 0) (k (lineEnd ∷ rest) l U)) (shares-changed (λ o x. set x (sharePlace m o) (share o)) (suc n) 0 T)
 
 pub share-told : (τ : Task) (m : ℕ) (T : Tables) (rest : List ℕ)
-    → ToldLine (line "share=" (amounts m (τ .sas .ops))) (keyed "share=" (shareText (τ .share m) (τ .sas .ops))) rest (8 + τ .sas .ops + τ .maps + m) T (sharesFault τ m) (onShares (row (sharePlace m) (τ .share m) (τ .sas .ops)) T)
+    → ToldLine (line "share=" (amounts m (τ .sas .ops))) (keyed "share=" (shareText (τ .share m) (τ .sas .ops))) rest (lineOfShares (τ .sas .ops) (τ .maps) m) T (sharesFault τ m) (onShares (row (sharePlace m) (τ .share m) (τ .sas .ops)) T)
 unfolding sharesFault
 share-told τ m T rest =
-    line-told "share=" (amounts m (τ .sas .ops)) (shareText (τ .share m) (τ .sas .ops)) rest (8 + τ .sas .ops + τ .maps + m) T _ (sharesFault τ m)
-    (amounts-told (τ .share m) m (τ .sas .ops) rest (8 + τ .sas .ops + τ .maps + m) T)
+    line-told "share=" (amounts m (τ .sas .ops)) (shareText (τ .share m) (τ .sas .ops)) rest (lineOfShares (τ .sas .ops) (τ .maps) m) T _ (sharesFault τ m)
+    (amounts-told (τ .share m) m (τ .sas .ops) rest (lineOfShares (τ .sas .ops) (τ .maps) m) T)

@@ -20,7 +20,8 @@ use Rattle.tables.specs.Layout.{Tables, domAt, classPlace}
 use Rattle.scan.specs.Scan.{unless, _then_, each, classesFault}
 use Rattle.tables.specs.Classes.{noneMissing as scanNoneMissing}
 use Rattle.scan.proofs.Walks.{then-then, clean-first, rule-held, walk-clean}
-use Rattle.grammar.specs.Fields.{pick, isDigit, comma, slash, mostValues, mostStates}
+use Rattle.grammar.specs.Fields.{pick, isDigit, comma, slash}
+use Rattle.meaning.specs.Limits.{mostValues, mostStates}
 use Rattle.grammar.specs.Grammar.{Verdict, Next, Part, _▸_, keep, parted, putFact, classCount, noneMissing, classes, variables}
 use Rattle.grammar.specs.Spelling.{digits, gap, joined, numbers, changed, row}
 use Rattle.grammar.proofs.Runs.{Stop, other}

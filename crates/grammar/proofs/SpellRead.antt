@@ -17,7 +17,8 @@ use Rattle.scan.proofs.Walks.{clean-next}
 use Rattle.scan.proofs.Validity.{clean-valid}
 use Rattle.refusals.specs.declared.Refusal.the-variants.{TextTooLong, TableTooShort}
 use Rattle.grammar.specs.declared.Reading.the-variants.{Accepted, Refused}
-use Rattle.grammar.specs.Fields.{pick, mostBytes, Outcome, leaves, admitted}
+use Rattle.grammar.specs.Fields.{pick, Outcome, leaves, admitted}
+use Rattle.meaning.specs.Limits.{mostBytes}
 use Rattle.grammar.specs.Grammar.{Verdict, accepted, refused, verdict, outcome, readText}
 use Rattle.grammar.specs.Spelling.{textOf, canon}
 use Rattle.grammar.proofs.SpellTask.{clean-accepted}

@@ -10,7 +10,8 @@ use borrow.Author.Tests.{ltb-true, ltb-false}
 use Rattle.meaning.specs.Sas.{Facts}
 use Rattle.meaning.specs.Split.{Task, Valid}
 use Rattle.tables.proofs.Laws.{by-cases}
-use Rattle.grammar.specs.Fields.{bytes, comma, slash, mostBytes}
+use Rattle.grammar.specs.Fields.{bytes, comma, slash}
+use Rattle.meaning.specs.Limits.{mostBytes}
 use Rattle.grammar.specs.Spelling.{lastDigits, digits, gap, joined, numbers, fact, another, moreFacts, first, someFacts, keyed, stacked, opText, mapText, shareText, spelled}
 use Rattle.grammar.proofs.Decimal.{few, many}
 

@@ -27,6 +27,7 @@ use Rattle.grammar.proofs.SpellFacts.{on, on-changed, Knows, knows-row,
 use Rattle.grammar.proofs.SpellTables.{zeros, writes-row}
 use Rattle.grammar.proofs.SpellOwn.{Small, costs-own, shares-own}
 use Rattle.grammar.proofs.SpellLines.{edition-told, vars-told, dom-told, init-told, goal-told, ops-told, opChange, op-told, maps-told, map-told, onShares, shares-changed, share-told}
+use Rattle.tables.specs.Lines.{lineOfOp, lineOfMaps}
 
 -- ---- after all else: shares against costs
 
@@ -35,7 +36,7 @@ unfolding shareTotal
 totals τ share o zero h = refl
 totals τ share o (suc n) h = ap₂ (λ (a b : ℕ). a + b) (totals τ share o n (λ m l. h m (omega arith))) (h n (omega arith))
 
-settled-over : (o : ℕ) (T : Tables) → settled (opLine o) T ≡ refused (SharesAboveCost (7 + o))
+settled-over : (o : ℕ) (T : Tables) → settled (opLine o) T ≡ refused (SharesAboveCost (lineOfOp o))
 unfolding settled
 settled-over o T =
     let e : 7 + o ≡ suc (6 + o) = omega arith in
@@ -54,7 +55,7 @@ module _ (τ : Task) (T : Tables) (cost : ℕ → ℕ) (share : ℕ → ℕ → 
     where
       go : (b : Bool) → settled (overLine cost share (τ .maps) n (o + 1)) T ≡ judged (each (splitFault τ) n (suc o)) (accepted T)
           → settled (pick b (overLine cost share (τ .maps) n (o + 1)) (opLine o)) T
-          ≡ judged (unless b (SharesAboveCost (7 + o)) then each (splitFault τ) n (suc o)) (accepted T)
+          ≡ judged (unless b (SharesAboveCost (lineOfOp o)) then each (splitFault τ) n (suc o)) (accepted T)
       go true h = h
       go false h = settled-over o T
 
@@ -110,13 +111,13 @@ module _ (τ : Task) where
 
   all-ops : (m : ℕ) (f c h rest : List ℕ) (k : Next) → Known (made (τ .sas .vars) (τ .sas .ops) m f c h)
       → opLines (opsText ++ rest) 7 (made (τ .sas .vars) (τ .sas .ops) m f c h) k
-      ≡ judged (each (operatorFault τ) (τ .sas .ops) 0) (k rest (7 + τ .sas .ops) (made (τ .sas .vars) (τ .sas .ops) m (opsDone f) (costsDone c) h))
+      ≡ judged (each (operatorFault τ) (τ .sas .ops) 0) (k rest (lineOfMaps (τ .sas .ops)) (made (τ .sas .vars) (τ .sas .ops) m (opsDone f) (costsDone c) h))
   unfolding opLines ask row
   all-ops m f c h rest k w =
       let T = made (τ .sas .vars) (τ .sas .ops) m f c h in
       lines-told (λ o. line "op=" (operator o)) (λ o. keyed "op=" (opText τ o)) (operatorFault τ) (opChange τ) Known (τ .sas .ops) 7
       (λ o U l. knows-op o U) (λ o U u l v. op-told τ o U v u) (τ .sas .ops) 0 (omega arith) rest T w k
-      ∙ ap (λ (U : Tables). judged (each (operatorFault τ) (τ .sas .ops) 0) (k rest (7 + τ .sas .ops) U)) (ops-changed (τ .sas .ops) 0 T)
+      ∙ ap (λ (U : Tables). judged (each (operatorFault τ) (τ .sas .ops) 0) (k rest (lineOfMaps (τ .sas .ops)) U)) (ops-changed (τ .sas .ops) 0 T)
 
   all-maps : (f c h rest : List ℕ) (k : Next) → ((v : ℕ) → v < τ .sas .vars → τ .sas .dom v ≤ 8) → Known (made (τ .sas .vars) (τ .sas .ops) (τ .maps) f c h)
       → mapLines (mapsText ++ rest) (8 + τ .sas .ops) (made (τ .sas .vars) (τ .sas .ops) (τ .maps) f c h) k
@@ -186,19 +187,19 @@ module _ (τ : Task) (f c h : List ℕ) (lf : length f ≡ 1624) (zf : (p : ℕ)
       (λ r. end-told g _ s))
 
   maps-from : (g : List ℕ) (m : ℕ) → τ .sas .vars ≤ 8 → ((v : ℕ) → v < τ .sas .vars → τ .sas .dom v ≤ 8) → τ .sas .ops ≤ 64 → Known τ (made (τ .sas .vars) (τ .sas .ops) m g (costsDone τ c) h)
-      → (mapsLine ▸ mapLines ▸ shareLines) (keyed "maps=" (digits (τ .maps)) ++ mapsFrom) (7 + τ .sas .ops) (made (τ .sas .vars) (τ .sas .ops) m g (costsDone τ c) h) theEnd
-      ≡ judged (unless (scanWithin 1 8 (τ .maps)) (OutOfRange (7 + τ .sas .ops)) then tailRules) (accepted (finished g))
+      → (mapsLine ▸ mapLines ▸ shareLines) (keyed "maps=" (digits (τ .maps)) ++ mapsFrom) (lineOfMaps (τ .sas .ops)) (made (τ .sas .vars) (τ .sas .ops) m g (costsDone τ c) h) theEnd
+      ≡ judged (unless (scanWithin 1 8 (τ .maps)) (OutOfRange (lineOfMaps (τ .sas .ops))) then tailRules) (accepted (finished g))
   unfolding _▸_
   maps-from g m a d b w =
       let z : 7 + τ .sas .ops + 1 ≡ 8 + τ .sas .ops = omega arith in
-      next (unless (scanWithin 1 8 (τ .maps)) (OutOfRange (7 + τ .sas .ops))) tailRules _
-      (maps-told mapsFrom (7 + τ .sas .ops) (made (τ .sas .vars) (τ .sas .ops) m g (costsDone τ c) h) (τ .maps) _)
+      next (unless (scanWithin 1 8 (τ .maps)) (OutOfRange (lineOfMaps (τ .sas .ops)))) tailRules _
+      (maps-told mapsFrom (lineOfMaps (τ .sas .ops)) (made (τ .sas .vars) (τ .sas .ops) m g (costsDone τ c) h) (τ .maps) _)
       (λ q.
       ap (λ (l : ℕ). (mapLines ▸ shareLines) mapsFrom l (made (τ .sas .vars) (τ .sas .ops) (τ .maps) g (costsDone τ c) h) theEnd) z
-      ∙ tail-told g (record { vars = a; doms = d; ops = b; maps = at-most 1 8 (τ .maps) (OutOfRange (7 + τ .sas .ops)) q }) (record { vars = refl; few = w .few; doms = w .doms }))
+      ∙ tail-told g (record { vars = a; doms = d; ops = b; maps = at-most 1 8 (τ .maps) (OutOfRange (lineOfMaps (τ .sas .ops))) q }) (record { vars = refl; few = w .few; doms = w .doms }))
 
   abbrev opsRules : Found
-  opsRules = each (operatorFault τ) (τ .sas .ops) 0 then unless (scanWithin 1 8 (τ .maps)) (OutOfRange (7 + τ .sas .ops)) then tailRules
+  opsRules = each (operatorFault τ) (τ .sas .ops) 0 then unless (scanWithin 1 8 (τ .maps)) (OutOfRange (lineOfMaps (τ .sas .ops))) then tailRules
 
   ops-from : (g : List ℕ) (m o : ℕ) → τ .sas .vars ≤ 8 → ((v : ℕ) → v < τ .sas .vars → τ .sas .dom v ≤ 8) → Known τ (made (τ .sas .vars) o m g c h)
       → (opsLine ▸ opLines ▸ mapsLine ▸ mapLines ▸ shareLines) (keyed "ops=" (digits (τ .sas .ops)) ++ opsFrom) 6 (made (τ .sas .vars) o m g c h) theEnd
@@ -207,7 +208,7 @@ module _ (τ : Task) (f c h : List ℕ) (lf : length f ≡ 1624) (zf : (p : ℕ)
   ops-from g m o a d w =
       next (unless (leb (τ .sas .ops) 64) (OutOfRange 6)) opsRules _
       (ops-told opsFrom 6 (made (τ .sas .vars) o m g c h) (τ .sas .ops) _)
-      (λ q. next (each (operatorFault τ) (τ .sas .ops) 0) (unless (scanWithin 1 8 (τ .maps)) (OutOfRange (7 + τ .sas .ops)) then tailRules) _
+      (λ q. next (each (operatorFault τ) (τ .sas .ops) 0) (unless (scanWithin 1 8 (τ .maps)) (OutOfRange (lineOfMaps (τ .sas .ops))) then tailRules) _
       (all-ops τ m g c h (keyed "maps=" (digits (τ .maps)) ++ mapsFrom) _ (record { vars = refl; few = w .few; doms = w .doms }))
       (λ r. maps-from (opsDone τ g) m a d (leb-true (τ .sas .ops) 64 (rule-held (leb (τ .sas .ops) 64) (OutOfRange 6) q))
       (known g m w)))

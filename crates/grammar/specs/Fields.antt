@@ -7,6 +7,7 @@ use mathlib.Core.Bool.{Bool, true, false}
 use lib.ListN.{length, replicate}
 use lib.Dec.{ltb, leb}
 use Rattle.refusals.specs.declared.Refusal.the-variants.{TextTooLong, TableTooShort}
+use Rattle.meaning.specs.Limits.{mostBytes}
 use Rattle.tables.specs.Layout.{factsRoom, costsRoom, sharesRoom}
 use Rattle.grammar.specs.declared.Reading.{Reading}
 use Rattle.grammar.specs.declared.Reading.the-variants.{Refused}
@@ -42,28 +43,6 @@ colon = code ":"
 
 abbrev pub semicolon : ℕ
 semicolon = code ";"
-
--- the limits of the paper
-abbrev pub mostBytes : ℕ
-mostBytes = 16384
-
-abbrev pub mostVars : ℕ
-mostVars = 8
-
-abbrev pub mostValues : ℕ
-mostValues = 8
-
-abbrev pub mostOps : ℕ
-mostOps = 64
-
-abbrev pub mostCost : ℕ
-mostCost = 1000000
-
-abbrev pub mostMaps : ℕ
-mostMaps = 8
-
-abbrev pub mostStates : ℕ
-mostStates = 4096
 
 -- what operator o has in the first n maps together
 unfoldable pub shareTotal : (ℕ → ℕ → ℕ) → ℕ → ℕ → ℕ

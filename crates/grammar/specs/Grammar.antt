@@ -31,28 +31,8 @@ use Rattle.tables.specs.Layout.{
   shareAt,
 }
 use Rattle.grammar.specs.declared.Reading.the-variants.{Accepted, Refused}
-use Rattle.grammar.specs.Fields.{
-  pick,
-  isDigit,
-  bytes,
-  lineEnd,
-  comma,
-  dash,
-  slash,
-  colon,
-  semicolon,
-  mostVars,
-  mostValues,
-  mostOps,
-  mostCost,
-  mostMaps,
-  mostStates,
-  overLine,
-  Outcome,
-  leaves,
-  filled,
-  admitted,
-}
+use Rattle.grammar.specs.Fields.{pick, isDigit, bytes, lineEnd, comma, dash, slash, colon, semicolon, overLine, Outcome, leaves, filled, admitted}
+use Rattle.meaning.specs.Limits.{mostVars, mostValues, mostOps, mostCost, mostMaps, mostStates}
 
 -- accepted with the task's tables, or refused
 pub data Verdict : Type 0 where

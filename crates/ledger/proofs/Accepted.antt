@@ -16,7 +16,7 @@ use Rattle.tables.proofs.Laws.{by-cases}
 use Rattle.ledger.specs.declared.Run.{Run}
 use Rattle.ledger.specs.declared.Answer.{Answer}
 use Rattle.ledger.specs.declared.Answer.the-variants.{Accepted, Repeated, Refused}
-use Rattle.sequences.specs.Stepping.{steps}
+use Rattle.meaning.specs.Limits.{mostSteps}
 use Rattle.ledger.specs.Ledger.{canRun, isRun, oldStep, nextStep, judged, answered, advanced, moved, offered}
 use Rattle.ledger.proofs.Answers.{old-same, old-other, next-full, next-not, judged-none, judged-zero, judged-beyond, judged-old, judged-next}
 
@@ -107,14 +107,14 @@ module _ (t : Tables) (r : Run) (number o : ℕ) where
         refl
         ∙ accepted-judged
 
-    pub accepted-room : r .len < steps
+    pub accepted-room : r .len < mostSteps
     accepted-room =
-        by-cases (leb steps (r .len))
+        by-cases (leb mostSteps (r .len))
         (λ p.
         absurd
         (not-refused (RunFull number)
-        (next-full (t .counts) (t .facts) r number o (leb-true steps (r .len) p) ∙ accepted-next)))
-        (λ p. leb-false steps (r .len) p)
+        (next-full (t .counts) (t .facts) r number o (leb-true mostSteps (r .len) p) ∙ accepted-next)))
+        (λ p. leb-false mostSteps (r .len) p)
 
     pub accepted-can : canRun (t .counts) (t .facts) r o ≡ true
     accepted-can =

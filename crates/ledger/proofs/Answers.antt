@@ -14,7 +14,7 @@ use Rattle.tables.specs.Steps.{mayRun}
 use Rattle.ledger.specs.declared.Run.{Run}
 use Rattle.ledger.specs.declared.Answer.{Answer}
 use Rattle.ledger.specs.declared.Answer.the-variants.{Accepted, Repeated, Refused}
-use Rattle.sequences.specs.Stepping.{steps}
+use Rattle.meaning.specs.Limits.{mostSteps}
 use Rattle.ledger.specs.Ledger.{canRun, startAt, oldStep, nextStep, judged}
 
 -- ---- a value of a start
@@ -51,17 +51,17 @@ module _ (r : Run) (number o : ℕ) where
   old-other e = rw (ne-eqb (getD (r .log) (number - 1) 0) o e) refl
 
 module _ (c : Counts) (facts : List ℕ) (r : Run) (number o : ℕ) where
-  pub next-full : steps ≤ r .len → Refused (RunFull number) ≡ nextStep c facts r number o
+  pub next-full : mostSteps ≤ r .len → Refused (RunFull number) ≡ nextStep c facts r number o
   unfolding nextStep
-  next-full h = rw (le-leb steps (r .len) h) refl
+  next-full h = rw (le-leb mostSteps (r .len) h) refl
 
-  pub next-go : r .len < steps → canRun c facts r o ≡ true → Accepted ≡ nextStep c facts r number o
+  pub next-go : r .len < mostSteps → canRun c facts r o ≡ true → Accepted ≡ nextStep c facts r number o
   unfolding nextStep
-  next-go h e = rw (lt-leb steps (r .len) h, e) refl
+  next-go h e = rw (lt-leb mostSteps (r .len) h, e) refl
 
-  pub next-not : r .len < steps → canRun c facts r o ≡ false → Refused (MayNotRun number) ≡ nextStep c facts r number o
+  pub next-not : r .len < mostSteps → canRun c facts r o ≡ false → Refused (MayNotRun number) ≡ nextStep c facts r number o
   unfolding nextStep
-  next-not h e = rw (lt-leb steps (r .len) h, e) refl
+  next-not h e = rw (lt-leb mostSteps (r .len) h, e) refl
 
   -- ---- the offer itself
 

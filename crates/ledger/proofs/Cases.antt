@@ -9,7 +9,7 @@ use Rattle.scan.specs.Scan.{each, factsFault, operatorFault, classesFault, mapF
 use Rattle.ledger.specs.declared.Run.{Run}
 use Rattle.ledger.specs.declared.Answer.{Answer}
 use Rattle.ledger.specs.declared.Answer.the-variants.{Accepted, Repeated, Refused}
-use Rattle.sequences.specs.Stepping.{steps}
+use Rattle.meaning.specs.Limits.{mostSteps}
 use Rattle.ledger.specs.declared.Offered.{Offered}
 use Rattle.ledger.proofs.Full.{row, B, full, full-refused, full-repeated}
 use Rattle.ledger.specs.Ledger.{rest, gain, booked, fresh, advanced, canRun, replayed, given, startAt, startIn, sameTo, sameStates, sameSteps, sameRun, isRun, oldStep, nextStep, judged, answered, offered, startFrom, started, begun}
@@ -61,10 +61,10 @@ rowsA =
 
 unfoldable pub rowsFull : List Row
 rowsFull =
-    record { number = steps + 1; op = 1; answer = Refused (RunFull (steps + 1)); columns = full .columns }
-    ∷ record { number = steps + 1; op = 0; answer = Refused (RunFull (steps + 1)); columns = full .columns }
-    ∷ record { number = steps; op = 1; answer = Repeated; columns = full .columns }
-    ∷ record { number = steps; op = 0; answer = Refused (OtherOperator steps); columns = full .columns }
+    record { number = mostSteps + 1; op = 1; answer = Refused (RunFull (mostSteps + 1)); columns = full .columns }
+    ∷ record { number = mostSteps + 1; op = 0; answer = Refused (RunFull (mostSteps + 1)); columns = full .columns }
+    ∷ record { number = mostSteps; op = 1; answer = Repeated; columns = full .columns }
+    ∷ record { number = mostSteps; op = 0; answer = Refused (OtherOperator mostSteps); columns = full .columns }
     ∷ []
 
 -- a row that leaves the run as it was
@@ -81,14 +81,14 @@ stays t r x xs e c h =
 
 -- THE CASES HOLD: case A from its start, by one computation
 pub case-A-holds : outcome A (begun A (0 ∷ 0 ∷ 0 ∷ []) .run) rowsA ≡ rowsA
-unfolding A outcome rowsA rowHolds mayRun filled stepped each factsFault operatorFault classesFault mapFault sharesFault splitFault taskFault roomy tablesFault stateFault steps rest gain booked fresh advanced canRun replayed given startAt startIn sameTo sameStates sameSteps sameRun isRun oldStep nextStep judged answered offered startFrom started begun
+unfolding A outcome rowsA rowHolds mayRun filled stepped each factsFault operatorFault classesFault mapFault sharesFault splitFault taskFault roomy tablesFault stateFault mostSteps rest gain booked fresh advanced canRun replayed given startAt startIn sameTo sameStates sameSteps sameRun isRun oldStep nextStep judged answered offered startFrom started begun
 case-A-holds = refl
 
 -- and the full run, however many steps that is
 pub full-holds : outcome B full rowsFull ≡ rowsFull
-unfolding rowsFull outcome B full steps judged oldStep nextStep
+unfolding rowsFull outcome B full mostSteps judged oldStep nextStep
 full-holds =
-    stays B full _ _ (full-refused (steps + 1) 1 (RunFull (steps + 1)) refl) refl
-    (stays B full _ _ (full-refused (steps + 1) 0 (RunFull (steps + 1)) refl) refl
-    (stays B full _ _ (full-repeated steps 1 refl) refl
-    (stays B full _ _ (full-refused steps 0 (OtherOperator steps) refl) refl refl)))
+    stays B full _ _ (full-refused (mostSteps + 1) 1 (RunFull (mostSteps + 1)) refl) refl
+    (stays B full _ _ (full-refused (mostSteps + 1) 0 (RunFull (mostSteps + 1)) refl) refl
+    (stays B full _ _ (full-repeated mostSteps 1 refl) refl
+    (stays B full _ _ (full-refused mostSteps 0 (OtherOperator mostSteps) refl) refl refl)))

@@ -15,7 +15,7 @@ use Rattle.ledger.specs.declared.Run.{Run}
 use Rattle.ledger.specs.declared.Answer.{Answer}
 use Rattle.ledger.specs.declared.Answer.the-variants.{Accepted, Repeated, Refused}
 use Rattle.ledger.specs.declared.Offered.{Offered}
-use Rattle.sequences.specs.Stepping.{steps}
+use Rattle.meaning.specs.Limits.{mostSteps}
 use Rattle.ledger.specs.Ledger.{fresh, advanced, startFrom, answered, offered, started, begun}
 use Rattle.ledger.specs.Inside.{Bounded}
 use Rattle.ledger.proofs.Accepted.{by-found, not-refused, accepted-clean, accepted-run, accepted-exists, accepted-room}
@@ -44,7 +44,7 @@ module _ (t : Tables) (r : Run) (number o : ℕ) (x : Answer) (e : x ≡ answere
 
 -- all that a step asks, an accepted offer had
 pub step-asks : (t : Tables) (r : Run) (number o : ℕ) → answered t r number o ≡ Accepted
-    → Valid (taskOf t) × (o < t .counts .ops) × (r .len < steps) × Bounded r
+    → Valid (taskOf t) × (o < t .counts .ops) × (r .len < mostSteps) × Bounded r
 step-asks t r number o e =
     let valid = clean-valid t (accepted-clean t r number o e) in (
       valid,

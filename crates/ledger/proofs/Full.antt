@@ -16,7 +16,7 @@ use Rattle.scan.specs.declared.Found.the-variants.{Clean}
 use Rattle.tables.specs.Layout.{Tables}
 use Rattle.tables.specs.Task.{taskOf, sasOf, stateOf}
 use Rattle.scan.specs.Scan.{each, factsFault, operatorFault, classesFault, mapFault, sharesFault, splitFault, taskFault, roomy, tablesFault}
-use Rattle.sequences.specs.Stepping.{steps}
+use Rattle.meaning.specs.Limits.{mostSteps}
 use Rattle.ledger.specs.declared.Run.{Run}
 use Rattle.ledger.specs.declared.Answer.the-variants.{Repeated, Refused}
 use Rattle.ledger.specs.Ledger.{allColumns, rest, gain, isRun, judged, offered}
@@ -45,10 +45,10 @@ unfoldable pub full : Run
 full =
     record {
       start = row 8 [];
-      log = replicate steps 1;
-      len = steps;
+      log = replicate mostSteps 1;
+      len = mostSteps;
       now = row 8 [];
-      columns = row 7 (steps * 2 ∷ []) ++ (steps ∷ []);
+      columns = row 7 (mostSteps * 2 ∷ []) ++ (mostSteps ∷ []);
     }
 
 B-clean : tablesFault B ≡ Clean
@@ -71,31 +71,31 @@ paid-replicate : (p : ℕ → ℕ) (n o : ℕ) → paid p (replicate n o) ≡ n 
 paid-replicate p zero o = omega arith
 paid-replicate p (suc n) o = omega (arith, suc-mul n (p o), paid-replicate p n o)
 
-full-column : (c : ℕ) → c < allColumns → getD (full .columns) c 0 ≡ steps * gain (taskOf B) c 1
-unfolding B full steps gain rest
+full-column : (c : ℕ) → c < allColumns → getD (full .columns) c 0 ≡ mostSteps * gain (taskOf B) c 1
+unfolding B full mostSteps gain rest
 full-column c h =
-    eqb-true (getD (full .columns) c 0) (steps * gain (taskOf B) c 1)
-    (every-true (λ c. eqb (getD (full .columns) c 0) (steps * gain (taskOf B) c 1)) allColumns refl c h)
+    eqb-true (getD (full .columns) c 0) (mostSteps * gain (taskOf B) c 1)
+    (every-true (λ c. eqb (getD (full .columns) c 0) (mostSteps * gain (taskOf B) c 1)) allColumns refl c h)
 
-full-tells : Tells (taskOf B) (stateOf (full .start)) (replicate steps 1) full
+full-tells : Tells (taskOf B) (stateOf (full .start)) (replicate mostSteps 1) full
 unfolding B full
 full-tells =
     record {
-      few = omega (arith, length-replicate {A = ℕ} steps 1);
-      len = sym (length-replicate {A = ℕ} steps 1);
-      log = take-length (replicate steps 1);
-      log-unused = λ i h. List·getD-eq-default (replicate steps 1) 0 h;
-      legal = runs-any steps (stateOf (full .start));
+      few = omega (arith, length-replicate {A = ℕ} mostSteps 1);
+      len = sym (length-replicate {A = ℕ} mostSteps 1);
+      log = take-length (replicate mostSteps 1);
+      log-unused = λ i h. List·getD-eq-default (replicate mostSteps 1) 0 h;
+      legal = runs-any mostSteps (stateOf (full .start));
       start = λ v l. refl;
       start-unused = λ v l. zeros-at 8 v;
-      now = λ v l. sym (end-still steps (stateOf (full .start)) v l);
+      now = λ v l. sym (end-still mostSteps (stateOf (full .start)) v l);
       now-unused = λ v l. zeros-at 8 v;
-      column = λ c h. full-column c h ∙ sym (paid-replicate (gain (taskOf B) c) steps 1);
+      column = λ c h. full-column c h ∙ sym (paid-replicate (gain (taskOf B) c) mostSteps 1);
     }
 
 full-sized : Sized full
 unfolding full
-full-sized = record { start = refl; log = length-replicate {A = ℕ} steps 1; now = refl; columns = refl }
+full-sized = record { start = refl; log = length-replicate {A = ℕ} mostSteps 1; now = refl; columns = refl }
 
 full-state : IsState (sasOf B) (stateOf (full .start))
 unfolding B full
@@ -103,7 +103,7 @@ full-state zero l = omega arith
 full-state (suc v) l = absurd (let z : ⊥ = omega arith in z)
 
 full-run : isRun B full ≡ true
-full-run = run-exactly B B-clean full full-sized .1 (full-state, (replicate steps 1, full-tells))
+full-run = run-exactly B B-clean full full-sized .1 (full-state, (replicate mostSteps 1, full-tells))
 
 -- what it answers is what is judged, and it stays as it is
 pub full-refused : (number o : ℕ) (f : Refusal) → judged (B .counts) (B .facts) full number o ≡ Refused f

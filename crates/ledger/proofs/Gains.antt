@@ -10,7 +10,7 @@ use borrow.Author.Tests.{lt-ltb, le-ltb, eq-eqb, ne-eqb, ltb-true, ltb-false, eq
 use Rattle.meaning.specs.Split.{Task, Valid, sum}
 use Rattle.tables.proofs.Laws.{by-cases, filled-at, length-filled}
 use Rattle.ledger.specs.declared.Run.{Run}
-use Rattle.sequences.specs.Stepping.{steps}
+use Rattle.meaning.specs.Limits.{mostSteps}
 use Rattle.ledger.specs.Ledger.{allColumns, unshared, rest, gain, bookedAt, booked, fresh}
 use Rattle.ledger.specs.Inside.{Bounded}
 
@@ -137,6 +137,6 @@ unfolding fresh
 fresh-bounded s = record { within = λ c h. omega (arith, getD-replicate {A = ℕ} allColumns c 0 0 h) }
 
 -- a column with room in the log has room for a gain
-pub column-room : (r : Run) → r .len < steps → Bounded r → (c : ℕ) → c < allColumns → getD (r .columns) c 0 < 4293967296
-unfolding steps
+pub column-room : (r : Run) → r .len < mostSteps → Bounded r → (c : ℕ) → c < allColumns → getD (r .columns) c 0 < 4293967296
+unfolding mostSteps
 column-room r l b c h = omega (arith, b .within c h)

@@ -18,7 +18,7 @@ use Rattle.tables.specs.Steps.{mayRun}
 use Rattle.tables.proofs.Laws.{by-cases}
 use Rattle.ledger.specs.declared.Run.{Run}
 use Rattle.ledger.specs.declared.Tried.{Tried}
-use Rattle.sequences.specs.Stepping.{steps}
+use Rattle.meaning.specs.Limits.{mostSteps}
 use Rattle.ledger.specs.Ledger.{allColumns, fresh, advanced, canRun, replayed, given, startIn, sameAt, sameTo, sameStates, sameSteps, sameRun, isRun}
 use Rattle.ledger.specs.Inside.{Bounded}
 use Rattle.ledger.proofs.Gains.{gain-small, booked-most, fresh-bounded}
@@ -38,7 +38,7 @@ module _ (r q : Run) where
   unfolding sameSteps
   steps-no p = rw (ne-eqb (r .len) (q .len) p) refl
 
-  pub steps-yes : (x : Bool) → r .len ≡ q .len → x ≡ sameTo steps (r .log) (q .log) → x ≡ sameSteps r q
+  pub steps-yes : (x : Bool) → r .len ≡ q .len → x ≡ sameTo mostSteps (r .log) (q .log) → x ≡ sameSteps r q
   unfolding sameSteps
   steps-yes x p e = rw (eq-eqb (r .len) (q .len) p) e
 
@@ -68,7 +68,7 @@ module _ (r q : Run) where
 
   pub same-len : sameRun r q ≡ true → r .len ≡ q .len
   unfolding sameSteps
-  same-len p = eqb-true (r .len) (q .len) (and-left (eqb (r .len) (q .len)) (sameTo steps (r .log) (q .log)) (same-steps p))
+  same-len p = eqb-true (r .len) (q .len) (and-left (eqb (r .len) (q .len)) (sameTo mostSteps (r .log) (q .log)) (same-steps p))
 
   pub same-columns : sameRun r q ≡ true → sameTo allColumns (r .columns) (q .columns) ≡ true
   unfolding sameRun
@@ -86,7 +86,7 @@ pub same-refl : (r : Run) → sameRun r r ≡ true
 same-refl r =
     sym
     (same-yes r r true (sym (states-yes r r true (sameTo-refl 8 (r .start)) (sym (sameTo-refl 8 (r .now)))))
-    (sym (steps-yes r r true refl (sym (sameTo-refl steps (r .log)))))
+    (sym (steps-yes r r true refl (sym (sameTo-refl mostSteps (r .log)))))
     (sym (sameTo-refl allColumns (r .columns))))
 
 -- ---- replaying
@@ -157,26 +157,26 @@ module _ (t : Tables) where
     run-bounded r p =
         let q = given t r .run in
         let e : sameRun r q ≡ true =
-        and-right (leb (r .len) steps && startIn (t .counts) (t .facts) (r .start) && given t r .ok) (sameRun r q) p in
+        and-right (leb (r .len) mostSteps && startIn (t .counts) (t .facts) (r .start) && given t r .ok) (sameRun r q) p in
         let b : Bounded q = bounded-replayed (take (r .len) (r .log)) (fresh (r .start)) (fresh-bounded (r .start)) in
         record { within = λ c h. omega (arith, sameTo-at allColumns (r .columns) (q .columns) (same-columns r q e) c h, b .within c h, same-len r q e) }
 
-  pub run-len : (r : Run) → isRun t r ≡ true → r .len ≤ steps
+  pub run-len : (r : Run) → isRun t r ≡ true → r .len ≤ mostSteps
   unfolding isRun
   run-len r p =
-      leb-true (r .len) steps
-      (and-left (leb (r .len) steps) (startIn (t .counts) (t .facts) (r .start))
-      (and-left (leb (r .len) steps && startIn (t .counts) (t .facts) (r .start)) (given t r .ok)
-      (and-left (leb (r .len) steps && startIn (t .counts) (t .facts) (r .start) && given t r .ok)
+      leb-true (r .len) mostSteps
+      (and-left (leb (r .len) mostSteps) (startIn (t .counts) (t .facts) (r .start))
+      (and-left (leb (r .len) mostSteps && startIn (t .counts) (t .facts) (r .start)) (given t r .ok)
+      (and-left (leb (r .len) mostSteps && startIn (t .counts) (t .facts) (r .start) && given t r .ok)
       (sameRun r (given t r .run))
       p)))
 
   -- ---- the tests of a run, one after another
 
   module _ (r : Run) where
-    pub run-long : steps < r .len → false ≡ isRun t r
+    pub run-long : mostSteps < r .len → false ≡ isRun t r
     unfolding isRun
-    run-long h = rw (lt-leb (r .len) steps h) refl
+    run-long h = rw (lt-leb (r .len) mostSteps h) refl
 
     pub run-outside : startIn (t .counts) (t .facts) (r .start) ≡ false → false ≡ isRun t r
     unfolding isRun
@@ -187,11 +187,11 @@ module _ (t : Tables) where
       unfolding isRun
       run-stuck p = rw (← e, p, and-false) refl
 
-      pub run-same : (b : Bool) → r .len ≤ steps → startIn (t .counts) (t .facts) (r .start) ≡ true → x .ok ≡ true
+      pub run-same : (b : Bool) → r .len ≤ mostSteps → startIn (t .counts) (t .facts) (r .start) ≡ true → x .ok ≡ true
           → b ≡ sameRun r (x .run)
           → b ≡ isRun t r
       unfolding isRun
-      run-same b h s p d = rw (← e, le-leb (r .len) steps h, s, p) d
+      run-same b h s p d = rw (← e, le-leb (r .len) mostSteps h, s, p) d
 
   -- ---- the replaying loop: q₀ is the fresh run, q the run after i steps of the log
 

@@ -21,7 +21,7 @@ use Rattle.tables.proofs.Laws.{by-cases}
 use Rattle.scan.proofs.Validity.{clean-valid}
 use Rattle.ledger.specs.declared.Run.{Run}
 use Rattle.ledger.specs.declared.Tried.{Tried}
-use Rattle.sequences.specs.Stepping.{steps}
+use Rattle.meaning.specs.Limits.{mostSteps}
 use Rattle.ledger.specs.Ledger.{allColumns, fresh, advanced, canRun, replayed, given, startsAt, startIn, startFrom, sameTo, sameStates, sameSteps, sameRun, isRun}
 use Rattle.ledger.specs.History.{mayFollow, Tells, Sized}
 use Rattle.ledger.proofs.Answers.{start-within, start-beyond}
@@ -50,12 +50,12 @@ same-equal r q z w p =
     let s1 = sameTo 8 (r .start) (q .start) in
     let s2 = sameTo 8 (r .now) (q .now) in
     let l1 = eqb (r .len) (q .len) in
-    let l2 = sameTo steps (r .log) (q .log) in
+    let l2 = sameTo mostSteps (r .log) (q .log) in
     run-equal r q
     (places-equal 8 (r .start) (q .start) (z .start) (w .start)
     (sameTo-at 8 (r .start) (q .start) (and-left s1 s2 (same-states r q p))))
-    (places-equal steps (r .log) (q .log) (z .log) (w .log)
-    (sameTo-at steps (r .log) (q .log) (and-right l1 l2 (same-steps r q p))))
+    (places-equal mostSteps (r .log) (q .log) (z .log) (w .log)
+    (sameTo-at mostSteps (r .log) (q .log) (and-right l1 l2 (same-steps r q p))))
     (same-len r q p)
     (places-equal 8 (r .now) (q .now) (z .now) (w .now)
     (sameTo-at 8 (r .now) (q .now) (and-right s1 s2 (same-states r q p))))
@@ -89,7 +89,7 @@ module _ (T : Task) (s : State) (done : List ℕ) (r q : Run) (a : Tells T s don
   pub tells-one : Sized r → Sized q → r ≡ q
   tells-one z w =
       run-equal r q (places-equal 8 (r .start) (q .start) (z .start) (w .start) (λ v l. start-equal v))
-      (places-equal steps (r .log) (q .log) (z .log) (w .log) (λ i l. log-equal i))
+      (places-equal mostSteps (r .log) (q .log) (z .log) (w .log) (λ i l. log-equal i))
       (a .len ∙ sym (b .len))
       (places-equal 8 (r .now) (q .now) (z .now) (w .now) (λ v l. now-equal v))
       (places-equal allColumns (r .columns) (q .columns) (z .columns) (w .columns)
@@ -129,7 +129,7 @@ module _ (t : Tables) (s : List ℕ) (clean : tablesFault t ≡ Clean) (valid : 
           ∙ rw (lt-ltb o (t .counts .ops) (h .0), true-complies (sasOf t) (sasOf t .pre o) (end (sasOf t) done (stateOf s)) (h .1)) refl),
     )
 
-  replay-either : (os done : List ℕ) (q : Run) → Told t s clean valid inside done q → length done + length os ≤ steps
+  replay-either : (os done : List ℕ) (q : Run) → Told t s clean valid inside done q → length done + length os ≤ mostSteps
       → TellsAll done os q ⊎ Stops done os q
   unfolding replayed
   replay-either [] done q told l = inl (refl, rw (append-nil done) told)
@@ -186,7 +186,7 @@ module _ (t : Tables) (clean : tablesFault t ≡ Clean) (r : Run) (sized : Sized
       → (startIn (t .counts) (t .facts) (r .start) ≡ true) × (given t r .ok ≡ true) × (sameRun r (given t r .run) ≡ true)
   unfolding isRun
   tested p =
-      let b1 = leb (r .len) steps in
+      let b1 = leb (r .len) mostSteps in
       let b2 = startIn (t .counts) (t .facts) (r .start) in
       let b3 = given t r .ok in
       let b4 = sameRun r (given t r .run) in

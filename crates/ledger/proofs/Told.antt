@@ -24,7 +24,7 @@ use Rattle.tables.proofs.Meant.{may-run-is, stepped-is, stepped-beyond, stepped
 use Rattle.ledger.specs.declared.Run.{Run}
 use Rattle.ledger.specs.declared.Tried.{Tried}
 use Rattle.ledger.specs.declared.Answer.the-variants.{Accepted}
-use Rattle.sequences.specs.Stepping.{steps}
+use Rattle.meaning.specs.Limits.{mostSteps}
 use Rattle.ledger.specs.Ledger.{allColumns, gain, fresh, advanced, canRun, replayed, given, startIn, startFrom, isRun, answered, offered}
 use Rattle.ledger.specs.History.{Offer, mayFollow, reallyRuns, Tells}
 use Rattle.ledger.proofs.Gains.{booked-at, booked-length}
@@ -60,7 +60,7 @@ module _ (t : Tables) (s : List ℕ) (clean : tablesFault t ≡ Clean) (valid : 
   pub record Told (done : List ℕ) (q : Run) : Type 0 where
     pub tells : Tells (taskOf t) (stateOf s) done q
     pub from : q .start ≡ startFrom (t .counts) s
-    pub log-size : length (q .log) ≡ steps
+    pub log-size : length (q .log) ≡ mostSteps
     pub now-size : length (q .now) ≡ 8
     pub columns-size : length (q .columns) ≡ allColumns
     pub given : replayed t (fresh (startFrom (t .counts) s)) done ≡ record { ok = true; run = q }
@@ -74,7 +74,7 @@ module _ (t : Tables) (s : List ℕ) (clean : tablesFault t ≡ Clean) (valid : 
         few = omega arith;
         len = refl;
         log = refl;
-        log-unused = λ i h. zeros-at steps i;
+        log-unused = λ i h. zeros-at mostSteps i;
         legal = tt;
         start = from-at t s valid;
         start-unused = from-beyond t s valid;
@@ -89,7 +89,7 @@ module _ (t : Tables) (s : List ℕ) (clean : tablesFault t ≡ Clean) (valid : 
       record {
         tells = fresh-tells;
         from = refl;
-        log-size = length-replicate {A = ℕ} steps 0;
+        log-size = length-replicate {A = ℕ} mostSteps 0;
         now-size = from-size t s valid;
         columns-size = length-replicate {A = ℕ} allColumns 0;
         given = refl;
@@ -121,7 +121,7 @@ module _ (t : Tables) (s : List ℕ) (clean : tablesFault t ≡ Clean) (valid : 
           ∙ after-same (sasOf t) o (stateOf (q .now)) (end (sasOf t) done (stateOf s)) (told .tells .now) v h
           ∙ ap (λ (f : State). f v) (sym (end-append (sasOf t) done (o ∷ []) (stateOf s)))
 
-      module _ (room : length done < steps) where
+      module _ (room : length done < mostSteps) where
         log-more : take (length (done ++ (o ∷ []))) (set (q .log) (q .len) o) ≡ done ++ (o ∷ [])
         log-more =
             let i : length done < length (q .log) = omega (arith, told .log-size) in
@@ -184,24 +184,24 @@ module _ (t : Tables) (s : List ℕ) (clean : tablesFault t ≡ Clean) (valid : 
     is-run =
         let in-start : startIn (t .counts) (t .facts) (q .start) ≡ true =
         ap (startIn (t .counts) (t .facts)) (told .from) ∙ inside in
-        rw (told-given, le-leb (q .len) steps (omega (arith, told .tells .len, told .tells .few)), in-start) (same-refl q)
+        rw (told-given, le-leb (q .len) mostSteps (omega (arith, told .tells .len, told .tells .few)), in-start) (same-refl q)
 
     module _ (x : Offer) where
       runs-number : reallyRuns (sasOf t) (stateOf s) done x ≡ true → x .number ≡ length done + 1
       unfolding reallyRuns
       runs-number p =
           eqb-true (x .number) (length done + 1)
-          (and-left (eqb (x .number) (length done + 1)) (ltb (length done) steps)
-          (and-left (eqb (x .number) (length done + 1) && ltb (length done) steps)
+          (and-left (eqb (x .number) (length done + 1)) (ltb (length done) mostSteps)
+          (and-left (eqb (x .number) (length done + 1) && ltb (length done) mostSteps)
           (mayFollow (sasOf t) (stateOf s) done (x .op))
           p))
 
-      pub runs-room : reallyRuns (sasOf t) (stateOf s) done x ≡ true → length done < steps
+      pub runs-room : reallyRuns (sasOf t) (stateOf s) done x ≡ true → length done < mostSteps
       unfolding reallyRuns
       runs-room p =
-          ltb-true (length done) steps
-          (and-right (eqb (x .number) (length done + 1)) (ltb (length done) steps)
-          (and-left (eqb (x .number) (length done + 1) && ltb (length done) steps)
+          ltb-true (length done) mostSteps
+          (and-right (eqb (x .number) (length done + 1)) (ltb (length done) mostSteps)
+          (and-left (eqb (x .number) (length done + 1) && ltb (length done) mostSteps)
           (mayFollow (sasOf t) (stateOf s) done (x .op))
           p))
 
@@ -209,7 +209,7 @@ module _ (t : Tables) (s : List ℕ) (clean : tablesFault t ≡ Clean) (valid : 
       unfolding reallyRuns
       runs-can p =
           can-is (x .op)
-          ∙ and-right (eqb (x .number) (length done + 1) && ltb (length done) steps)
+          ∙ and-right (eqb (x .number) (length done + 1) && ltb (length done) mostSteps)
           (mayFollow (sasOf t) (stateOf s) done (x .op))
           p
 
@@ -231,7 +231,7 @@ module _ (t : Tables) (s : List ℕ) (clean : tablesFault t ≡ Clean) (valid : 
       accepted-runs e =
           rw (
             eq-eqb (x .number) (length done + 1) (omega (arith, told .tells .len, accepted-number t q (x .number) (x .op) e)),
-            lt-ltb (length done) steps (omega (arith, told .tells .len, accepted-room t q (x .number) (x .op) e)),
+            lt-ltb (length done) mostSteps (omega (arith, told .tells .len, accepted-room t q (x .number) (x .op) e)),
           )
           (sym (can-is (x .op)) ∙ accepted-can t q (x .number) (x .op) e)
 

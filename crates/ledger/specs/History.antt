@@ -11,7 +11,7 @@ use Rattle.meaning.specs.Split.{Task}
 use Rattle.tables.specs.Layout.{Tables}
 use Rattle.tables.specs.Task.{stateOf}
 use Rattle.ledger.specs.declared.Run.{Run}
-use Rattle.sequences.specs.Stepping.{steps}
+use Rattle.meaning.specs.Limits.{mostSteps}
 use Rattle.ledger.specs.Ledger.{allColumns, gain, offered, begun}
 
 -- an offer: a step number and an operator
@@ -26,7 +26,7 @@ mayFollow S s done o = ltb o (S .ops) && complies S (S .pre o) (end S done s)
 -- an offer is a step really run after the steps done: it has the next number, there is room, and its operator may follow
 unfoldable pub reallyRuns : Sas → State → List ℕ → Offer → Bool
 reallyRuns S s done x =
-    eqb (x .number) (length done + 1) && ltb (length done) steps && mayFollow S s done (x .op)
+    eqb (x .number) (length done + 1) && ltb (length done) mostSteps && mayFollow S s done (x .op)
 
 -- the steps that further offers add to the steps done
 unfoldable pub added : Sas → State → List ℕ → List Offer → List ℕ
@@ -50,7 +50,7 @@ runAfter t s xs = ran t (begun t s .run) xs
 -- A RUN TELLS THE STEPS: its log is they, in order and each occurrence once; they may run one after another from the start and lead to the state now;
 -- and each column is what they add to it. Unused places are 0
 pub record Tells (T : Task) (s : State) (done : List ℕ) (r : Run) : Type 0 where
-  pub few : length done ≤ steps
+  pub few : length done ≤ mostSteps
   pub len : r .len ≡ length done
   pub log : take (length done) (r .log) ≡ done
   pub log-unused : (i : ℕ) → length done ≤ i → getD (r .log) i 0 ≡ 0
@@ -70,6 +70,6 @@ pub record Between (T : Task) (os : List ℕ) (earlier later : Run) : Type 0 whe
 -- a run as its type has it: the lengths of its lists
 pub record Sized (r : Run) : Type 0 where
   pub start : length (r .start) ≡ 8
-  pub log : length (r .log) ≡ steps
+  pub log : length (r .log) ≡ mostSteps
   pub now : length (r .now) ≡ 8
   pub columns : length (r .columns) ≡ allColumns

@@ -13,8 +13,8 @@ use Rattle.scan.specs.declared.Found.the-variants.{Clean, Fault}
 use Rattle.tables.specs.Layout.{Tables, domAt}
 use Rattle.tables.specs.Task.{taskOf, stateOf}
 use Rattle.tables.specs.Steps.{mayRun, filled, stepped}
-use Rattle.scan.specs.Scan.{_then_, tablesFault, stateFault}
-use Rattle.sequences.specs.Stepping.{steps}
+use Rattle.scan.specs.Scan.{tablesFault, inputFault}
+use Rattle.meaning.specs.Limits.{mostSteps}
 use Rattle.ledger.specs.declared.Run.{Run}
 use Rattle.ledger.specs.declared.Tried.{Tried}
 use Rattle.ledger.specs.declared.Answer.{Answer}
@@ -45,7 +45,7 @@ booked T columns o = filled (bookedAt T columns o) columns allColumns
 
 -- a fresh run: an empty log, columns of 0 and its start as the state now
 unfoldable pub fresh : List ℕ → Run
-fresh s = record { start = s; log = replicate steps 0; len = 0; now = s; columns = replicate allColumns 0 }
+fresh s = record { start = s; log = replicate mostSteps 0; len = 0; now = s; columns = replicate allColumns 0 }
 
 -- the run with operator o run once more
 unfoldable pub advanced : Tables → Run → ℕ → Run
@@ -93,7 +93,7 @@ unfoldable pub sameStates : Run → Run → Bool
 sameStates r q = sameTo 8 (r .start) (q .start) && sameTo 8 (r .now) (q .now)
 
 unfoldable pub sameSteps : Run → Run → Bool
-sameSteps r q = eqb (r .len) (q .len) && sameTo steps (r .log) (q .log)
+sameSteps r q = eqb (r .len) (q .len) && sameTo mostSteps (r .log) (q .log)
 
 unfoldable pub sameRun : Run → Run → Bool
 sameRun r q = sameStates r q && sameSteps r q && sameTo allColumns (r .columns) (q .columns)
@@ -101,7 +101,7 @@ sameRun r q = sameStates r q && sameSteps r q && sameTo allColumns (r .columns) 
 -- the run is what its start and log give
 unfoldable pub isRun : Tables → Run → Bool
 isRun t r =
-    leb (r .len) steps && startIn (t .counts) (t .facts) (r .start) && given t r .ok && sameRun r (given t r .run)
+    leb (r .len) mostSteps && startIn (t .counts) (t .facts) (r .start) && given t r .ok && sameRun r (given t r .run)
 
 -- an old number: repeated with the logged operator, and 14 with another
 unfoldable pub oldStep : Run → ℕ → ℕ → Answer
@@ -110,7 +110,7 @@ oldStep r number o = cond (eqb (getD (r .log) (number - 1) 0) o) Repeated (Refus
 -- the next number: 15 if full, 12 if it may not run, else accepted
 unfoldable pub nextStep : Counts → List ℕ → Run → ℕ → ℕ → Answer
 nextStep c facts r number o =
-    cond (leb steps (r .len)) (Refused (RunFull number))
+    cond (leb mostSteps (r .len)) (Refused (RunFull number))
     (cond (canRun c facts r o) Accepted (Refused (MayNotRun number)))
 
 -- an offer to a run: 10, then 13 at number 0 or beyond the next, then old or next
@@ -151,4 +151,4 @@ started (Fault f) r = record { run = fresh (replicate 8 0); answer = Refused f }
 
 -- A START: tables, then the state
 unfoldable pub begun : Tables → List ℕ → Offered
-begun t s = started (tablesFault t then stateFault (t .counts) (t .facts) s) (fresh (startFrom (t .counts) s))
+begun t s = started (inputFault t s) (fresh (startFrom (t .counts) s))

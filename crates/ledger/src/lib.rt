@@ -4,7 +4,7 @@ ghost use Prim.Native.Nat.{_≤_, _<_};
 ghost use lib.ListN.{take};
 ghost use Rattle.meaning.specs.Split.{Valid};
 ghost use Rattle.tables.specs.Task.{taskOf, tables};
-ghost use Rattle.sequences.specs.Stepping.{steps};
+ghost use Rattle.meaning.specs.Limits.{mostSteps};
 ghost use Rattle.ledger.specs.Ledger.{fresh, advanced, canRun, replayed, sameStates, sameSteps, sameRun, isRun, oldStep, nextStep, judged, answered, offered, begun};
 ghost use Rattle.ledger.specs.Inside.{Bounded};
 
@@ -15,17 +15,17 @@ mod starts;
 use crate::columns::columns_after;
 use crate::compare::same_bytes;
 use crate::compare::same_words;
-use crate::starts::start_fault;
 use crate::starts::start_from;
 use crate::starts::start_in;
 use meaning::OpNo;
+use meaning::limits::STEPS_MOST;
 use refusals::Refusal;
 use scan::Found;
+use scan::input_fault;
 use scan::tables_fault;
-use sequences::STEPS;
 use tables::Counts;
-use tables::steps::may_run;
-use tables::steps::state_after;
+use tables::mostSteps::may_run;
+use tables::mostSteps::state_after;
 
 // How many columns a run has: what each of 8 maps was paid, and the unshared one.
 pub const COLUMNS: usize = 9;
@@ -36,7 +36,7 @@ pub const UNSHARED: usize = 8;
 // A run: its start, the operators of its steps, how many they are, the state now, and the columns. Unused places are 0.
 pub struct Run {
     pub start: [u8; 8],
-    pub log: [u32; STEPS],
+    pub log: [u32; STEPS_MOST],
     pub len: u32,
     pub now: [u8; 8],
     pub columns: [u32; COLUMNS],
@@ -68,7 +68,7 @@ impl Run {
     {
         Run {
             start,
-            log: [0u32; STEPS],
+            log: [0u32; STEPS_MOST],
             len: 0,
             now: start,
             columns: [0u32; COLUMNS],
@@ -77,7 +77,7 @@ impl Run {
 
     // The run with the operator run once more.
     fn advance(mut self, c: Counts, facts: &[u8], costs: &[u32], shares: &[u32], op: OpNo) -> Run
-        requires { ⌜ Valid (taskOf (tables c (now facts) (now costs) (now shares))) × (op .0 < c .ops) × (self .len < steps) × Bounded self ⌝ }
+        requires { ⌜ Valid (taskOf (tables c (now facts) (now costs) (now shares))) × (op .0 < c .ops) × (self .len < mostSteps) × Bounded self ⌝ }
         ensures { λ r. ⌜ r ≡ advanced (tables c (now (facts .entry)) (now (costs .entry)) (now (shares .entry))) self (op .0) ⌝ }
     {
         let at = self.len as usize;
@@ -118,7 +118,7 @@ impl Run {
         if self.len != q.len {
             return false;
         }
-        same_words(&self.log, &q.log, STEPS)
+        same_words(&self.log, &q.log, STEPS_MOST)
     }
 
     // The two runs are the same at every place.
@@ -141,10 +141,10 @@ impl Run {
         costs: &[u32],
         shares: &[u32],
         start: [u8; 8],
-        log: [u32; STEPS],
+        log: [u32; STEPS_MOST],
         len: usize,
     ) -> Tried
-        requires { ⌜ Valid (taskOf (tables c (now facts) (now costs) (now shares))) × (len ≤ steps) ⌝ }
+        requires { ⌜ Valid (taskOf (tables c (now facts) (now costs) (now shares))) × (len ≤ mostSteps) ⌝ }
         ensures { λ r. ⌜ r ≡ replayed (tables c (now (facts .entry)) (now (costs .entry)) (now (shares .entry))) (fresh start) (take len log) ⌝ }
     {
         let mut run = Run::fresh(start);
@@ -164,7 +164,7 @@ impl Run {
         ensures { λ r. ⌜ r ≡ isRun (tables c (now (facts .entry)) (now (costs .entry)) (now (shares .entry))) self ⌝ }
     {
         let len = self.len as usize;
-        if STEPS < len {
+        if STEPS_MOST < len {
             return false;
         }
         let start = self.start;
@@ -182,7 +182,7 @@ impl Run {
 
     // An old number: repeated with the logged operator, refused with another.
     fn old_step(self, number: u32, op: OpNo) -> Answer
-        requires { ⌜ (1 ≤ number) × (number ≤ self .len) × (self .len ≤ steps) ⌝ }
+        requires { ⌜ (1 ≤ number) × (number ≤ self .len) × (self .len ≤ mostSteps) ⌝ }
         ensures { λ r. ⌜ r ≡ oldStep self number (op .0) ⌝ }
     {
         let at = (number - 1) as usize;
@@ -197,7 +197,7 @@ impl Run {
         requires { ⌜ c .ops ≤ 64 ⌝ }
         ensures { λ r. ⌜ r ≡ nextStep c (now (facts .entry)) self number (op .0) ⌝ }
     {
-        if STEPS <= self.len as usize {
+        if STEPS_MOST <= self.len as usize {
             return Answer::Refused(Refusal::RunFull(number));
         }
         if self.can_run(c, facts, op) {
@@ -208,7 +208,7 @@ impl Run {
 
     // What an offer to a run is answered.
     fn judge(self, c: Counts, facts: &[u8], number: u32, op: OpNo) -> Answer
-        requires { ⌜ (c .ops ≤ 64) × (self .len ≤ steps) ⌝ }
+        requires { ⌜ (c .ops ≤ 64) × (self .len ≤ mostSteps) ⌝ }
         ensures { λ r. ⌜ r ≡ judged c (now (facts .entry)) self number (op .0) ⌝ }
     {
         if c.ops <= op.0 {
@@ -286,7 +286,7 @@ impl Run {
     pub fn begin(c: Counts, facts: &[u8], costs: &[u32], shares: &[u32], start: &[u8]) -> Offered
         ensures { λ r. ⌜ r ≡ begun (tables c (now (facts .entry)) (now (costs .entry)) (now (shares .entry))) (now (start .entry)) ⌝ }
     {
-        let found = start_fault(c, facts, costs, shares, start);
+        let found = input_fault(c, facts, costs, shares, start);
         match found {
             Found::Clean => {
                 let s = start_from(c, start);

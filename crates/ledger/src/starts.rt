@@ -1,12 +1,7 @@
 // The start of a run: whether a run's own start is one, and the start from a lent state.
 ghost use mathlib.Core.Path.{_≡_};
 ghost use Prim.Native.Nat.{_≤_};
-ghost use Rattle.tables.specs.Task.{tables};
-ghost use Rattle.scan.specs.Scan.{_then_, tablesFault, stateFault};
 ghost use Rattle.ledger.specs.Ledger.{startAt, startIn, startFrom};
-use scan::Found;
-use scan::state_fault;
-use scan::tables_fault;
 use sequences::stepping::copy;
 use tables::Counts;
 use tables::readers::DOM_ROW;
@@ -42,15 +37,4 @@ pub fn start_from(c: Counts, s: &[u8]) -> [u8; 8]
     ensures { λ r. ⌜ r ≡ startFrom c (now (s .entry)) ⌝ }
 {
     copy(c.vars, s)
-}
-
-// The first fault of a start: of the tables, then of the lent state.
-pub fn start_fault(c: Counts, facts: &[u8], costs: &[u32], shares: &[u32], s: &[u8]) -> Found
-    ensures { λ r. ⌜ r ≡ (tablesFault (tables c (now (facts .entry)) (now (costs .entry)) (now (shares .entry))) then stateFault c (now (facts .entry)) (now (s .entry))) ⌝ }
-{
-    let found = tables_fault(c, facts, costs, shares);
-    match found {
-        Found::Clean => state_fault(c, facts, s),
-        Found::Fault(_) => found,
-    }
 }

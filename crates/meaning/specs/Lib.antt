@@ -1,3 +1,4 @@
+pub mod Limits
 pub mod Sas
 pub mod Numbering
 pub mod Views

@@ -1,6 +1,7 @@
 -- A task with its maps and its split of the costs (003), and the rules of document 01 for both.
 use mathlib.Core.Path.{_≡_}
 use Prim.Native.Nat.{ℕ, zero, suc, _+_, _≤_, _<_, max}
+use Rattle.meaning.specs.Limits.{mostVars, mostValues, mostOps, mostCost, mostMaps, mostStates}
 use Rattle.meaning.specs.Sas.{Sas, Proper}
 use Rattle.meaning.specs.Views.{View, abstractStates}
 
@@ -31,15 +32,15 @@ SplitPasses T = (o : ℕ) → o < T .sas .ops → sum (λ m. T .share m o) (T .m
 
 -- the rules and ranges of document 01
 pub record Valid (T : Task) : Type 0 where
-  pub vars : (1 ≤ T .sas .vars) × (T .sas .vars ≤ 8)
-  pub values : (v : ℕ) → v < T .sas .vars → T .sas .dom v ≤ 8
+  pub vars : (1 ≤ T .sas .vars) × (T .sas .vars ≤ mostVars)
+  pub values : (v : ℕ) → v < T .sas .vars → T .sas .dom v ≤ mostValues
   pub proper : Proper (T .sas)
-  pub ops : T .sas .ops ≤ 64
-  pub costs : (o : ℕ) → o < T .sas .ops → T .sas .cost o ≤ 1000000
-  pub maps : (1 ≤ T .maps) × (T .maps ≤ 8)
+  pub ops : T .sas .ops ≤ mostOps
+  pub costs : (o : ℕ) → o < T .sas .ops → T .sas .cost o ≤ mostCost
+  pub maps : (1 ≤ T .maps) × (T .maps ≤ mostMaps)
   pub classes : (m v x : ℕ) → m < T .maps → v < T .sas .vars → x < T .sas .dom v → T .class m v x < T .sas .dom v
   pub none-missing : (m v c : ℕ) → m < T .maps → v < T .sas .vars → c < view T m .classes v
       → (x : ℕ) × (x < T .sas .dom v) × (T .class m v x ≡ c)
-  pub few-states : (m : ℕ) → m < T .maps → abstractStates (T .sas) (view T m) ≤ 4096
-  pub shares : (m o : ℕ) → m < T .maps → o < T .sas .ops → T .share m o ≤ 1000000
+  pub few-states : (m : ℕ) → m < T .maps → abstractStates (T .sas) (view T m) ≤ mostStates
+  pub shares : (m o : ℕ) → m < T .maps → o < T .sas .ops → T .share m o ≤ mostCost
   pub split : SplitPasses T

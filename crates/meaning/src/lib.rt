@@ -1,5 +1,7 @@
-// The two kinds of number that must not be swapped. What tasks, sequences, views and bounds mean stands in specs/.
+// The two kinds of number that must not be swapped, and the limits. What tasks, sequences, views and bounds mean stands in specs/.
 ghost use mathlib.Core.Path.{_≡_};
+
+pub mod limits;
 
 // The number of an operator.
 pub struct OpNo(pub u32);

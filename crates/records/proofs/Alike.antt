@@ -18,7 +18,7 @@ use Rattle.scan.specs.declared.Found.{Found}
 use Rattle.scan.specs.declared.Found.the-variants.{Clean, Fault}
 use Rattle.tables.specs.Layout.{domRow, initRow, goalRow, rowAt, preAt, effAt, classAt, costAt}
 use Rattle.tables.specs.Task.{tables, taskOf, stateOf}
-use Rattle.scan.specs.Scan.{unless, _then_, each, within, factsFault, operatorFault, classesFault, mapFault, sharesFault, splitFault, taskFault, roomy, tablesFault, stateFault}
+use Rattle.scan.specs.Scan.{unless, _then_, each, within, factsFault, operatorFault, classesFault, mapFault, sharesFault, splitFault, taskFault, roomy, tablesFault, stateFault, inputFault}
 use Rattle.tables.specs.Classes.{someHas, noneMissing}
 use Rattle.tables.proofs.Laws.{by-cases}
 use Rattle.scan.proofs.Walks.{clean-first, clean-next, rule-held, tests-held}
@@ -27,9 +27,11 @@ use Rattle.sequences.specs.declared.stepping.Stepped.{Stepped}
 use Rattle.sequences.specs.declared.stepping.Stepped.the-variants.{Ran, NoSuch, MayNot}
 use Rattle.sequences.specs.declared.judging.Judged.{Judged}
 use Rattle.sequences.specs.declared.judging.Judged.the-variants.{Passed, Refused}
-use Rattle.sequences.specs.Stepping.{steps, inputFault, stepOf}
+use Rattle.sequences.specs.Stepping.{stepOf}
+use Rattle.meaning.specs.Limits.{mostSteps}
 use Rattle.sequences.specs.Judging.{onto, walked, limited, unlessFault, judgedOf}
 use Rattle.sequences.proofs.Laws.{step-taken}
+use Rattle.tables.specs.Lines.{lineOfVars, lineOfDom, lineOfInit, lineOfGoal, lineOfOps, lineOfOp, lineOfMaps, lineOfMap}
 
 -- ---- rules one after another
 
@@ -94,9 +96,9 @@ module _ (c : Counts) (f f′ k k′ shares : List ℕ) (A : Agree c f f′ k k�
   operator-same : (o : ℕ) → o < c .ops → operatorFault T o ≡ operatorFault T′ o
   unfolding operatorFault
   operator-same o l =
-      ap₂ _then_ (ap (λ (x : ℕ). unless (leb x 1000000) (OutOfRange (7 + o))) (A .cost o l))
-      (ap₂ _then_ (facts-same (T .sas .pre o) (T′ .sas .pre o) (7 + o) (λ v g. A .pre o v l g))
-      (facts-same (T .sas .eff o) (T′ .sas .eff o) (7 + o) (λ v g. A .eff o v l g)))
+      ap₂ _then_ (ap (λ (x : ℕ). unless (leb x 1000000) (OutOfRange (lineOfOp o))) (A .cost o l))
+      (ap₂ _then_ (facts-same (T .sas .pre o) (T′ .sas .pre o) (lineOfOp o) (λ v g. A .pre o v l g))
+      (facts-same (T .sas .eff o) (T′ .sas .eff o) (lineOfOp o) (λ v g. A .eff o v l g)))
 
   -- the rules of classes, for a number of values that fits
   abbrev rules : (ℕ → ℕ) → ℕ → ℕ → Found
@@ -114,8 +116,8 @@ module _ (c : Counts) (f f′ k k′ shares : List ℕ) (A : Agree c f f′ k k�
   map-same : (m : ℕ) → m < 8 → ((v : ℕ) → v < c .vars → T .sas .dom v ≤ 8) → mapFault T m ≡ mapFault T′ m
   unfolding mapFault
   map-same m l b =
-      ap₂ _then_ (walk-same (classesFault T m (8 + c .ops + m)) (classesFault T′ m (8 + c .ops + m)) (c .vars) (λ v g. classes-same m v (8 + c .ops + m) l g (b v g)))
-      (ap (λ (x : ℕ). unless (leb x 4096) (TooManyStates (8 + c .ops + m)))
+      ap₂ _then_ (walk-same (classesFault T m (lineOfMap (c .ops) m)) (classesFault T′ m (lineOfMap (c .ops) m)) (c .vars) (λ v g. classes-same m v (lineOfMap (c .ops) m) l g (b v g)))
+      (ap (λ (x : ℕ). unless (leb x 4096) (TooManyStates (lineOfMap (c .ops) m)))
       (size-same (λ v. countOf (T .class m v) (T .sas .dom v)) (λ v. countOf (T′ .class m v) (T′ .sas .dom v)) (c .vars)
       (λ v g. count-same (T .class m v) (T′ .class m v) (T .sas .dom v) (λ x h. A .class m v x l g (omega (arith, b v g))) ∙ ap (countOf (T′ .class m v)) (dom v g))))
 
@@ -125,39 +127,39 @@ module _ (c : Counts) (f f′ k k′ shares : List ℕ) (A : Agree c f f′ k k�
 
   split-same : (o : ℕ) → o < c .ops → splitFault T o ≡ splitFault T′ o
   unfolding splitFault
-  split-same o l = ap (λ (x : ℕ). unless (leb (sum (λ m. T .share m o) (c .maps)) x) (SharesAboveCost (7 + o))) (A .cost o l)
+  split-same o l = ap (λ (x : ℕ). unless (leb (sum (λ m. T .share m o) (c .maps)) x) (SharesAboveCost (lineOfOp o))) (A .cost o l)
 
   -- from the line of the numbers of values on
-  values-same : (each (λ v. unless (within 1 8 (T .sas .dom v)) (OutOfRange 3)) (c .vars) 0
-      then each (λ v. unless (ltb (T .sas .init v) (T .sas .dom v)) (OutOfRange 4)) (c .vars) 0
-      then factsFault T (T .sas .goal) 5
-      then unless (leb (T .sas .ops) 64) (OutOfRange 6)
+  values-same : (each (λ v. unless (within 1 8 (T .sas .dom v)) (OutOfRange lineOfDom)) (c .vars) 0
+      then each (λ v. unless (ltb (T .sas .init v) (T .sas .dom v)) (OutOfRange lineOfInit)) (c .vars) 0
+      then factsFault T (T .sas .goal) lineOfGoal
+      then unless (leb (T .sas .ops) 64) (OutOfRange lineOfOps)
       then each (operatorFault T) (T .sas .ops) 0
-      then unless (within 1 8 (T .maps)) (OutOfRange (7 + T .sas .ops))
+      then unless (within 1 8 (T .maps)) (OutOfRange (lineOfMaps (T .sas .ops)))
       then each (mapFault T) (T .maps) 0
       then each (sharesFault T) (T .maps) 0
       then each (splitFault T) (T .sas .ops) 0)
-      ≡ (each (λ v. unless (within 1 8 (T′ .sas .dom v)) (OutOfRange 3)) (c .vars) 0
-      then each (λ v. unless (ltb (T′ .sas .init v) (T′ .sas .dom v)) (OutOfRange 4)) (c .vars) 0
+      ≡ (each (λ v. unless (within 1 8 (T′ .sas .dom v)) (OutOfRange lineOfDom)) (c .vars) 0
+      then each (λ v. unless (ltb (T′ .sas .init v) (T′ .sas .dom v)) (OutOfRange lineOfInit)) (c .vars) 0
       then factsFault T′ (T′ .sas .goal) 5
-      then unless (leb (T′ .sas .ops) 64) (OutOfRange 6)
+      then unless (leb (T′ .sas .ops) 64) (OutOfRange lineOfOps)
       then each (operatorFault T′) (T′ .sas .ops) 0
-      then unless (within 1 8 (T′ .maps)) (OutOfRange (7 + T′ .sas .ops))
+      then unless (within 1 8 (T′ .maps)) (OutOfRange (lineOfMaps (T′ .sas .ops)))
       then each (mapFault T′) (T′ .maps) 0
       then each (sharesFault T′) (T′ .maps) 0
       then each (splitFault T′) (T′ .sas .ops) 0)
   values-same =
-      then-same _ _ _ _ (walk-same (λ v. unless (within 1 8 (T .sas .dom v)) (OutOfRange 3)) (λ v. unless (within 1 8 (T′ .sas .dom v)) (OutOfRange 3)) (c .vars) (λ v l. ap (λ (d : ℕ). unless (within 1 8 d) (OutOfRange 3)) (dom v l)))
+      then-same _ _ _ _ (walk-same (λ v. unless (within 1 8 (T .sas .dom v)) (OutOfRange lineOfDom)) (λ v. unless (within 1 8 (T′ .sas .dom v)) (OutOfRange lineOfDom)) (c .vars) (λ v l. ap (λ (d : ℕ). unless (within 1 8 d) (OutOfRange lineOfDom)) (dom v l)))
       (λ e.
-      ap₂ _then_ (walk-same (λ v. unless (ltb (T .sas .init v) (T .sas .dom v)) (OutOfRange 4)) (λ v. unless (ltb (T′ .sas .init v) (T′ .sas .dom v)) (OutOfRange 4)) (c .vars)
-      (λ v l. ap₂ (λ (x d : ℕ). unless (ltb x d) (OutOfRange 4)) (A .head initRow v (omega arith) l) (dom v l)))
-      (ap₂ _then_ (facts-same (T .sas .goal) (T′ .sas .goal) 5 (λ v l. A .head goalRow v (omega arith) l))
-      (ap (λ (x : Found). unless (leb (c .ops) 64) (OutOfRange 6) then x)
+      ap₂ _then_ (walk-same (λ v. unless (ltb (T .sas .init v) (T .sas .dom v)) (OutOfRange lineOfInit)) (λ v. unless (ltb (T′ .sas .init v) (T′ .sas .dom v)) (OutOfRange lineOfInit)) (c .vars)
+      (λ v l. ap₂ (λ (x d : ℕ). unless (ltb x d) (OutOfRange lineOfInit)) (A .head initRow v (omega arith) l) (dom v l)))
+      (ap₂ _then_ (facts-same (T .sas .goal) (T′ .sas .goal) lineOfGoal (λ v l. A .head goalRow v (omega arith) l))
+      (ap (λ (x : Found). unless (leb (c .ops) 64) (OutOfRange lineOfOps) then x)
       (ap₂ _then_ (walk-same (operatorFault T) (operatorFault T′) (c .ops) operator-same)
       (then-same _ _ _ _ refl
       (λ g.
-      ap₂ _then_ (walk-same (mapFault T) (mapFault T′) (c .maps) (λ m l. map-same m (omega (arith, within-says 1 8 (c .maps) (rule-held (within 1 8 (c .maps)) (OutOfRange (7 + c .ops)) g) .1))
-      (λ v h. within-says 1 8 (T .sas .dom v) (tests-held (λ v. within 1 8 (T .sas .dom v)) (λ v. OutOfRange 3) (c .vars) v e h) .1)))
+      ap₂ _then_ (walk-same (mapFault T) (mapFault T′) (c .maps) (λ m l. map-same m (omega (arith, within-says 1 8 (c .maps) (rule-held (within 1 8 (c .maps)) (OutOfRange (lineOfMaps (c .ops))) g) .1))
+      (λ v h. within-says 1 8 (T .sas .dom v) (tests-held (λ v. within 1 8 (T .sas .dom v)) (λ v. OutOfRange lineOfDom) (c .vars) v e h) .1)))
       (ap₂ _then_ (ap (λ (x : ℕ → Found). each x (c .maps) 0) shares-same) (walk-same (splitFault T) (splitFault T′) (c .ops) split-same))))))))
 
   -- ---- the steps
@@ -196,7 +198,7 @@ module _ (c : Counts) (f f′ k k′ shares : List ℕ) (A : Agree c f f′ k k�
 
   limited-same : (s : State) (ops : List ℕ) → limited (T .sas) s ops ≡ limited (T′ .sas) s ops
   unfolding limited
-  limited-same s ops = ap (λ (j : Judged). cond (leb (length ops) steps) j (Refused SequenceTooLong)) (walked-same 0 0 s s ops (λ v l. refl))
+  limited-same s ops = ap (λ (j : Judged). cond (leb (length ops) mostSteps) j (Refused SequenceTooLong)) (walked-same 0 0 s s ops (λ v l. refl))
 
   state-same : (s : List ℕ) → stateFault c f s ≡ stateFault c f′ s
   unfolding stateFault
@@ -220,7 +222,7 @@ module _ (c : Counts) (f f′ k k′ shares : List ℕ) (room : roomy (tables c 
   unfolding taskFault
   task-same e =
       then-same _ _ _ _ refl
-      (λ g. values-same c f f′ k k′ shares (A e (within-says 1 8 (c .vars) (rule-held (within 1 8 (c .vars)) (OutOfRange 2) g) .1)))
+      (λ g. values-same c f f′ k k′ shares (A e (within-says 1 8 (c .vars) (rule-held (within 1 8 (c .vars)) (OutOfRange lineOfVars) g) .1)))
 
   tables-same : tablesFault (tables c f k shares) ≡ tablesFault (tables c f′ k′ shares)
   unfolding tablesFault
@@ -233,7 +235,7 @@ module _ (c : Counts) (f f′ k k′ shares : List ℕ) (room : roomy (tables c 
   unfolding tablesFault taskFault
   clean-agree e =
       A (rule-held (roomy (tables c f k shares)) TableTooShort (clean-first _ _ e))
-      (within-says 1 8 (c .vars) (rule-held (within 1 8 (c .vars)) (OutOfRange 2) (clean-first _ _ (clean-next (unless (roomy (tables c f k shares)) TableTooShort) _ e))) .1)
+      (within-says 1 8 (c .vars) (rule-held (within 1 8 (c .vars)) (OutOfRange lineOfVars) (clean-first _ _ (clean-next (unless (roomy (tables c f k shares)) TableTooShort) _ e))) .1)
 
   input-same : (s : List ℕ) → inputFault (tables c f k shares) s ≡ inputFault (tables c f′ k′ shares) s
   unfolding inputFault

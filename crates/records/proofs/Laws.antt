@@ -15,11 +15,10 @@ use Rattle.tables.specs.declared.Counts.{Counts}
 use Rattle.tables.specs.Layout.{preRow, effRow, factsRoom, costsRoom}
 use Rattle.tables.specs.Task.{stateOf, tables}
 use Rattle.tables.specs.Steps.{filled}
-use Rattle.scan.specs.Scan.{roomy, tablesFault}
+use Rattle.scan.specs.Scan.{roomy, tablesFault, inputFault}
 use Rattle.tables.proofs.Laws.{by-cases, filled-end, filled-at, length-filled}
 use Rattle.sequences.specs.declared.judging.Judged.{Judged}
 use Rattle.sequences.specs.declared.judging.Judged.the-variants.{Refused}
-use Rattle.sequences.specs.Stepping.{inputFault}
 use Rattle.sequences.specs.Judging.{judgedOf}
 use Rattle.records.specs.declared.OpRecord.{OpRecord}
 use Rattle.records.specs.declared.laying.Laid.{Laid}

@@ -9,10 +9,9 @@ use borrow.Author.Tests.{lt-leb}
 use Rattle.tables.specs.declared.Counts.{Counts}
 use Rattle.scan.specs.declared.Found.{Found}
 use Rattle.tables.specs.Task.{tables}
-use Rattle.scan.specs.Scan.{_then_, factsFault, taskFault, roomy, tablesFault, stateFault}
+use Rattle.scan.specs.Scan.{_then_, factsFault, taskFault, roomy, tablesFault, stateFault, inputFault}
 use Rattle.tables.proofs.Laws.{by-cases}
 use Rattle.scan.proofs.Validity.{clean-valid}
-use Rattle.sequences.specs.Stepping.{inputFault}
 use Rattle.sequences.specs.Judging.{judgedOf}
 use Rattle.sequences.proofs.Passing.{input-clean}
 use Rattle.records.specs.declared.OpRecord.{OpRecord}

@@ -15,20 +15,21 @@ use Rattle.tables.specs.Task.{tables, taskOf}
 use Rattle.scan.specs.Scan.{each, within, factsFault, operatorFault, classesFault, mapFault, sharesFault, splitFault, taskFault, roomy, tablesFault}
 use Rattle.scan.specs.Parts.{headFault, linesFault}
 use Rattle.scan.proofs.Rules.{in-parts}
+use Rattle.tables.specs.Lines.{lineOfOp, lineOfMaps}
 
 module _ (T : Task) where
   -- ---- an operator's line: its cost, its preconditions, its effects
 
-  pub cost-decides : (o : ℕ) → 1000000 < T .sas .cost o → operatorFault T o ≡ Fault (OutOfRange (7 + o))
+  pub cost-decides : (o : ℕ) → 1000000 < T .sas .cost o → operatorFault T o ≡ Fault (OutOfRange (lineOfOp o))
   unfolding operatorFault
   cost-decides o h = rw (lt-leb (T .sas .cost o) 1000000 h)
 
-  pub pre-decides : (o : ℕ) (r : Refusal) → T .sas .cost o ≤ 1000000 → factsFault T (T .sas .pre o) (7 + o) ≡ Fault r → operatorFault T o ≡ Fault r
+  pub pre-decides : (o : ℕ) (r : Refusal) → T .sas .cost o ≤ 1000000 → factsFault T (T .sas .pre o) (lineOfOp o) ≡ Fault r → operatorFault T o ≡ Fault r
   unfolding operatorFault
   pre-decides o r h p = rw (le-leb (T .sas .cost o) 1000000 h, p)
 
-  pub eff-decides : (o : ℕ) (r : Found) → T .sas .cost o ≤ 1000000 → factsFault T (T .sas .pre o) (7 + o) ≡ Clean
-      → factsFault T (T .sas .eff o) (7 + o) ≡ r → operatorFault T o ≡ r
+  pub eff-decides : (o : ℕ) (r : Found) → T .sas .cost o ≤ 1000000 → factsFault T (T .sas .pre o) (lineOfOp o) ≡ Clean
+      → factsFault T (T .sas .eff o) (lineOfOp o) ≡ r → operatorFault T o ≡ r
   unfolding operatorFault
   eff-decides o r h p q = rw (le-leb (T .sas .cost o) 1000000 h, p, q)
 
@@ -38,7 +39,7 @@ module _ (T : Task) where
   unfolding linesFault
   operators-decide r p = rw p
 
-  pub count-decides : each (operatorFault T) (T .sas .ops) 0 ≡ Clean → within 1 8 (T .maps) ≡ false → linesFault T ≡ Fault (OutOfRange (7 + T .sas .ops))
+  pub count-decides : each (operatorFault T) (T .sas .ops) 0 ≡ Clean → within 1 8 (T .maps) ≡ false → linesFault T ≡ Fault (OutOfRange (lineOfMaps (T .sas .ops)))
   unfolding linesFault
   count-decides p q = rw (p, q)
 

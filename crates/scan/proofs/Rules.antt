@@ -19,6 +19,7 @@ use Rattle.tables.specs.Classes.{someHas, noneMissing}
 use Rattle.scan.specs.Parts.{headFault, linesFault}
 use Rattle.tables.proofs.Laws.{by-cases}
 use Rattle.scan.proofs.Walks.{all-clean, clean-all, kept, rule-held, walk-clean, clean-walk, tests-held, held-tests, then-then}
+use Rattle.tables.specs.Lines.{lineOfVars, lineOfDom, lineOfInit, lineOfGoal, lineOfOps, lineOfOp, lineOfMaps, lineOfMap, lineOfShares}
 
 -- ---- tests and what they say
 
@@ -69,27 +70,27 @@ module _ (T : Task) where
     pub eff : (v : ℕ) → v < T .sas .vars → T .sas .eff o v ≤ T .sas .dom v
 
   abbrev costRule : ℕ → Found
-  costRule o = unless (leb (T .sas .cost o) 1000000) (OutOfRange (7 + o))
+  costRule o = unless (leb (T .sas .cost o) 1000000) (OutOfRange (lineOfOp o))
 
   abbrev factRules : ℕ → List Found
-  factRules o = factsFault T (T .sas .pre o) (7 + o) ∷ factsFault T (T .sas .eff o) (7 + o) ∷ []
+  factRules o = factsFault T (T .sas .pre o) (lineOfOp o) ∷ factsFault T (T .sas .eff o) (lineOfOp o) ∷ []
 
   pub operator-clean : (o : ℕ) → operatorFault T o ≡ Clean → OperatorOk o
   unfolding operatorFault
   operator-clean o p =
       let q = all-clean (costRule o) (factRules o) p in
       record {
-        cost = leb-true (T .sas .cost o) 1000000 (rule-held (leb (T .sas .cost o) 1000000) (OutOfRange (7 + o)) (q .0));
-        pre = facts-clean (T .sas .pre o) (7 + o) (q .1 .0);
-        eff = facts-clean (T .sas .eff o) (7 + o) (q .1 .1);
+        cost = leb-true (T .sas .cost o) 1000000 (rule-held (leb (T .sas .cost o) 1000000) (OutOfRange (lineOfOp o)) (q .0));
+        pre = facts-clean (T .sas .pre o) (lineOfOp o) (q .1 .0);
+        eff = facts-clean (T .sas .eff o) (lineOfOp o) (q .1 .1);
       }
 
   pub clean-operator : (o : ℕ) → OperatorOk o → operatorFault T o ≡ Clean
   unfolding operatorFault
   clean-operator o h =
       clean-all (costRule o) (factRules o) (
-        kept (OutOfRange (7 + o)) (le-leb (T .sas .cost o) 1000000 (h .cost)),
-        (clean-facts (T .sas .pre o) (7 + o) (h .pre), clean-facts (T .sas .eff o) (7 + o) (h .eff)),
+        kept (OutOfRange (lineOfOp o)) (le-leb (T .sas .cost o) 1000000 (h .cost)),
+        (clean-facts (T .sas .pre o) (lineOfOp o) (h .pre), clean-facts (T .sas .eff o) (lineOfOp o) (h .eff)),
       )
 
   -- ---- a map's line
@@ -131,15 +132,15 @@ module _ (T : Task) where
     pub few-states : abstractStates (T .sas) (view T m) ≤ 4096
 
   abbrev variablesRule : ℕ → Found
-  variablesRule m = each (classesFault T m (8 + T .sas .ops + m)) (T .sas .vars) 0
+  variablesRule m = each (classesFault T m (lineOfMap (T .sas .ops) m)) (T .sas .vars) 0
 
   abbrev fewRule : ℕ → Found
-  fewRule m = unless (leb (abstractStates (T .sas) (view T m)) 4096) (TooManyStates (8 + T .sas .ops + m))
+  fewRule m = unless (leb (abstractStates (T .sas) (view T m)) 4096) (TooManyStates (lineOfMap (T .sas .ops) m))
 
   pub map-clean : (m : ℕ) → mapFault T m ≡ Clean → MapOk m
   unfolding mapFault
   map-clean m p =
-      let line : ℕ = 8 + T .sas .ops + m in
+      let line : ℕ = lineOfMap (T .sas .ops) m in
       let n : ℕ = abstractStates (T .sas) (view T m) in
       let q = all-clean (variablesRule m) (fewRule m ∷ []) p in
       record {
@@ -150,7 +151,7 @@ module _ (T : Task) where
   pub clean-map : (m : ℕ) → MapOk m → mapFault T m ≡ Clean
   unfolding mapFault
   clean-map m h =
-      let line : ℕ = 8 + T .sas .ops + m in
+      let line : ℕ = lineOfMap (T .sas .ops) m in
       clean-all (variablesRule m) (fewRule m ∷ []) (
         clean-walk (classesFault T m line) (T .sas .vars) (λ v l. clean-classes m line v (h .classes v l)),
         kept (TooManyStates line) (le-leb (abstractStates (T .sas) (view T m)) 4096 (h .few-states)),
@@ -161,22 +162,22 @@ module _ (T : Task) where
   pub shares-clean : (m : ℕ) → sharesFault T m ≡ Clean → (o : ℕ) → o < T .sas .ops → T .share m o ≤ 1000000
   unfolding sharesFault
   shares-clean m p o l =
-      leb-true (T .share m o) 1000000 (tests-held (λ o. leb (T .share m o) 1000000) (λ o. OutOfRange (8 + T .sas .ops + T .maps + m)) (T .sas .ops) o p l)
+      leb-true (T .share m o) 1000000 (tests-held (λ o. leb (T .share m o) 1000000) (λ o. OutOfRange (lineOfShares (T .sas .ops) (T .maps) m)) (T .sas .ops) o p l)
 
   pub clean-shares : (m : ℕ) → ((o : ℕ) → o < T .sas .ops → T .share m o ≤ 1000000) → sharesFault T m ≡ Clean
   unfolding sharesFault
   clean-shares m h =
-      held-tests (λ o. leb (T .share m o) 1000000) (λ o. OutOfRange (8 + T .sas .ops + T .maps + m)) (T .sas .ops) (λ o l. le-leb (T .share m o) 1000000 (h o l))
+      held-tests (λ o. leb (T .share m o) 1000000) (λ o. OutOfRange (lineOfShares (T .sas .ops) (T .maps) m)) (T .sas .ops) (λ o l. le-leb (T .share m o) 1000000 (h o l))
 
   pub split-clean : (o : ℕ) → splitFault T o ≡ Clean → sum (λ m. T .share m o) (T .maps) ≤ T .sas .cost o
   unfolding splitFault
   split-clean o p =
       let total : ℕ = sum (λ m. T .share m o) (T .maps) in
-      leb-true total (T .sas .cost o) (rule-held (leb total (T .sas .cost o)) (SharesAboveCost (7 + o)) p)
+      leb-true total (T .sas .cost o) (rule-held (leb total (T .sas .cost o)) (SharesAboveCost (lineOfOp o)) p)
 
   pub clean-split : (o : ℕ) → sum (λ m. T .share m o) (T .maps) ≤ T .sas .cost o → splitFault T o ≡ Clean
   unfolding splitFault
-  clean-split o h = kept (SharesAboveCost (7 + o)) (le-leb (sum (λ m. T .share m o) (T .maps)) (T .sas .cost o) h)
+  clean-split o h = kept (SharesAboveCost (lineOfOp o)) (le-leb (sum (λ m. T .share m o) (T .maps)) (T .sas .cost o) h)
 
   -- ---- the lines before the operators
 
@@ -194,14 +195,14 @@ module _ (T : Task) where
   initOk v = ltb (T .sas .init v) (T .sas .dom v)
 
   abbrev varsRule : Found
-  varsRule = unless (within 1 8 (T .sas .vars)) (OutOfRange 2)
+  varsRule = unless (within 1 8 (T .sas .vars)) (OutOfRange lineOfVars)
 
   abbrev headRules : List Found
   headRules =
-      each (λ v. unless (domOk v) (OutOfRange 3)) (T .sas .vars) 0
-      ∷ each (λ v. unless (initOk v) (OutOfRange 4)) (T .sas .vars) 0
-      ∷ factsFault T (T .sas .goal) 5
-      ∷ unless (leb (T .sas .ops) 64) (OutOfRange 6)
+      each (λ v. unless (domOk v) (OutOfRange lineOfDom)) (T .sas .vars) 0
+      ∷ each (λ v. unless (initOk v) (OutOfRange lineOfInit)) (T .sas .vars) 0
+      ∷ factsFault T (T .sas .goal) lineOfGoal
+      ∷ unless (leb (T .sas .ops) 64) (OutOfRange lineOfOps)
       ∷ []
 
   pub head-clean : headFault T ≡ Clean → HeadOk
@@ -210,11 +211,11 @@ module _ (T : Task) where
       let n : ℕ = T .sas .vars in
       let q = all-clean varsRule headRules p in
       record {
-        vars = within-says 1 8 n (rule-held (within 1 8 n) (OutOfRange 2) (q .0));
-        doms = λ v l. within-says 1 8 (T .sas .dom v) (tests-held domOk (λ v. OutOfRange 3) n v (q .1 .0) l);
-        init = λ v l. ltb-true (T .sas .init v) (T .sas .dom v) (tests-held initOk (λ v. OutOfRange 4) n v (q .1 .1 .0) l);
-        goal = facts-clean (T .sas .goal) 5 (q .1 .1 .1 .0);
-        ops = leb-true (T .sas .ops) 64 (rule-held (leb (T .sas .ops) 64) (OutOfRange 6) (q .1 .1 .1 .1));
+        vars = within-says 1 8 n (rule-held (within 1 8 n) (OutOfRange lineOfVars) (q .0));
+        doms = λ v l. within-says 1 8 (T .sas .dom v) (tests-held domOk (λ v. OutOfRange lineOfDom) n v (q .1 .0) l);
+        init = λ v l. ltb-true (T .sas .init v) (T .sas .dom v) (tests-held initOk (λ v. OutOfRange lineOfInit) n v (q .1 .1 .0) l);
+        goal = facts-clean (T .sas .goal) lineOfGoal (q .1 .1 .1 .0);
+        ops = leb-true (T .sas .ops) 64 (rule-held (leb (T .sas .ops) 64) (OutOfRange lineOfOps) (q .1 .1 .1 .1));
       }
 
   pub clean-head : HeadOk → headFault T ≡ Clean
@@ -222,12 +223,12 @@ module _ (T : Task) where
   clean-head h =
       let n : ℕ = T .sas .vars in
       clean-all varsRule headRules (
-        kept (OutOfRange 2) (says-within 1 8 n (h .vars)),
+        kept (OutOfRange lineOfVars) (says-within 1 8 n (h .vars)),
         (
-          held-tests domOk (λ v. OutOfRange 3) n (λ v l. says-within 1 8 (T .sas .dom v) (h .doms v l)),
+          held-tests domOk (λ v. OutOfRange lineOfDom) n (λ v l. says-within 1 8 (T .sas .dom v) (h .doms v l)),
           (
-            held-tests initOk (λ v. OutOfRange 4) n (λ v l. lt-ltb (T .sas .init v) (T .sas .dom v) (h .init v l)),
-            (clean-facts (T .sas .goal) 5 (h .goal), kept (OutOfRange 6) (le-leb (T .sas .ops) 64 (h .ops))),
+            held-tests initOk (λ v. OutOfRange lineOfInit) n (λ v l. lt-ltb (T .sas .init v) (T .sas .dom v) (h .init v l)),
+            (clean-facts (T .sas .goal) lineOfGoal (h .goal), kept (OutOfRange lineOfOps) (le-leb (T .sas .ops) 64 (h .ops))),
           ),
         ),
       )
@@ -243,7 +244,7 @@ module _ (T : Task) where
   operatorRules = each (operatorFault T) (T .sas .ops) 0
 
   abbrev mapRules : List Found
-  mapRules = unless (within 1 8 (T .maps)) (OutOfRange (7 + T .sas .ops)) ∷ each (mapFault T) (T .maps) 0 ∷ []
+  mapRules = unless (within 1 8 (T .maps)) (OutOfRange (lineOfMaps (T .sas .ops))) ∷ each (mapFault T) (T .maps) 0 ∷ []
 
   pub lines-clean : linesFault T ≡ Clean → LinesOk
   unfolding linesFault
@@ -251,7 +252,7 @@ module _ (T : Task) where
       let q = all-clean operatorRules mapRules p in
       record {
         operators = λ o l. operator-clean o (walk-clean (operatorFault T) (T .sas .ops) o (q .0) l);
-        maps = within-says 1 8 (T .maps) (rule-held (within 1 8 (T .maps)) (OutOfRange (7 + T .sas .ops)) (q .1 .0));
+        maps = within-says 1 8 (T .maps) (rule-held (within 1 8 (T .maps)) (OutOfRange (lineOfMaps (T .sas .ops))) (q .1 .0));
         each-map = λ m l. map-clean m (walk-clean (mapFault T) (T .maps) m (q .1 .1) l);
       }
 
@@ -261,7 +262,7 @@ module _ (T : Task) where
       clean-all operatorRules mapRules (
         clean-walk (operatorFault T) (T .sas .ops) (λ o l. clean-operator o (h .operators o l)),
         (
-          kept (OutOfRange (7 + T .sas .ops)) (says-within 1 8 (T .maps) (h .maps)),
+          kept (OutOfRange (lineOfMaps (T .sas .ops))) (says-within 1 8 (T .maps) (h .maps)),
           clean-walk (mapFault T) (T .maps) (λ m l. clean-map m (h .each-map m l)),
         ),
       )

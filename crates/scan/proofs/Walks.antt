@@ -22,6 +22,14 @@ pub then-clean : (a : Found) → a then Clean ≡ a
 then-clean Clean = refl
 then-clean (Fault r) = refl
 
+-- a fault is handed on
+pub hands-on : (a b found : Found) (f : Refusal) → found ≡ a → found ≡ Fault f → found ≡ a then b
+hands-on a b found f p q = q ∙ (rw (sym p ∙ q) refl)
+
+-- and where there is none, the next decides
+pub goes-on : (a b found : Found) → found ≡ a → found ≡ Clean → b ≡ a then b
+goes-on a b found p q = rw (sym p ∙ q) refl
+
 pub then-then : (a b c : Found) → (a then b) then c ≡ a then b then c
 then-then Clean b c = refl
 then-then (Fault r) b c = refl

@@ -9,6 +9,7 @@ use Rattle.refusals.specs.declared.Refusal.{Refusal}
 use Rattle.refusals.specs.declared.Refusal.the-variants.{OutOfRange, ClassMissing, SharesAboveCost, TooManyStates, TableTooShort, ValueOutside}
 use Rattle.meaning.specs.Sas.{Facts}
 use Rattle.meaning.specs.Views.{abstractStates}
+use Rattle.meaning.specs.Limits.{mostVars, mostValues, mostOps, mostCost, mostMaps, mostStates}
 use Rattle.meaning.specs.Split.{Task, sum, view}
 use Rattle.tables.specs.declared.Counts.{Counts}
 use Rattle.scan.specs.declared.Found.{Found}
@@ -16,6 +17,7 @@ use Rattle.scan.specs.declared.Found.the-variants.{Clean, Fault}
 use Rattle.tables.specs.Layout.{Tables, factsRoom, costsRoom, sharesRoom, domAt}
 use Rattle.tables.specs.Task.{taskOf, stateOf}
 use Rattle.tables.specs.Classes.{noneMissing}
+use Rattle.tables.specs.Lines.{lineOfVars, lineOfDom, lineOfInit, lineOfGoal, lineOfOps, lineOfOp, lineOfMaps, lineOfMap, lineOfShares}
 
 infixr 20 _then_
 -- a rule that holds, or the refusal that it is broken with
@@ -41,12 +43,12 @@ within lo hi x = leb lo x && leb x hi
 unfoldable pub factsFault : Task → Facts → ℕ → Found
 factsFault T F line = each (λ v. unless (leb (F v) (T .sas .dom v)) (OutOfRange line)) (T .sas .vars) 0
 
--- line 7 + o: the operator's cost, its preconditions, its effects
+-- the line of operator o: the operator's cost, its preconditions, its effects
 unfoldable pub operatorFault : Task → ℕ → Found
 operatorFault T o =
-    unless (leb (T .sas .cost o) 1000000) (OutOfRange (7 + o))
-    then factsFault T (T .sas .pre o) (7 + o)
-    then factsFault T (T .sas .eff o) (7 + o)
+    unless (leb (T .sas .cost o) mostCost) (OutOfRange (lineOfOp o))
+    then factsFault T (T .sas .pre o) (lineOfOp o)
+    then factsFault T (T .sas .eff o) (lineOfOp o)
 
 -- a variable's classes: each below its number of values; at their end none missing
 unfoldable pub classesFault : Task → ℕ → ℕ → ℕ → Found
@@ -57,28 +59,28 @@ classesFault T m line v =
 -- the line of map m: variable by variable, and at its end not too many abstract states
 unfoldable pub mapFault : Task → ℕ → Found
 mapFault T m =
-    each (classesFault T m (8 + T .sas .ops + m)) (T .sas .vars) 0
-    then unless (leb (abstractStates (T .sas) (view T m)) 4096) (TooManyStates (8 + T .sas .ops + m))
+    each (classesFault T m (lineOfMap (T .sas .ops) m)) (T .sas .vars) 0
+    then unless (leb (abstractStates (T .sas) (view T m)) mostStates) (TooManyStates (lineOfMap (T .sas .ops) m))
 
 -- the line of map m's shares
 unfoldable pub sharesFault : Task → ℕ → Found
 sharesFault T m =
-    each (λ o. unless (leb (T .share m o) 1000000) (OutOfRange (8 + T .sas .ops + T .maps + m))) (T .sas .ops) 0
+    each (λ o. unless (leb (T .share m o) mostCost) (OutOfRange (lineOfShares (T .sas .ops) (T .maps) m))) (T .sas .ops) 0
 
 -- after all else: an operator's shares total at most its cost
 unfoldable pub splitFault : Task → ℕ → Found
-splitFault T o = unless (leb (sum (λ m. T .share m o) (T .maps)) (T .sas .cost o)) (SharesAboveCost (7 + o))
+splitFault T o = unless (leb (sum (λ m. T .share m o) (T .maps)) (T .sas .cost o)) (SharesAboveCost (lineOfOp o))
 
 -- the whole task
 unfoldable pub taskFault : Task → Found
 taskFault T =
-    unless (within 1 8 (T .sas .vars)) (OutOfRange 2)
-    then each (λ v. unless (within 1 8 (T .sas .dom v)) (OutOfRange 3)) (T .sas .vars) 0
-    then each (λ v. unless (ltb (T .sas .init v) (T .sas .dom v)) (OutOfRange 4)) (T .sas .vars) 0
-    then factsFault T (T .sas .goal) 5
-    then unless (leb (T .sas .ops) 64) (OutOfRange 6)
+    unless (within 1 mostVars (T .sas .vars)) (OutOfRange lineOfVars)
+    then each (λ v. unless (within 1 mostValues (T .sas .dom v)) (OutOfRange lineOfDom)) (T .sas .vars) 0
+    then each (λ v. unless (ltb (T .sas .init v) (T .sas .dom v)) (OutOfRange lineOfInit)) (T .sas .vars) 0
+    then factsFault T (T .sas .goal) lineOfGoal
+    then unless (leb (T .sas .ops) mostOps) (OutOfRange lineOfOps)
     then each (operatorFault T) (T .sas .ops) 0
-    then unless (within 1 8 (T .maps)) (OutOfRange (7 + T .sas .ops))
+    then unless (within 1 mostMaps (T .maps)) (OutOfRange (lineOfMaps (T .sas .ops)))
     then each (mapFault T) (T .maps) 0
     then each (sharesFault T) (T .maps) 0
     then each (splitFault T) (T .sas .ops) 0
@@ -96,3 +98,7 @@ unfoldable pub stateFault : Counts → List ℕ → List ℕ → Found
 stateFault c facts s =
     unless (leb (c .vars) (length s)) TableTooShort
     then each (λ v. unless (ltb (stateOf s v) (domAt facts v)) (ValueOutside v)) (c .vars) 0
+
+-- the first fault of what every entry that takes a state is handed: the tables, then the state
+unfoldable pub inputFault : Tables → List ℕ → Found
+inputFault t s = tablesFault t then stateFault (t .counts) (t .facts) s

@@ -10,7 +10,7 @@ ghost use Rattle.refusals.specs.declared.Refusal.the-variants.{OutOfRange};
 ghost use Rattle.scan.specs.declared.Found.the-variants.{Clean};
 ghost use Rattle.tables.specs.Layout.{rowAt, domAt, shareAt, factsRoom, costsRoom, sharesRoom};
 ghost use Rattle.tables.specs.Task.{tables, taskOf};
-ghost use Rattle.scan.specs.Scan.{unless, each, within, mapFault, sharesFault, splitFault, tablesFault, stateFault};
+ghost use Rattle.scan.specs.Scan.{unless, each, within, mapFault, sharesFault, splitFault, tablesFault, stateFault, inputFault};
 ghost use Rattle.scan.specs.Parts.{variableHolds, headFault, linesFault};
 use meaning::OpNo;
 use refusals::Refusal;
@@ -302,4 +302,15 @@ pub fn state_fault(c: Counts, facts: &[u8], s: &[u8]) -> Found
         v += 1;
     }
     Found::Clean
+}
+
+// The first fault of the tables, or else of the state.
+pub fn input_fault(c: Counts, facts: &[u8], costs: &[u32], shares: &[u32], s: &[u8]) -> Found
+    ensures { λ r. ⌜ r ≡ inputFault (tables c (now (facts .entry)) (now (costs .entry)) (now (shares .entry))) (now (s .entry)) ⌝ }
+{
+    let f = tables_fault(c, facts, costs, shares);
+    let Found::Clean = f else {
+        return f;
+    };
+    state_fault(c, facts, s)
 }

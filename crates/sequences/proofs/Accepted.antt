@@ -1,22 +1,19 @@
 -- What is handed in is judged first: a fault decides the answer, and accepted tables are fit for the steps. Assumes nothing.
 use Prim.Native.Nat.{ℕ}
-use mathlib.Core.Path.{_≡_, refl, ap, sym, _∙_, subst}
-use mathlib.Core.List.{List, [], _∷_}
-use denote.Enum.Declared.{tagOf}
+use mathlib.Core.Path.{_≡_, ap, sym, _∙_, subst}
+use mathlib.Core.List.{List}
 use denote.Ref.{RefT, now}
-use types.Run.{OneOf}
-use borrow.Author.Tests.{eqb-false}
 use Rattle.refusals.specs.declared.Refusal.{Refusal}
 use Rattle.scan.specs.declared.Found.{Found}
 use Rattle.scan.specs.declared.Found.the-variants.{Clean, Fault}
 use Rattle.tables.specs.Layout.{Tables}
 use Rattle.tables.specs.Task.{sasOf, stateOf}
-use Rattle.scan.specs.Scan.{_then_, tablesFault, stateFault}
+use Rattle.scan.specs.Scan.{inputFault}
 use Rattle.scan.proofs.Validity.{clean-valid}
 use Rattle.sequences.specs.declared.judging.Judged.the-variants.{Refused}
 use Rattle.sequences.specs.declared.choosing.Choice.{Choice}
 use Rattle.sequences.specs.declared.choosing.Choice.the-variants.{Unread}
-use Rattle.sequences.specs.Stepping.{Usable, inputFault}
+use Rattle.sequences.specs.Stepping.{Usable}
 use Rattle.sequences.specs.Judging.{limited, unlessFault, judgedOf}
 use Rattle.sequences.specs.Choosing.{reachedOf, choiceOf, unlessUnread, chosenOf, listOf, stepsOf}
 use Rattle.sequences.specs.Opening.{Opening, OpeningOf}
@@ -24,19 +21,6 @@ use Rattle.sequences.proofs.Passing.{input-clean}
 use Rattle.scan.proofs.Found as F
 
 module _ (t : Tables) (s : List ℕ) where
-  -- a fault of the tables is the answer; else the state's
-  pub input-faulty : (f : Found) → f ≡ tablesFault t → OneOf (1 ∷ []) (tagOf F.the-type f) → f ≡ inputFault t s
-  unfolding inputFault
-  input-faulty f e o = first f o ∙ ap (λ (g : Found). g then stateFault (t .counts) (t .facts) s) e
-    where
-      first : (f : Found) → OneOf (1 ∷ []) (tagOf F.the-type f) → f ≡ (f then stateFault (t .counts) (t .facts) s)
-      first Clean o = absurd (eqb-false 0 1 refl o)
-      first (Fault r) o = refl
-
-  pub input-state : (f : Found) → f ≡ tablesFault t → f ≡ Clean → stateFault (t .counts) (t .facts) s ≡ inputFault t s
-  unfolding inputFault
-  input-state f e c = ap (λ (g : Found). g then stateFault (t .counts) (t .facts) s) (sym c ∙ e)
-
   -- the steps may be walked
   pub usable : (f : Found) → f ≡ inputFault t s → f ≡ Clean → Usable (sasOf t)
   usable f e c =

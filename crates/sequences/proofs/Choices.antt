@@ -17,21 +17,22 @@ use Rattle.sequences.specs.declared.choosing.Reached.{Reached}
 use Rattle.sequences.specs.declared.choosing.Reached.the-variants.{After, Out}
 use Rattle.sequences.specs.declared.choosing.Choice.{Choice}
 use Rattle.sequences.specs.declared.choosing.Choice.the-variants.{FirstPart, SecondPart, NoPart, Unread}
-use Rattle.sequences.specs.Stepping.{steps, inputFault}
+use Rattle.scan.specs.Scan.{inputFault}
+use Rattle.meaning.specs.Limits.{mostSteps}
 use Rattle.sequences.specs.Choosing.{reachedOf, choiceOf, unlessUnread, chosenOf}
 use Rattle.sequences.proofs.Moments.{Moment, moment-of, moment-least, out-none}
 
 -- every opening part of a list within the limit that passes costs at least p
 abbrev pub AtLeast : Sas → State → List ℕ → ℕ → Type 0
-AtLeast S s os p = (j : ℕ) → length os ≤ steps → Passes S (take j os) s → p ≤ paid (S .cost) (take j os)
+AtLeast S s os p = (j : ℕ) → length os ≤ mostSteps → Passes S (take j os) s → p ≤ paid (S .cost) (take j os)
 
 -- no opening part of a list within the limit passes
 abbrev pub NonePasses : Sas → State → List ℕ → Type 0
-NonePasses S s os = (j : ℕ) → length os ≤ steps → Passes S (take j os) s → ⊥
+NonePasses S s os = (j : ℕ) → length os ≤ mostSteps → Passes S (take j os) s → ⊥
 
 -- the first n steps of the list os, up to its first goal moment, pass at the cost p, and no opening part of it that passes is cheaper
 pub record Named (S : Sas) (s : State) (os : List ℕ) (n p : ℕ) : Type 0 where
-  pub within : length os ≤ steps
+  pub within : length os ≤ mostSteps
   pub moment : Moment S s os n p
   pub least : AtLeast S s os p
 

@@ -28,7 +28,8 @@ use Rattle.sequences.specs.declared.stepping.Stepped.the-variants.{Ran, 
 use Rattle.sequences.specs.declared.judging.Judged.the-variants.{Passed, Refused}
 use Rattle.sequences.specs.declared.choosing.Reached.{Reached}
 use Rattle.sequences.specs.declared.choosing.Reached.the-variants.{After, Out}
-use Rattle.sequences.specs.Stepping.{Usable, steps, sas, stepOf, takenApart, copied}
+use Rattle.sequences.specs.Stepping.{Usable, sas, stepOf, takenApart, copied}
+use Rattle.meaning.specs.Limits.{mostSteps}
 use Rattle.sequences.specs.Judging.{onto, walked, limited}
 use Rattle.sequences.specs.Choosing.{orOut, reachedFrom, reachedOf}
 use Rattle.sequences.proofs.stepping.Stepped as T
@@ -196,25 +197,25 @@ module _ (S : Sas) where
 
   -- ---- a list of any length
 
-  pub limited-within : (s t : State) (ops : List ℕ) → Same S t s → length ops ≤ steps → walked S 0 0 t ops ≡ limited S s ops
+  pub limited-within : (s t : State) (ops : List ℕ) → Same S t s → length ops ≤ mostSteps → walked S 0 0 t ops ≡ limited S s ops
   unfolding limited
-  limited-within s t ops h l = walked-same 0 0 t s ops h ∙ sym (rw (le-leb (length ops) steps l))
+  limited-within s t ops h l = walked-same 0 0 t s ops h ∙ sym (rw (le-leb (length ops) mostSteps l))
 
-  pub limited-above : (s : State) (ops : List ℕ) → steps < length ops → Refused SequenceTooLong ≡ limited S s ops
+  pub limited-above : (s : State) (ops : List ℕ) → mostSteps < length ops → Refused SequenceTooLong ≡ limited S s ops
   unfolding limited
-  limited-above s ops l = sym (rw (lt-leb (length ops) steps l))
+  limited-above s ops l = sym (rw (lt-leb (length ops) mostSteps l))
 
-  pub reached-within : (s : State) (ops : List ℕ) → length ops ≤ steps → reachedFrom S 0 0 s ops ≡ reachedOf S s ops
+  pub reached-within : (s : State) (ops : List ℕ) → length ops ≤ mostSteps → reachedFrom S 0 0 s ops ≡ reachedOf S s ops
   unfolding reachedOf
-  reached-within s ops l = sym (rw (le-leb (length ops) steps l))
+  reached-within s ops l = sym (rw (le-leb (length ops) mostSteps l))
 
-  pub reached-above : (s : State) (ops : List ℕ) → steps < length ops → Out ≡ reachedOf S s ops
+  pub reached-above : (s : State) (ops : List ℕ) → mostSteps < length ops → Out ≡ reachedOf S s ops
   unfolding reachedOf
-  reached-above s ops l = sym (rw (lt-leb (length ops) steps l))
+  reached-above s ops l = sym (rw (lt-leb (length ops) mostSteps l))
 
   pub reachedOf-same : (s t : State) (ops : List ℕ) → Same S s t → reachedOf S s ops ≡ reachedOf S t ops
   unfolding reachedOf
-  reachedOf-same s t ops h = ap (λ (r : Reached). cond (leb (length ops) steps) r Out) (reached-same 0 0 s t ops h)
+  reachedOf-same s t ops h = ap (λ (r : Reached). cond (leb (length ops) mostSteps) r Out) (reached-same 0 0 s t ops h)
 
   -- the copy of a lent state agrees with it
   pub same-copied : (s t : List ℕ) → Usable S → t ≡ copied s (S .vars) → Same S (stateOf t) (stateOf s)

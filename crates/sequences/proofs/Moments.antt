@@ -15,7 +15,8 @@ use Rattle.sequences.specs.declared.stepping.Stepped.{Stepped}
 use Rattle.sequences.specs.declared.stepping.Stepped.the-variants.{Ran, NoSuch, MayNot}
 use Rattle.sequences.specs.declared.choosing.Reached.{Reached}
 use Rattle.sequences.specs.declared.choosing.Reached.the-variants.{After, Out}
-use Rattle.sequences.specs.Stepping.{steps, stepOf}
+use Rattle.sequences.specs.Stepping.{stepOf}
+use Rattle.meaning.specs.Limits.{mostSteps}
 use Rattle.sequences.specs.Choosing.{orOut, reachedFrom, reachedOf}
 use Rattle.sequences.proofs.Laws.{step-taken, reached-goal}
 use Rattle.sequences.proofs.Passing.{takes}
@@ -110,11 +111,11 @@ module _ (S : Sas) where
   from-start s os n q r =
       subst (λ (a : ℕ). Moment S s os a q) (omega (arith, r .2)) (subst (λ (b : ℕ). Moment S s os (r .0) b) (omega (arith, r .3)) (r .4))
 
-  pub moment-of : (s : State) (os : List ℕ) (n q : ℕ) → reachedOf S s os ≡ After n q → (length os ≤ steps) × Moment S s os n q
+  pub moment-of : (s : State) (os : List ℕ) (n q : ℕ) → reachedOf S s os ≡ After n q → (length os ≤ mostSteps) × Moment S s os n q
   unfolding reachedOf
   moment-of s os n q e =
-      let t = cond-after (leb (length os) steps) (reachedFrom S 0 0 s os) n q e in
-      (leb-true (length os) steps (t .0), from-start s os n q (reached-moment os s 0 0 n q (t .1)))
+      let t = cond-after (leb (length os) mostSteps) (reachedFrom S 0 0 s os) n q e in
+      (leb-true (length os) mostSteps (t .0), from-start s os n q (reached-moment os s 0 0 n q (t .1)))
 
   -- no opening part that passes is cheaper than the one at the first moment
   pub moment-least : (s : State) (os : List ℕ) (n q j : ℕ) → Moment S s os n q → Passes S (take j os) s → q ≤ paid (S .cost) (take j os)
@@ -123,8 +124,8 @@ module _ (S : Sas) where
       (λ e. absurd (m .first j (let l : j < n = omega (arith, leb-false n j e) in l) h))
 
   -- a list is out exactly if it is too long or no opening part passes
-  pub out-none : (s : State) (os : List ℕ) (j : ℕ) → reachedOf S s os ≡ Out → length os ≤ steps → Passes S (take j os) s → ⊥
+  pub out-none : (s : State) (os : List ℕ) (j : ℕ) → reachedOf S s os ≡ Out → length os ≤ mostSteps → Passes S (take j os) s → ⊥
   unfolding reachedOf
   out-none s os j e l h =
       let r = passes-reached os s 0 0 j h in
-      after-out (reachedFrom S 0 0 s os) (r .0) (r .1) (r .2) (sym (rw (le-leb (length os) steps l)) ∙ e)
+      after-out (reachedFrom S 0 0 s os) (r .0) (r .1) (r .2) (sym (rw (le-leb (length os) mostSteps l)) ∙ e)

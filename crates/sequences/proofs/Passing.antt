@@ -17,12 +17,13 @@ use Rattle.scan.specs.declared.Found.{Found}
 use Rattle.scan.specs.declared.Found.the-variants.{Clean, Fault}
 use Rattle.tables.specs.Layout.{Tables}
 use Rattle.tables.specs.Task.{sasOf, stateOf}
-use Rattle.scan.specs.Scan.{_then_, tablesFault, stateFault}
+use Rattle.scan.specs.Scan.{_then_, tablesFault, stateFault, inputFault}
 use Rattle.sequences.specs.declared.stepping.Stepped.{Stepped}
 use Rattle.sequences.specs.declared.stepping.Stepped.the-variants.{Ran, NoSuch, MayNot}
 use Rattle.sequences.specs.declared.judging.Judged.{Judged}
 use Rattle.sequences.specs.declared.judging.Judged.the-variants.{Passed, Refused}
-use Rattle.sequences.specs.Stepping.{steps, stepOf, inputFault}
+use Rattle.sequences.specs.Stepping.{stepOf}
+use Rattle.meaning.specs.Limits.{mostSteps}
 use Rattle.sequences.specs.Judging.{onto, walked, limited, unlessFault, judgedOf}
 use Rattle.sequences.proofs.Laws.{step-taken}
 
@@ -84,7 +85,7 @@ module _ (S : Sas) where
 pub record Passing (t : Tables) (s ops : List ℕ) (c : ℕ) : Type 0 where
   pub tables : tablesFault t ≡ Clean
   pub state : stateFault (t .counts) (t .facts) s ≡ Clean
-  pub length : length ops ≤ steps
+  pub length : length ops ≤ mostSteps
   pub passes : Passes (sasOf t) ops (stateOf s)
   pub cost : c ≡ paid (sasOf t .cost) ops
 
@@ -96,11 +97,11 @@ passed-exactly t s ops c = (says, passes)
     says e =
         let f = fault-passed (inputFault t s) (limited (sasOf t) (stateOf s) ops) c e in
         let i = input-clean t s (f .0) in
-        let l = cond-passed (leb (length ops) steps) (walked (sasOf t) 0 0 (stateOf s) ops) SequenceTooLong c (f .1) in
+        let l = cond-passed (leb (length ops) mostSteps) (walked (sasOf t) 0 0 (stateOf s) ops) SequenceTooLong c (f .1) in
         let w = walked-passes (sasOf t) ops (stateOf s) 0 0 c (l .1) in
-        record { tables = i .0; state = i .1; length = leb-true (length ops) steps (l .0); passes = w .0; cost = omega (arith, w .1) }
+        record { tables = i .0; state = i .1; length = leb-true (length ops) mostSteps (l .0); passes = w .0; cost = omega (arith, w .1) }
 
     passes : Passing t s ops c → judgedOf t s ops ≡ Passed c
     passes h =
-        rw (clean-input t s (h .tables) (h .state), le-leb (length ops) steps (h .length))
+        rw (clean-input t s (h .tables) (h .state), le-leb (length ops) mostSteps (h .length))
         (passes-walked (sasOf t) ops (stateOf s) 0 0 (h .passes) ∙ ap Passed (omega (arith, h .cost)))

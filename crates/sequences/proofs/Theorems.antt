@@ -18,7 +18,7 @@ use Rattle.sequences.specs.declared.choosing.Choice.{Choice}
 use Rattle.sequences.specs.declared.choosing.Choice.the-variants.{FirstPart, SecondPart, NoPart, Unread}
 use Rattle.sequences.specs.declared.choosing.Cheaper.{Cheaper}
 use Rattle.sequences.specs.declared.choosing.Cheaper.the-variants.{First, Second, Neither, Refused}
-use Rattle.sequences.specs.Stepping.{inputFault}
+use Rattle.scan.specs.Scan.{inputFault}
 use Rattle.sequences.specs.Judging.{judgedOf}
 use Rattle.sequences.specs.Choosing.{chosenOf, namedOf, cheaperOf, listOf, stepsOf}
 use Rattle.sequences.specs.Opening.{Opening, OpeningOf}

@@ -17,7 +17,9 @@ use Rattle.sequences.specs.declared.choosing.Choice.{Choice}
 use Rattle.sequences.specs.declared.choosing.Choice.the-variants.{FirstPart, SecondPart, NoPart, Unread}
 use Rattle.sequences.specs.declared.choosing.Cheaper.{Cheaper}
 use Rattle.sequences.specs.declared.choosing.Cheaper.the-variants.{First, Second, Neither, Refused}
-use Rattle.sequences.specs.Stepping.{steps, stepOf, takenApart, inputFault}
+use Rattle.sequences.specs.Stepping.{stepOf, takenApart}
+use Rattle.scan.specs.Scan.{inputFault}
+use Rattle.meaning.specs.Limits.{mostSteps}
 
 -- a step that is refused puts the list out; one that was taken goes on with its cost
 abbrev pub orOut : Stepped → (ℕ → Reached) → Reached
@@ -32,7 +34,7 @@ reachedFrom S k p s (o ∷ os) =
 
 -- a list above the step limit is out
 unfoldable pub reachedOf : Sas → State → List ℕ → Reached
-reachedOf S s ops = cond (leb (length ops) steps) (reachedFrom S 0 0 s ops) Out
+reachedOf S s ops = cond (leb (length ops) mostSteps) (reachedFrom S 0 0 s ops) Out
 
 -- the cheaper one; equal costs name the first
 abbrev pub choiceOf : Reached → Reached → Choice

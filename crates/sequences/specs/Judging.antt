@@ -14,7 +14,9 @@ use Rattle.tables.specs.Task.{sasOf, stateOf}
 use Rattle.sequences.specs.declared.stepping.Stepped.{Stepped}
 use Rattle.sequences.specs.declared.judging.Judged.{Judged}
 use Rattle.sequences.specs.declared.judging.Judged.the-variants.{Passed, Refused}
-use Rattle.sequences.specs.Stepping.{steps, stepOf, takenApart, inputFault}
+use Rattle.sequences.specs.Stepping.{stepOf, takenApart}
+use Rattle.scan.specs.Scan.{inputFault}
+use Rattle.meaning.specs.Limits.{mostSteps}
 
 -- a step that is refused ends the judging with its number k; one that was taken goes on with its cost
 abbrev pub onto : Stepped → ℕ → (ℕ → Judged) → Judged
@@ -27,7 +29,7 @@ walked S k p s (o ∷ os) = onto (stepOf S s o) (suc k) (λ cost. walked S (suc 
 
 -- 11 before any step
 unfoldable pub limited : Sas → State → List ℕ → Judged
-limited S s ops = cond (leb (length ops) steps) (walked S 0 0 s ops) (Refused SequenceTooLong)
+limited S s ops = cond (leb (length ops) mostSteps) (walked S 0 0 s ops) (Refused SequenceTooLong)
 
 -- a fault of what was handed in decides before all
 abbrev pub unlessFault : Found → Judged → Judged

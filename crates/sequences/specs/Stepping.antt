@@ -8,24 +8,13 @@ use Rattle.meaning.specs.Sas.{State, Sas}
 use Rattle.meaning.specs.Views.{complies}
 use Rattle.tables.specs.declared.Counts.{Counts}
 use Rattle.tables.specs.Task.{sasOf, stateOf, tables}
-use Rattle.scan.specs.declared.Found.{Found}
-use Rattle.tables.specs.Layout.{Tables}
 use Rattle.tables.specs.Steps.{filled}
-use Rattle.scan.specs.Scan.{_then_, tablesFault, stateFault}
 use Rattle.sequences.specs.declared.stepping.Stepped.{Stepped}
 use Rattle.sequences.specs.declared.stepping.Stepped.the-variants.{Ran, NoSuch, MayNot}
-
--- the most steps of a sequence or a run
-unfoldable pub steps : ℕ
-steps = 256
 
 -- the task without its split: judging reads no shares
 abbrev pub sas : Counts → List ℕ → List ℕ → Sas
 sas c facts costs = sasOf (tables c facts costs [])
-
--- the first fault of what every entry is handed: the tables, then the state
-unfoldable pub inputFault : Tables → List ℕ → Found
-inputFault t s = tablesFault t then stateFault (t .counts) (t .facts) s
 
 -- what a step answers: 10 before 12, else it is taken at its cost
 unfoldable pub stepOf : Sas → State → ℕ → Stepped

@@ -3,20 +3,21 @@ ghost use mathlib.Core.Path.{_≡_};
 ghost use Prim.Native.Nat.{_≤_};
 ghost use lib.ListN.{length};
 ghost use Rattle.tables.specs.Task.{stateOf, tables};
-ghost use Rattle.sequences.specs.Stepping.{Usable, sas, steps};
+ghost use Rattle.sequences.specs.Stepping.{Usable, sas};
+ghost use Rattle.meaning.specs.Limits.{mostSteps};
 ghost use Rattle.sequences.specs.Choosing.{reachedFrom, reachedOf, choiceOf, chosenOf, namedOf};
 ghost use Rattle.sequences.specs.Opening.{Opening};
-use crate::STEPS;
-use crate::input::input_fault;
 use crate::stepping::Stepped;
 use crate::stepping::copy;
 use crate::stepping::step;
 use meaning::OpNo;
+use meaning::limits::STEPS_MOST;
 use refusals::Refusal;
 use scan::Found;
+use scan::input_fault;
 use tables::Counts;
-use tables::steps::meets_goal;
-use tables::steps::state_after;
+use tables::mostSteps::meets_goal;
+use tables::mostSteps::state_after;
 
 // A list judged up to the first moment a goal holds: after how many steps, and at what cost; or it is out.
 pub enum Reached {
@@ -42,7 +43,7 @@ pub enum Cheaper {
 
 // The steps in order from a state, up to the first moment a goal holds.
 pub fn reach(c: Counts, facts: &[u8], costs: &[u32], start: [u8; 8], ops: &[u32]) -> Reached
-    requires { ⌜ Usable (sas c (now facts) (now costs)) × (length (now ops) ≤ steps) ⌝ }
+    requires { ⌜ Usable (sas c (now facts) (now costs)) × (length (now ops) ≤ mostSteps) ⌝ }
     ensures { λ r. ⌜ r ≡ reachedFrom (sas c (now (facts .entry)) (now (costs .entry))) 0 0 (stateOf start) (now (ops .entry)) ⌝ }
 {
     let mut s = start;
@@ -72,7 +73,7 @@ pub fn reach_within(c: Counts, facts: &[u8], costs: &[u32], start: [u8; 8], ops:
     requires { ⌜ Usable (sas c (now facts) (now costs)) ⌝ }
     ensures { λ r. ⌜ r ≡ reachedOf (sas c (now (facts .entry)) (now (costs .entry))) (stateOf start) (now (ops .entry)) ⌝ }
 {
-    if ops.len() > STEPS {
+    if ops.len() > STEPS_MOST {
         return Reached::Out;
     }
     reach(c, facts, costs, start, ops)

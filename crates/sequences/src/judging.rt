@@ -3,17 +3,18 @@ ghost use mathlib.Core.Path.{_≡_};
 ghost use Prim.Native.Nat.{_≤_};
 ghost use lib.ListN.{length};
 ghost use Rattle.tables.specs.Task.{stateOf};
-ghost use Rattle.sequences.specs.Stepping.{Usable, sas, steps};
+ghost use Rattle.sequences.specs.Stepping.{Usable, sas};
+ghost use Rattle.meaning.specs.Limits.{mostSteps};
 ghost use Rattle.sequences.specs.Judging.{onto, walked, limited};
-use crate::STEPS;
 use crate::stepping::Stepped;
 use crate::stepping::copy;
 use crate::stepping::step;
 use meaning::OpNo;
+use meaning::limits::STEPS_MOST;
 use refusals::Refusal;
 use tables::Counts;
-use tables::steps::meets_goal;
-use tables::steps::state_after;
+use tables::mostSteps::meets_goal;
+use tables::mostSteps::state_after;
 
 // A sequence passed, at its cost; or why it didn't.
 pub enum Judged {
@@ -34,7 +35,7 @@ pub fn refusal(m: Stepped, k: u32) -> Judged
 
 // The steps in order from a state; the goal last.
 pub fn walk(c: Counts, facts: &[u8], costs: &[u32], start: [u8; 8], ops: &[u32]) -> Judged
-    requires { ⌜ Usable (sas c (now facts) (now costs)) × (length (now ops) ≤ steps) ⌝ }
+    requires { ⌜ Usable (sas c (now facts) (now costs)) × (length (now ops) ≤ mostSteps) ⌝ }
     ensures { λ r. ⌜ r ≡ walked (sas c (now (facts .entry)) (now (costs .entry))) 0 0 (stateOf start) (now (ops .entry)) ⌝ }
 {
     let mut s = start;
@@ -61,7 +62,7 @@ pub fn judge_list(c: Counts, facts: &[u8], costs: &[u32], s: &[u8], ops: &[u32])
     requires { ⌜ Usable (sas c (now facts) (now costs)) ⌝ }
     ensures { λ r. ⌜ r ≡ limited (sas c (now (facts .entry)) (now (costs .entry))) (stateOf (now (s .entry))) (now (ops .entry)) ⌝ }
 {
-    if ops.len() > STEPS {
+    if ops.len() > STEPS_MOST {
         return Judged::Refused(Refusal::SequenceTooLong);
     }
     walk(c, facts, costs, copy(c.vars, s), ops)

@@ -9,19 +9,15 @@ use crate::choosing::Choice;
 use crate::choosing::choice_of;
 use crate::choosing::front;
 use crate::choosing::named;
-use crate::input::input_fault;
 use crate::judging::Judged;
 use crate::judging::judge_list;
 use scan::Found;
+use scan::input_fault;
 use tables::Counts;
 
 pub mod choosing;
-pub mod input;
 pub mod judging;
 pub mod stepping;
-
-// The most steps of a sequence or a run.
-pub const STEPS: usize = 256;
 
 // JUDGING a lent list of operators from a lent state: passed with its cost, or the first refusal in the paper's order.
 pub fn judge(

@@ -1,4 +1,5 @@
 pub mod Layout
+pub mod Lines
 pub mod Task
 pub mod Steps
 pub mod Classes

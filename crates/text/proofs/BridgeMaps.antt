@@ -10,7 +10,8 @@ use Rattle.refusals.specs.declared.Refusal.the-variants.{ClassMissing, TooManyS
 use Rattle.tables.specs.declared.Counts.{Counts}
 use Rattle.tables.specs.Layout.{Tables, classPlace, domAt}
 use Rattle.text.specs.declared.Ctrl.{Ctrl}
-use Rattle.grammar.specs.Fields.{pick, comma, slash, lineEnd, mostStates}
+use Rattle.grammar.specs.Fields.{pick, comma, slash, lineEnd}
+use Rattle.meaning.specs.Limits.{mostStates}
 use Rattle.grammar.specs.Grammar.{refused, Next, Part, _▸_, keep, demand, lit, within, parted, has, topOf, classCount, noneMissing, classes, variables}
 use Rattle.text.specs.Machine.{
   up,

@@ -30,25 +30,8 @@ use Rattle.tables.specs.Layout.{
 }
 use Rattle.text.specs.declared.Ctrl.{Ctrl}
 use Rattle.grammar.specs.declared.Reading.the-variants.{Accepted, Refused}
-use Rattle.grammar.specs.Fields.{
-  pick,
-  isDigit,
-  bytes,
-  lineEnd,
-  comma,
-  dash,
-  slash,
-  colon,
-  semicolon,
-  mostOps,
-  mostMaps,
-  mostStates,
-  overLine,
-  Outcome,
-  leaves,
-  filled,
-  admitted,
-}
+use Rattle.grammar.specs.Fields.{pick, isDigit, bytes, lineEnd, comma, dash, slash, colon, semicolon, overLine, Outcome, leaves, filled, admitted}
+use Rattle.meaning.specs.Limits.{mostOps, mostMaps, mostStates}
 
 -- the control beside the work area
 pub record St : Type 0 where

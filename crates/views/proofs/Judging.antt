@@ -18,7 +18,7 @@ use Rattle.scan.specs.declared.Found.{Found}
 use Rattle.scan.specs.declared.Found.the-variants.{Clean, Fault}
 use Rattle.tables.specs.Layout.{Tables, shareAt}
 use Rattle.tables.specs.Task.{sasOf, taskOf, tables, stateOf}
-use Rattle.scan.specs.Scan.{unless, _then_, tablesFault, stateFault}
+use Rattle.scan.specs.Scan.{unless, tablesFault, stateFault, inputFault}
 use Rattle.scan.proofs.Walks.{clean-first, clean-next, kept, broken, rule-held}
 use Rattle.scan.proofs.Validity.{clean-valid, state-clean}
 use Rattle.views.specs.declared.DistancesAnswer.the-variants as distances
@@ -29,32 +29,12 @@ use Rattle.views.specs.declared.BoundAnswer.the-variants as bounds
 use Rattle.sweep.specs.Said.{said}
 use Rattle.sweep.specs.Sweeps.{Counted}
 use Rattle.sweep.specs.Classes.{viewGraphOf}
-use Rattle.views.specs.Entries.{
-  noSuchMap,
-  askedFault,
-  distancesFault,
-  distanceFault,
-  boundFault,
-  Judged,
-  DistancesGiven,
-  distanceSaid,
-  boundSaid,
-  DistanceGiven,
-  BoundGiven,
-}
+use Rattle.views.specs.Entries.{noSuchMap, askedFault, distancesFault, distanceFault, Judged, DistancesGiven, distanceSaid, boundSaid, DistanceGiven, BoundGiven}
 use Rattle.sweep.proofs.Alike.{counted-alike}
 use Rattle.sweep.proofs.Viewing.{priced-alike}
 use Rattle.views.proofs.Answers.{counted-distances, away-is, bound-is}
 
 -- ---- one fault after the other
-
--- a fault is handed on
-pub hands-on : (a b found : Found) (f : Refusal) → found ≡ a → found ≡ Fault f → found ≡ a then b
-hands-on a b found f p q = q ∙ (rw (sym p ∙ q) refl)
-
--- and where there is none, the next decides
-pub goes-on : (a b found : Found) → found ≡ a → found ≡ Clean → b ≡ a then b
-goes-on a b found p q = rw (sym p ∙ q) refl
 
 pub judged-fault : (g : Found) (refused : Refusal → Type 0) (accepted : Type 0) (f : Refusal) → g ≡ Fault f → refused f → Judged g refused accepted
 judged-fault g refused accepted f e h = subst (λ (x : Found). Judged x refused accepted) (sym e) h
@@ -108,15 +88,15 @@ module _ (t : Tables) (m : ℕ) where
   given-distance-refused s f e = judged-fault (distanceFault t m s) _ _ f e refl
 
 module _ (t : Tables) (s : List ℕ) where
-  pub bound-clean : boundFault t s ≡ Clean → Valid (taskOf t) × IsState (sasOf t) (stateOf s)
-  unfolding boundFault
+  pub bound-clean : inputFault t s ≡ Clean → Valid (taskOf t) × IsState (sasOf t) (stateOf s)
+  unfolding inputFault
   bound-clean e = (
     clean-valid t (clean-first (tablesFault t) (stateFault (t .counts) (t .facts) s) e),
     state-clean t s .0 (clean-next (tablesFault t) (stateFault (t .counts) (t .facts) s) e) .1,
   )
 
-  pub given-bound-refused : (f : Refusal) → boundFault t s ≡ Fault f → BoundGiven t s (bounds.Refused f)
-  given-bound-refused f e = judged-fault (boundFault t s) _ _ f e refl
+  pub given-bound-refused : (f : Refusal) → inputFault t s ≡ Fault f → BoundGiven t s (bounds.Refused f)
+  given-bound-refused f e = judged-fault (inputFault t s) _ _ f e refl
 
 -- ---- accepted
 
@@ -140,9 +120,9 @@ module _ (c : Counts) (facts costs shares : List ℕ) where
       judged-clean (distanceFault lent m s) _ _ e
       (away (taskOf lent) (stateOf s) m, a ∙ ap distanceSaid h, away-is (taskOf lent) (q .0) m (q .1) (stateOf s) (q .2))
 
-  pub given-bound : (s : List ℕ) (v : Cost) (answer : BoundAnswer) → boundFault lent s ≡ Clean
+  pub given-bound : (s : List ℕ) (v : Cost) (answer : BoundAnswer) → inputFault lent s ≡ Clean
       → v ≡ bound (taskOf (tables c facts [] shares)) (stateOf s) → answer ≡ boundSaid v → BoundGiven lent s answer
   given-bound s v answer e h a =
       let q = bound-clean lent s e in
-      judged-clean (boundFault lent s) _ _ e
+      judged-clean (inputFault lent s) _ _ e
       (bound (taskOf lent) (stateOf s), a ∙ ap boundSaid h, bound-is (taskOf lent) (q .0) (stateOf s) (q .1))

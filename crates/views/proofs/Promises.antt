@@ -21,20 +21,8 @@ use Rattle.views.specs.declared.DistanceAnswer.{DistanceAnswer}
 use Rattle.views.specs.declared.BoundAnswer.{BoundAnswer}
 use Rattle.views.specs.declared.BoundAnswer.the-variants as bounds
 use Rattle.sweep.specs.Said.{read}
-use Rattle.views.specs.Entries.{
-  distancesFault,
-  distanceFault,
-  boundFault,
-  Judged,
-  DistancesOf,
-  IsAway,
-  IsBound,
-  DistancesGiven,
-  distanceSaid,
-  boundSaid,
-  DistanceGiven,
-  BoundGiven,
-}
+use Rattle.views.specs.Entries.{distancesFault, distanceFault, Judged, DistancesOf, IsAway, IsBound, DistancesGiven, distanceSaid, boundSaid, DistanceGiven, BoundGiven}
+use Rattle.scan.specs.Scan.{inputFault}
 use Rattle.views.proofs.Answers.{image-inside, distances-only, distances-rounds-most, away-only, bound-is, bound-only}
 use Rattle.views.proofs.Judging.{judged-clean, distances-clean, distance-clean, bound-clean}
 
@@ -75,7 +63,7 @@ distance-at-unique t m s x y =
 
 pub bound-unique : (t : Tables) (s : List ℕ) (x y : BoundAnswer) → BoundGiven t s x → BoundGiven t s y → x ≡ y
 bound-unique t s x y =
-    judged-only x y (boundFault t s) _ _ ((v : Cost) × (x ≡ boundSaid v) × IsBound (taskOf t) (stateOf s) v)
+    judged-only x y (inputFault t s) _ _ ((v : Cost) × (x ≡ boundSaid v) × IsBound (taskOf t) (stateOf s) v)
     ((v : Cost) × (y ≡ boundSaid v) × IsBound (taskOf t) (stateOf s) v) (λ f p q. p ∙ sym q)
     (λ e p q.
     let c = bound-clean t s e in
@@ -130,9 +118,9 @@ module _ (t : Tables) (s : List ℕ) where
 
   -- a sum that is answered is the bound of the task at the state, and at most the cost of every sequence to the goal
   said-below : (v : Cost) → BoundGiven t s (boundSaid v) → (os : List ℕ) → Passes (sasOf t) os (stateOf s) → v ⊑ paid (sasOf t .cost) os
-  said-below v = pick (boundFault t s) refl
+  said-below v = pick (inputFault t s) refl
     where
-      pick : (g : Found) → boundFault t s ≡ g
+      pick : (g : Found) → inputFault t s ≡ g
           → Judged g (λ f. boundSaid v ≡ bounds.Refused f) ((w : Cost) × (boundSaid v ≡ boundSaid w) × IsBound (taskOf t) (stateOf s) w)
           → (os : List ℕ) → Passes (sasOf t) os (stateOf s) → v ⊑ paid (sasOf t .cost) os
       pick Clean e p os h =

@@ -16,7 +16,7 @@ use Rattle.scan.specs.declared.Found.{Found}
 use Rattle.scan.specs.declared.Found.the-variants.{Clean, Fault}
 use Rattle.tables.specs.Layout.{Tables}
 use Rattle.tables.specs.Task.{taskOf, stateOf}
-use Rattle.scan.specs.Scan.{unless, _then_, tablesFault, stateFault}
+use Rattle.scan.specs.Scan.{unless, _then_, tablesFault, stateFault, inputFault}
 use Rattle.views.specs.declared.DistancesAnswer.{DistancesAnswer}
 use Rattle.views.specs.declared.DistancesAnswer.the-variants as distances
 use Rattle.views.specs.declared.DistanceAnswer.{DistanceAnswer}
@@ -56,9 +56,6 @@ distancesFault t m out = unless (leb 4096 (length out)) TableTooShort then asked
 unfoldable pub distanceFault : Tables → ℕ → List ℕ → Found
 distanceFault t m s = askedFault t m then stateFault (t .counts) (t .facts) s
 
-unfoldable pub boundFault : Tables → List ℕ → Found
-boundFault t s = tablesFault t then stateFault (t .counts) (t .facts) s
-
 -- THE PROMISES. The first fault is answered as refused says, and where there is none, accepted holds
 abbrev pub Judged : Found → (Refusal → Type 0) → Type 0 → Type 0
 Judged Clean refused accepted = accepted
@@ -86,4 +83,4 @@ DistanceGiven t m s answer =
 
 abbrev pub BoundGiven : Tables → List ℕ → BoundAnswer → Type 0
 BoundGiven t s answer =
-    Judged (boundFault t s) (λ f. answer ≡ bound.Refused f) ((v : Cost) × (answer ≡ boundSaid v) × IsBound (taskOf t) (stateOf s) v)
+    Judged (inputFault t s) (λ f. answer ≡ bound.Refused f) ((v : Cost) × (answer ≡ boundSaid v) × IsBound (taskOf t) (stateOf s) v)

@@ -5,11 +5,12 @@ ghost use mathlib.Core.Path.{_≡_};
 ghost use Rattle.tables.specs.Task.{tables};
 ghost use Rattle.sweep.specs.Said.{said};
 ghost use Rattle.views.specs.Sums.{sumSaid};
-ghost use Rattle.views.specs.Entries.{askedFault, distanceFault, boundFault, distanceSaid, boundSaid, DistancesGiven, DistanceGiven, BoundGiven};
+ghost use Rattle.views.specs.Entries.{askedFault, distanceFault, distanceSaid, boundSaid, DistancesGiven, DistanceGiven, BoundGiven};
 use crate::sums::Sum;
 use crate::sums::sum_of;
 use refusals::Refusal;
 use scan::Found;
+use scan::input_fault;
 use scan::state_fault;
 use scan::tables_fault;
 use sweep::maps::STATES;
@@ -66,17 +67,6 @@ fn distance_fault(
     ensures { λ r. ⌜ r ≡ distanceFault (tables c (now (facts .entry)) (now (costs .entry)) (now (shares .entry))) map (now (s .entry)) ⌝ }
 {
     let found = asked_fault(c, facts, costs, shares, map);
-    let Found::Clean = found else {
-        return found;
-    };
-    state_fault(c, facts, s)
-}
-
-// The first fault where a state's bound is asked for.
-fn bound_fault(c: Counts, facts: &[u8], costs: &[u32], shares: &[u32], s: &[u8]) -> Found
-    ensures { λ r. ⌜ r ≡ boundFault (tables c (now (facts .entry)) (now (costs .entry)) (now (shares .entry))) (now (s .entry)) ⌝ }
-{
-    let found = tables_fault(c, facts, costs, shares);
     let Found::Clean = found else {
         return found;
     };
@@ -151,7 +141,7 @@ pub fn distance_at(
 pub fn bound(c: Counts, facts: &[u8], costs: &[u32], shares: &[u32], s: &[u8]) -> BoundAnswer
     ensures { λ r. ⌜ BoundGiven (tables c (now (facts .entry)) (now (costs .entry)) (now (shares .entry))) (now (s .entry)) r ⌝ }
 {
-    let found = bound_fault(c, facts, costs, shares, s);
+    let found = input_fault(c, facts, costs, shares, s);
     match found {
         Found::Fault(f) => BoundAnswer::Refused(f),
         Found::Clean => as_bound(sum_of(c, facts, shares, s)),

@@ -6,33 +6,12 @@ use mathlib.Core.Path.{_∙_, sym}
 use Rattle.desk_c.proofs.desk_begin.Statement.{statement}
 use Rattle.desk_c.proofs.desk_begin.Tie as tie
 
-run-short-requires : tie.Need-run-short-requires
-run-short-requires c κs = search needs
-
-refused-word-requires : tie.Need-refused-word-requires
-refused-word-requires c κs = search needs
-
-same-length : tie.Need-same-length
-same-length c = search needs
-
-same-length-2 : tie.Need-same-length-2
-same-length-2 c = search needs
-
 returns : tie.Need-returns
 unfolding beginHanded
 returns c = left-short _ _ _ _ (sym (c .before .before .run-short .ensures) ∙ c .before .if1 .taken) (c .refused-word .ensures)
 
-begin-requires : tie.Need-begin-requires
-begin-requires c κs = search needs
-
 hand-back-requires : tie.Need-hand-back-requires
 hand-back-requires c κs = long-enough _ _ (sym (c .before .before .before .before .run-short .ensures) ∙ c .before .before .before .if1 .left)
-
-same-length-3 : tie.Need-same-length-3
-same-length-3 c = search needs
-
-same-length-4 : tie.Need-same-length-4
-same-length-4 c = search needs
 
 returns-2 : tie.Need-returns-2
 unfolding beginHanded
@@ -46,13 +25,13 @@ pub desk-begin-spec : {M : Type 1} → statement M
 desk-begin-spec =
     tie.close
     (tie.spec
-    run-short-requires
-    refused-word-requires
-    same-length
-    same-length-2
+    (λ c κs. search needs)
+    (λ c κs. search needs)
+    (λ c. search needs)
+    (λ c. search needs)
     returns
-    begin-requires
+    (λ c κs. search needs)
     hand-back-requires
-    same-length-3
-    same-length-4
+    (λ c. search needs)
+    (λ c. search needs)
     returns-2)

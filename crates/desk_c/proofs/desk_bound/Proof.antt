@@ -5,17 +5,14 @@ use Rattle.desk_c.proofs.Fits.{sum-fits}
 use Rattle.desk_c.proofs.desk_bound.Statement.{statement}
 use Rattle.desk_c.proofs.desk_bound.Tie as tie
 
-bound-requires : tie.Need-bound-requires
-bound-requires c κs = search needs
-
 bound-word-requires : tie.Need-bound-word-requires
 bound-word-requires c κs =
     let a = c .before .before .before .before .before .args in
     let t = lentTask (a .vars) (a .ops) (a .maps) (a .facts .now) (a .costs .now) (a .shares .now) in
     sum-fits t (a .state .now) (c .bound .result) (c .bound .ensures)
 
-returns : tie.Need-returns
-returns c = search needs
-
 pub desk-bound-spec : {M : Type 1} → statement M
-desk-bound-spec = tie.close (tie.spec bound-requires bound-word-requires returns)
+desk-bound-spec = tie.close (tie.spec
+    (λ c κs. search needs)
+    bound-word-requires
+    (λ c. search needs))

@@ -5,14 +5,11 @@ use Rattle.desk_c.specs.Words.{foundWord}
 use Rattle.desk_c.proofs.desk_check.Statement.{statement}
 use Rattle.desk_c.proofs.desk_check.Tie as tie
 
-check-requires : tie.Need-check-requires
-check-requires c κs = search needs
-
-found-word-requires : tie.Need-found-word-requires
-found-word-requires c κs = search needs
-
 returns : tie.Need-returns
 returns c = c .found-word .ensures ∙ ap foundWord (c .before .check .ensures)
 
 pub desk-check-spec : {M : Type 1} → statement M
-desk-check-spec = tie.close (tie.spec check-requires found-word-requires returns)
+desk-check-spec = tie.close (tie.spec
+    (λ c κs. search needs)
+    (λ c κs. search needs)
+    returns)

@@ -5,14 +5,11 @@ use Rattle.desk_c.specs.Words.{judgedWord}
 use Rattle.desk_c.proofs.desk_judge.Statement.{statement}
 use Rattle.desk_c.proofs.desk_judge.Tie as tie
 
-judge-requires : tie.Need-judge-requires
-judge-requires c κs = search needs
-
-judged-word-requires : tie.Need-judged-word-requires
-judged-word-requires c κs = search needs
-
 returns : tie.Need-returns
 returns c = c .judged-word .ensures ∙ ap judgedWord (c .before .judge .ensures)
 
 pub desk-judge-spec : {M : Type 1} → statement M
-desk-judge-spec = tie.close (tie.spec judge-requires judged-word-requires returns)
+desk-judge-spec = tie.close (tie.spec
+    (λ c κs. search needs)
+    (λ c κs. search needs)
+    returns)

@@ -6,18 +6,6 @@ use mathlib.Core.Path.{_∙_, sym}
 use Rattle.desk_c.proofs.desk_offer.Statement.{statement}
 use Rattle.desk_c.proofs.desk_offer.Tie as tie
 
-run-short-requires : tie.Need-run-short-requires
-run-short-requires c κs = search needs
-
-refused-word-requires : tie.Need-refused-word-requires
-refused-word-requires c κs = search needs
-
-same-length : tie.Need-same-length
-same-length c = search needs
-
-same-length-2 : tie.Need-same-length-2
-same-length-2 c = search needs
-
 returns : tie.Need-returns
 unfolding offerHanded
 returns c = left-short _ _ _ _ (sym (c .before .before .run-short .ensures) ∙ c .before .if1 .taken) (c .refused-word .ensures)
@@ -25,19 +13,10 @@ returns c = left-short _ _ _ _ (sym (c .before .before .run-short .ensures) ∙ 
 run-in-requires : tie.Need-run-in-requires
 run-in-requires c κs = long-enough _ _ (sym (c .before .before .before .run-short .ensures) ∙ c .before .before .if1 .left)
 
-offer-requires : tie.Need-offer-requires
-offer-requires c κs = search needs
-
 hand-back-requires : tie.Need-hand-back-requires
 hand-back-requires c κs =
     let long = c .before .before .before .before .before .before in
     long-enough _ _ (sym (long .before .run-short .ensures) ∙ long .if1 .left)
-
-same-length-3 : tie.Need-same-length-3
-same-length-3 c = search needs
-
-same-length-4 : tie.Need-same-length-4
-same-length-4 c = search needs
 
 returns-2 : tie.Need-returns-2
 unfolding offerHanded
@@ -54,14 +33,14 @@ pub desk-offer-spec : {M : Type 1} → statement M
 desk-offer-spec =
     tie.close
     (tie.spec
-    run-short-requires
-    refused-word-requires
-    same-length
-    same-length-2
+    (λ c κs. search needs)
+    (λ c κs. search needs)
+    (λ c. search needs)
+    (λ c. search needs)
     returns
     run-in-requires
-    offer-requires
+    (λ c κs. search needs)
     hand-back-requires
-    same-length-3
-    same-length-4
+    (λ c. search needs)
+    (λ c. search needs)
     returns-2)

@@ -6,9 +6,6 @@ use Rattle.desk_c.proofs.Fits.{chosen-steps-most}
 use Rattle.desk_c.proofs.desk_opening.Statement.{statement}
 use Rattle.desk_c.proofs.desk_opening.Tie as tie
 
-choice-of-requires : tie.Need-choice-of-requires
-choice-of-requires c κs = search needs
-
 opening-word-requires : tie.Need-opening-word-requires
 opening-word-requires c κs = rw (c .choice-of .ensures) (chosen-steps-most _ _ _ _)
 
@@ -16,4 +13,7 @@ returns : tie.Need-returns
 returns c = c .opening-word .ensures ∙ ap openingWord (c .before .choice-of .ensures)
 
 pub desk-opening-spec : {M : Type 1} → statement M
-desk-opening-spec = tie.close (tie.spec choice-of-requires opening-word-requires returns)
+desk-opening-spec = tie.close (tie.spec
+    (λ c κs. search needs)
+    opening-word-requires
+    returns)

@@ -5,12 +5,6 @@ use borrow.Author.Needs.{needs}
 use Rattle.scan.proofs.fact_fits.Statement.{statement}
 use Rattle.scan.proofs.fact_fits.Tie as tie
 
-row-at-requires : tie.Need-row-at-requires
-row-at-requires c κs = search needs
-
-row-at-requires-2 : tie.Need-row-at-requires-2
-row-at-requires-2 c κs = search needs
-
 returns : tie.Need-returns
 returns c =
     let row-at = c .before .row-at in
@@ -18,4 +12,7 @@ returns c =
     ap₂ leb (row-at .ensures) (row-at2 .ensures)
 
 pub fact-fits-spec : {M : Type 1} → statement M
-fact-fits-spec = tie.close (tie.spec row-at-requires row-at-requires-2 returns)
+fact-fits-spec = tie.close (tie.spec
+    (λ c κs. search needs)
+    (λ c κs. search needs)
+    returns)

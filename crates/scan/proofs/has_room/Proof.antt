@@ -26,4 +26,7 @@ returns-3 c =
     sym (rw (le-leb 1624 (length (args .facts .now)) (if1 .left), le-leb 64 (length (args .costs .now)) (if2 .left)))
 
 pub has-room-spec : {M : Type 1} → statement M
-has-room-spec = tie.close (tie.spec returns returns-2 returns-3)
+has-room-spec = tie.close (tie.spec
+    returns
+    returns-2
+    returns-3)

@@ -7,9 +7,6 @@ use Rattle.scan.specs.Parts.{headFault}
 use Rattle.scan.proofs.head_fault.Statement.{statement}
 use Rattle.scan.proofs.head_fault.Tie as tie
 
-lies-within-requires : tie.Need-lies-within-requires
-lies-within-requires c κs = search needs
-
 returns : tie.Need-returns
 unfolding headFault factsFault
 returns c =
@@ -17,14 +14,8 @@ returns c =
     let if1 = c .if1 in
     sym (rw (sym (lies-within .ensures) ∙ not-true (lies-within .result) (if1 .taken)))
 
-variables-fault-requires : tie.Need-variables-fault-requires
-variables-fault-requires c κs = search needs
-
 enum-told : tie.Need-enum-told
 enum-told c = search needs
-
-enum-told-2 : tie.Need-enum-told-2
-enum-told-2 c = search needs
 
 returns-2 : tie.Need-returns-2
 unfolding headFault factsFault
@@ -35,15 +26,6 @@ returns-2 c =
     let enum-told2 = c .enum-told2 in
     let few = sym (lies-within .ensures) ∙ not-false (lies-within .result) (if1 .left) in
     sym (rw (few, sym (variables-fault .ensures) ∙ enum-told2 .given .1) (sym (enum-told2 .given .1)))
-
-variables-fault-requires-2 : tie.Need-variables-fault-requires-2
-variables-fault-requires-2 c κs = search needs
-
-enum-told-3 : tie.Need-enum-told-3
-enum-told-3 c = search needs
-
-enum-told-4 : tie.Need-enum-told-4
-enum-told-4 c = search needs
 
 returns-3 : tie.Need-returns-3
 unfolding headFault factsFault
@@ -57,15 +39,6 @@ returns-3 c =
     let few = sym (lies-within .ensures) ∙ not-false (lies-within .result) (if1 .left) in
     let doms = sym (variables-fault .ensures) ∙ enum-told .given .1 in
     sym (rw (few, doms, sym (variables-fault2 .ensures) ∙ enum-told4 .given .1) (sym (enum-told4 .given .1)))
-
-variables-fault-requires-3 : tie.Need-variables-fault-requires-3
-variables-fault-requires-3 c κs = search needs
-
-enum-told-5 : tie.Need-enum-told-5
-enum-told-5 c = search needs
-
-enum-told-6 : tie.Need-enum-told-6
-enum-told-6 c = search needs
 
 returns-4 : tie.Need-returns-4
 unfolding headFault factsFault
@@ -125,19 +98,19 @@ pub head-fault-spec : {M : Type 1} → statement M
 head-fault-spec =
     tie.close
     (tie.spec
-    lies-within-requires
+    (λ c κs. search needs)
     returns
-    variables-fault-requires
+    (λ c κs. search needs)
     enum-told
-    enum-told-2
+    (λ c. search needs)
     returns-2
-    variables-fault-requires-2
-    enum-told-3
-    enum-told-4
+    (λ c κs. search needs)
+    (λ c. search needs)
+    (λ c. search needs)
     returns-3
-    variables-fault-requires-3
-    enum-told-5
-    enum-told-6
+    (λ c κs. search needs)
+    (λ c. search needs)
+    (λ c. search needs)
     returns-4
     returns-5
     returns-6)

@@ -17,4 +17,6 @@ returns-2 c =
     sym (rw (lt-leb (args .lo) (args .x) (if1 .left)))
 
 pub lies-within-spec : {M : Type 1} → statement M
-lies-within-spec = tie.close (tie.spec returns returns-2)
+lies-within-spec = tie.close (tie.spec
+    returns
+    returns-2)

@@ -20,6 +20,7 @@ use Rattle.scan.proofs.Rules.{head-clean, within-says}
 use Rattle.scan.proofs.Lines.{cost-decides, pre-decides, eff-decides, operators-decide, count-decides, maps-decide}
 use Rattle.scan.proofs.lines_fault.Statement.{statement}
 use Rattle.scan.proofs.lines_fault.Tie as tie
+use Rattle.tables.specs.Lines.{lineOfOp}
 
 abbrev spelled : Counts → List ℕ → List ℕ → Task
 spelled c facts costs = taskOf (tables c facts costs [])
@@ -28,7 +29,7 @@ abbrev fits : List ℕ → ℕ → ℕ → Bool
 fits facts row v = leb (rowAt facts row v) (domAt facts v)
 
 abbrev said : ℕ → ℕ → Refusal
-said o v = OutOfRange (7 + o)
+said o v = OutOfRange (lineOfOp o)
 
 abbrev Pre : tie.InvT-loop2
 Pre c facts costs vars ops maps o p₀ p = (p ≤ vars) × (each (tests (fits facts (preRow o)) (said o)) p 0 ≡ Clean)
@@ -60,16 +61,10 @@ Scan c facts costs vars ops maps = Unit
 abbrev μ-scan : tie.MeasureT-scan
 μ-scan c facts costs vars ops maps = 0
 
-scan-holds : tie.Need-scan-holds Pre μ-pre Eff μ-eff Ops μ-ops Maps μ-maps Scan μ-scan
-scan-holds c = search needs
-
 loop-holds : tie.Need-loop-holds Pre μ-pre Eff μ-eff Ops μ-ops Maps μ-maps Scan μ-scan
 loop-holds c =
     let args = c .before .before .before .args in
     (omega arith, walk-none (operatorFault (spelled (args .c) (args .facts .now) (args .costs .now))))
-
-cost-at-requires : tie.Need-cost-at-requires Pre μ-pre Eff μ-eff Ops μ-ops Maps μ-maps Scan μ-scan
-cost-at-requires c κs = search needs
 
 add-t17 : tie.Need-add-t17 Pre μ-pre Eff μ-eff Ops μ-ops Maps μ-maps Scan μ-scan
 add-t17 c =
@@ -89,20 +84,11 @@ pre-row-requires c κs =
     let pre = c .before .before .before .before .before .before .before .before .before .pre in
     omega (arith, head-clean (spelled (args .c) (args .facts .now) []) pre .ops)
 
-fact-fits-requires : tie.Need-fact-fits-requires Pre μ-pre Eff μ-eff Ops μ-ops Maps μ-maps Scan μ-scan
-fact-fits-requires c κs = search needs
-
 add-t23 : tie.Need-add-t23 Pre μ-pre Eff μ-eff Ops μ-ops Maps μ-maps Scan μ-scan
 add-t23 c =
     let args = c .before .before .before .before .before .before .before .before .before .before .before .before .args in
     let pre = c .before .before .before .before .before .before .before .before .before .before .before .before .pre in
     omega (arith, head-clean (spelled (args .c) (args .facts .now) []) pre .ops)
-
-add-p : tie.Need-add-p Pre μ-pre Eff μ-eff Ops μ-ops Maps μ-maps Scan μ-scan
-add-p c = search needs
-
-loop2-less : tie.Need-loop2-less Pre μ-pre Eff μ-eff Ops μ-ops Maps μ-maps Scan μ-scan
-loop2-less c = search needs
 
 loop2-again : tie.Need-loop2-again Pre μ-pre Eff μ-eff Ops μ-ops Maps μ-maps Scan μ-scan
 loop2-again c =
@@ -127,20 +113,11 @@ eff-row-requires c κs =
     let pre = c .before .before .before .before .before .before .before .before .before .before .before .pre in
     omega (arith, head-clean (spelled (args .c) (args .facts .now) []) pre .ops)
 
-fact-fits-requires-2 : tie.Need-fact-fits-requires-2 Pre μ-pre Eff μ-eff Ops μ-ops Maps μ-maps Scan μ-scan
-fact-fits-requires-2 c κs = search needs
-
 add-t29 : tie.Need-add-t29 Pre μ-pre Eff μ-eff Ops μ-ops Maps μ-maps Scan μ-scan
 add-t29 c =
     let args = c .before .before .before .before .before .before .before .before .before .before .before .before .before .before .args in
     let pre = c .before .before .before .before .before .before .before .before .before .before .before .before .before .before .pre in
     omega (arith, head-clean (spelled (args .c) (args .facts .now) []) pre .ops)
-
-add-e : tie.Need-add-e Pre μ-pre Eff μ-eff Ops μ-ops Maps μ-maps Scan μ-scan
-add-e c = search needs
-
-loop3-less : tie.Need-loop3-less Pre μ-pre Eff μ-eff Ops μ-ops Maps μ-maps Scan μ-scan
-loop3-less c = search needs
 
 loop3-again : tie.Need-loop3-again Pre μ-pre Eff μ-eff Ops μ-ops Maps μ-maps Scan μ-scan
 loop3-again c =
@@ -152,12 +129,6 @@ loop3-again c =
     let if3 = c .if3 in
     let held : fits (args .facts .now) (effRow (run .o)) (loop3 .e) ≡ true = cc (eff-row .ensures, fact-fits2 .ensures, not-false (fact-fits2 .result) (if3 .left)) in
     (omega arith, tests-more (fits (args .facts .now) (effRow (run .o))) (said (run .o)) (loop3 .e) (loop3 .inv .1) held)
-
-add-o : tie.Need-add-o Pre μ-pre Eff μ-eff Ops μ-ops Maps μ-maps Scan μ-scan
-add-o c = search needs
-
-loop-less : tie.Need-loop-less Pre μ-pre Eff μ-eff Ops μ-ops Maps μ-maps Scan μ-scan
-loop-less c = search needs
 
 loop-again : tie.Need-loop-again Pre μ-pre Eff μ-eff Ops μ-ops Maps μ-maps Scan μ-scan
 unfolding factsFault
@@ -173,9 +144,6 @@ loop-again c =
     let pres = walk-end (tests (fits (args .facts .now) (preRow (run .o))) (said (run .o))) (args .c .vars) (loop2 .p) (loop2 .inv .1) (omega arith) (omega arith) in
     let effs = walk-end (tests (fits (args .facts .now) (effRow (run .o))) (said (run .o))) (args .c .vars) (loop3 .e) (loop3 .inv .1) (omega arith) (omega arith) in
     (omega arith, walk-more (operatorFault T) (run .o) (run .inv .1) (eff-decides T (run .o) Clean low pres effs))
-
-lies-within-requires : tie.Need-lies-within-requires Pre μ-pre Eff μ-eff Ops μ-ops Maps μ-maps Scan μ-scan
-lies-within-requires c κs = search needs
 
 add-t33 : tie.Need-add-t33 Pre μ-pre Eff μ-eff Ops μ-ops Maps μ-maps Scan μ-scan
 add-t33 c =
@@ -200,15 +168,6 @@ map-fault-requires c κs =
 enum-told : tie.Need-enum-told Pre μ-pre Eff μ-eff Ops μ-ops Maps μ-maps Scan μ-scan
 enum-told c = search needs
 
-enum-told-2 : tie.Need-enum-told-2 Pre μ-pre Eff μ-eff Ops μ-ops Maps μ-maps Scan μ-scan
-enum-told-2 c = search needs
-
-add-m : tie.Need-add-m Pre μ-pre Eff μ-eff Ops μ-ops Maps μ-maps Scan μ-scan
-add-m c = search needs
-
-loop4-less : tie.Need-loop4-less Pre μ-pre Eff μ-eff Ops μ-ops Maps μ-maps Scan μ-scan
-loop4-less c = search needs
-
 loop4-again : tie.Need-loop4-again Pre μ-pre Eff μ-eff Ops μ-ops Maps μ-maps Scan μ-scan
 unfolding mapFault classesFault
 loop4-again c =
@@ -228,7 +187,7 @@ returns c =
     let loop-test = c .before .before .loop-test in
     let T : Task = spelled (args .c) (args .facts .now) (args .costs .now) in
     let here = cost-decides T (run .o) (omega (arith, cost-at .ensures, if1 .taken)) in
-    sym (operators-decide T (OutOfRange (7 + run .o)) (walk-here (operatorFault T) (args .c .ops) (run .o) (OutOfRange (7 + run .o)) (run .inv .1) (loop-test .taken) here))
+    sym (operators-decide T (OutOfRange (lineOfOp (run .o))) (walk-here (operatorFault T) (args .c .ops) (run .o) (OutOfRange (lineOfOp (run .o))) (run .inv .1) (loop-test .taken) here))
 
 returns-2 : tie.Need-returns-2 Pre μ-pre Eff μ-eff Ops μ-ops Maps μ-maps Scan μ-scan
 unfolding factsFault
@@ -247,8 +206,8 @@ returns-2 c =
     let low : costAt (args .costs .now) (run .o) ≤ 1000000 = omega (arith, cost-at .ensures, if1 .left) in
     let out : fits (args .facts .now) (preRow (run .o)) (loop2 .p) ≡ false = cc (pre-row .ensures, fact-fits .ensures, not-true (fact-fits .result) (if2 .taken)) in
     let fact = tests-here (fits (args .facts .now) (preRow (run .o))) (said (run .o)) (args .c .vars) (loop2 .p) (loop2 .inv .1) (loop2-test .taken) out in
-    let here = pre-decides T (run .o) (OutOfRange (7 + run .o)) low fact in
-    sym (operators-decide T (OutOfRange (7 + run .o)) (walk-here (operatorFault T) (args .c .ops) (run .o) (OutOfRange (7 + run .o)) (run .inv .1) (loop-test .taken) here))
+    let here = pre-decides T (run .o) (OutOfRange (lineOfOp (run .o))) low fact in
+    sym (operators-decide T (OutOfRange (lineOfOp (run .o))) (walk-here (operatorFault T) (args .c .ops) (run .o) (OutOfRange (lineOfOp (run .o))) (run .inv .1) (loop-test .taken) here))
 
 returns-3 : tie.Need-returns-3 Pre μ-pre Eff μ-eff Ops μ-ops Maps μ-maps Scan μ-scan
 unfolding factsFault
@@ -269,8 +228,8 @@ returns-3 c =
     let pres = walk-end (tests (fits (args .facts .now) (preRow (run .o))) (said (run .o))) (args .c .vars) (loop2 .p) (loop2 .inv .1) (omega arith) (omega arith) in
     let out : fits (args .facts .now) (effRow (run .o)) (loop3 .e) ≡ false = cc (eff-row .ensures, fact-fits2 .ensures, not-true (fact-fits2 .result) (if3 .taken)) in
     let fact = tests-here (fits (args .facts .now) (effRow (run .o))) (said (run .o)) (args .c .vars) (loop3 .e) (loop3 .inv .1) (loop3-test .taken) out in
-    let here = eff-decides T (run .o) (Fault (OutOfRange (7 + run .o))) low pres fact in
-    sym (operators-decide T (OutOfRange (7 + run .o)) (walk-here (operatorFault T) (args .c .ops) (run .o) (OutOfRange (7 + run .o)) (run .inv .1) (loop-test .taken) here))
+    let here = eff-decides T (run .o) (Fault (OutOfRange (lineOfOp (run .o)))) low pres fact in
+    sym (operators-decide T (OutOfRange (lineOfOp (run .o))) (walk-here (operatorFault T) (args .c .ops) (run .o) (OutOfRange (lineOfOp (run .o))) (run .inv .1) (loop-test .taken) here))
 
 returns-4 : tie.Need-returns-4 Pre μ-pre Eff μ-eff Ops μ-ops Maps μ-maps Scan μ-scan
 returns-4 c =
@@ -325,35 +284,35 @@ lines-fault-spec =
     μ-maps
     Scan
     μ-scan
-    scan-holds
+    (λ c. search needs)
     loop-holds
-    cost-at-requires
+    (λ c κs. search needs)
     add-t17
     loop2-holds
     pre-row-requires
-    fact-fits-requires
+    (λ c κs. search needs)
     add-t23
-    add-p
-    loop2-less
+    (λ c. search needs)
+    (λ c. search needs)
     loop2-again
     loop3-holds
     eff-row-requires
-    fact-fits-requires-2
+    (λ c κs. search needs)
     add-t29
-    add-e
-    loop3-less
+    (λ c. search needs)
+    (λ c. search needs)
     loop3-again
-    add-o
-    loop-less
+    (λ c. search needs)
+    (λ c. search needs)
     loop-again
-    lies-within-requires
+    (λ c κs. search needs)
     add-t33
     loop4-holds
     map-fault-requires
     enum-told
-    enum-told-2
-    add-m
-    loop4-less
+    (λ c. search needs)
+    (λ c. search needs)
+    (λ c. search needs)
     loop4-again
     returns
     returns-2

@@ -20,6 +20,7 @@ use Rattle.scan.proofs.Rules.{head-clean}
 use Rattle.scan.proofs.RowFaults.{rowFault, found-fault, found-count, product-more, product-fits}
 use Rattle.scan.proofs.map_fault.Statement.{statement}
 use Rattle.scan.proofs.map_fault.Tie as tie
+use Rattle.tables.specs.Lines.{lineOfMap}
 
 abbrev headed : Counts → List ℕ → Task
 headed c facts = taskOf (tables c facts [] [])
@@ -51,10 +52,7 @@ add-line-2 c =
 loop-holds : tie.Need-loop-holds Inv-loop μ-loop
 loop-holds c =
     let args = c .before .before .args in
-    (omega arith, walk-none (rule (args .facts .now) (args .m) (8 + args .c .ops + args .m)), refl, omega arith)
-
-word-of-requires : tie.Need-word-of-requires Inv-loop μ-loop
-word-of-requires c κs = search needs
+    (omega arith, walk-none (rule (args .facts .now) (args .m) (lineOfMap (args .c .ops) (args .m))), refl, omega arith)
 
 class-row-requires : tie.Need-class-row-requires Inv-loop μ-loop
 class-row-requires c κs =
@@ -70,9 +68,6 @@ classes-of-requires c κs =
     let run = c .before .before .before .loop in
     let loop-test = c .before .before .loop-test in
     omega (arith, word-of .ensures, head-clean (headed (args .c) (args .facts .now)) (pre .0) .doms (run .v) (loop-test .taken))
-
-enum-known-found : tie.Need-enum-known-found Inv-loop μ-loop
-enum-known-found c = search needs
 
 mul-states : tie.Need-mul-states Inv-loop μ-loop
 mul-states c =
@@ -102,12 +97,9 @@ returns c =
     let enum-told = c .enum-told in
     let run = c .before .before .before .before .before .before .loop in
     let loop-test = c .before .before .before .before .before .loop-test in
-    let line : ℕ = 8 + args .c .ops + args .m in
+    let line : ℕ = lineOfMap (args .c .ops) (args .m) in
     let here = found-fault (args .facts .now) (classes-of .ensures) (class-row .ensures) (word-of .ensures) line (enum-told .given .1) in
     sym (rw (walk-here (rule (args .facts .now) (args .m) line) (args .c .vars) (run .v) (ClassMissing line) (run .inv .1) (loop-test .taken) here))
-
-enum-told-2 : tie.Need-enum-told-2 Inv-loop μ-loop
-enum-told-2 c = search needs
 
 returns-2 : tie.Need-returns-2 Inv-loop μ-loop
 unfolding mapFault classesFault
@@ -119,15 +111,9 @@ returns-2 c =
     let enum-told2 = c .enum-told2 in
     let run = c .before .before .before .before .before .before .loop in
     let loop-test = c .before .before .before .before .before .loop-test in
-    let line : ℕ = 8 + args .c .ops + args .m in
+    let line : ℕ = lineOfMap (args .c .ops) (args .m) in
     let here = found-fault (args .facts .now) (classes-of .ensures) (class-row .ensures) (word-of .ensures) line (enum-told2 .given .1) in
     sym (rw (walk-here (rule (args .facts .now) (args .m) line) (args .c .vars) (run .v) (OutOfRange line) (run .inv .1) (loop-test .taken) here))
-
-add-v : tie.Need-add-v Inv-loop μ-loop
-add-v c = search needs
-
-loop-less : tie.Need-loop-less Inv-loop μ-loop
-loop-less c = search needs
 
 loop-again : tie.Need-loop-again Inv-loop μ-loop
 loop-again c =
@@ -142,7 +128,7 @@ loop-again c =
     let head = head-clean (headed (args .c) (args .facts .now)) (pre .0) in
     let count = found-count (args .facts .now) (classes-of .ensures) (class-row .ensures) (word-of .ensures) (found .given .0 .0) (found .given .1) in
     let small : found .given .0 .0 ≤ 8 = omega (arith, count .1, head .doms (run .v) (loop-test .taken)) in
-    let line : ℕ = 8 + args .c .ops + args .m in
+    let line : ℕ = lineOfMap (args .c .ops) (args .m) in
     let here = found-fault (args .facts .now) (classes-of .ensures) (class-row .ensures) (word-of .ensures) line (found .given .1) in
     (omega arith, walk-more (rule (args .facts .now) (args .m) line) (run .v) (run .inv .1) here, rw add-one (ap₂ _*_ (run .inv .2) (count .0)), product-more (run .states) (found .given .0 .0) (run .v) (run .inv .3) small)
 
@@ -154,7 +140,7 @@ returns-3 c =
     let if1 = c .if1 in
     let all : run .v ≡ args .c .vars = omega arith in
     let total : run .states ≡ size (counts (args .facts .now) (args .m)) (args .c .vars) = run .inv .2 ∙ ap (size (counts (args .facts .now) (args .m))) all in
-    sym (rw (walk-end (rule (args .facts .now) (args .m) (8 + args .c .ops + args .m)) (args .c .vars) (run .v) (run .inv .1) (omega arith) (omega arith), ← total, lt-leb (run .states) 4096 (if1 .taken)))
+    sym (rw (walk-end (rule (args .facts .now) (args .m) (lineOfMap (args .c .ops) (args .m))) (args .c .vars) (run .v) (run .inv .1) (omega arith) (omega arith), ← total, lt-leb (run .states) 4096 (if1 .taken)))
 
 returns-4 : tie.Need-returns-4 Inv-loop μ-loop
 unfolding mapFault classesFault
@@ -164,7 +150,7 @@ returns-4 c =
     let if1 = c .if1 in
     let all : run .v ≡ args .c .vars = omega arith in
     let total : run .states ≡ size (counts (args .facts .now) (args .m)) (args .c .vars) = run .inv .2 ∙ ap (size (counts (args .facts .now) (args .m))) all in
-    sym (rw (walk-end (rule (args .facts .now) (args .m) (8 + args .c .ops + args .m)) (args .c .vars) (run .v) (run .inv .1) (omega arith) (omega arith), ← total, le-leb (run .states) 4096 (if1 .left)))
+    sym (rw (walk-end (rule (args .facts .now) (args .m) (lineOfMap (args .c .ops) (args .m))) (args .c .vars) (run .v) (run .inv .1) (omega arith) (omega arith), ← total, le-leb (run .states) 4096 (if1 .left)))
 
 pub map-fault-spec : {M : Type 1} → statement M
 map-fault-spec =
@@ -175,17 +161,17 @@ map-fault-spec =
     add-line
     add-line-2
     loop-holds
-    word-of-requires
+    (λ c κs. search needs)
     class-row-requires
     classes-of-requires
-    enum-known-found
+    (λ c. search needs)
     mul-states
     enum-told
     returns
-    enum-told-2
+    (λ c. search needs)
     returns-2
-    add-v
-    loop-less
+    (λ c. search needs)
+    (λ c. search needs)
     loop-again
     returns-3
     returns-4)

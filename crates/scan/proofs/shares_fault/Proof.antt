@@ -16,6 +16,7 @@ use Rattle.scan.specs.Scan.{each, sharesFault}
 use Rattle.scan.proofs.Walks.{tests, tests-more, tests-here, walk-none, walk-more, walk-here, walk-end}
 use Rattle.scan.proofs.shares_fault.Statement.{statement}
 use Rattle.scan.proofs.shares_fault.Tie as tie
+use Rattle.tables.specs.Lines.{lineOfShares}
 
 abbrev inRange : List ℕ → ℕ → ℕ → Bool
 inRange shares m o = leb (shareAt shares m o) 1000000
@@ -49,18 +50,6 @@ loop2-holds c =
     let run = c .before .loop in
     (omega arith, walk-none (tests (inRange (args .shares .now) (run .m)) (said (args .c .ops) (args .c .maps) (run .m))))
 
-share-at-requires : tie.Need-share-at-requires Inv-loop2 μ-loop2 Inv-loop μ-loop
-share-at-requires c κs = search needs
-
-add-t11 : tie.Need-add-t11 Inv-loop2 μ-loop2 Inv-loop μ-loop
-add-t11 c = search needs
-
-add-t12 : tie.Need-add-t12 Inv-loop2 μ-loop2 Inv-loop μ-loop
-add-t12 c = search needs
-
-add-t13 : tie.Need-add-t13 Inv-loop2 μ-loop2 Inv-loop μ-loop
-add-t13 c = search needs
-
 returns : tie.Need-returns Inv-loop2 μ-loop2 Inv-loop μ-loop
 unfolding sharesFault
 returns c =
@@ -73,13 +62,7 @@ returns c =
     let loop-test = c .before .before .before .before .loop-test in
     let high = lt-leb (shareAt (args .shares .now) (run .m) (loop2 .o)) 1000000 (omega (arith, share-at .ensures, if1 .taken)) in
     let here = tests-here (inRange (args .shares .now) (run .m)) (said (args .c .ops) (args .c .maps) (run .m)) (args .c .ops) (loop2 .o) (loop2 .inv .1) (loop2-test .taken) high in
-    sym (walk-here (line (args .shares .now) (args .c .ops) (args .c .maps)) (args .c .maps) (run .m) (OutOfRange (8 + args .c .ops + args .c .maps + run .m)) (run .inv .1) (loop-test .taken) here)
-
-add-o : tie.Need-add-o Inv-loop2 μ-loop2 Inv-loop μ-loop
-add-o c = search needs
-
-loop2-less : tie.Need-loop2-less Inv-loop2 μ-loop2 Inv-loop μ-loop
-loop2-less c = search needs
+    sym (walk-here (line (args .shares .now) (args .c .ops) (args .c .maps)) (args .c .maps) (run .m) (OutOfRange (lineOfShares (args .c .ops) (args .c .maps) (run .m))) (run .inv .1) (loop-test .taken) here)
 
 loop2-again : tie.Need-loop2-again Inv-loop2 μ-loop2 Inv-loop μ-loop
 loop2-again c =
@@ -90,12 +73,6 @@ loop2-again c =
     let if1 = c .if1 in
     let low = le-leb (shareAt (args .shares .now) (run .m) (loop2 .o)) 1000000 (omega (arith, share-at .ensures, if1 .left)) in
     (omega arith, tests-more (inRange (args .shares .now) (run .m)) (said (args .c .ops) (args .c .maps) (run .m)) (loop2 .o) (loop2 .inv .1) low)
-
-add-m : tie.Need-add-m Inv-loop2 μ-loop2 Inv-loop μ-loop
-add-m c = search needs
-
-loop-less : tie.Need-loop-less Inv-loop2 μ-loop2 Inv-loop μ-loop
-loop-less c = search needs
 
 loop-again : tie.Need-loop-again Inv-loop2 μ-loop2 Inv-loop μ-loop
 loop-again c =
@@ -122,15 +99,15 @@ shares-fault-spec =
     μ-loop
     loop-holds
     loop2-holds
-    share-at-requires
-    add-t11
-    add-t12
-    add-t13
+    (λ c κs. search needs)
+    (λ c. search needs)
+    (λ c. search needs)
+    (λ c. search needs)
     returns
-    add-o
-    loop2-less
+    (λ c. search needs)
+    (λ c. search needs)
     loop2-again
-    add-m
-    loop-less
+    (λ c. search needs)
+    (λ c. search needs)
     loop-again
     returns-2)

@@ -16,6 +16,7 @@ use Rattle.scan.specs.Scan.{each, splitFault}
 use Rattle.scan.proofs.Walks.{tests, tests-more, tests-here, walk-none, walk-end}
 use Rattle.scan.proofs.split_fault.Statement.{statement}
 use Rattle.scan.proofs.split_fault.Tie as tie
+use Rattle.tables.specs.Lines.{lineOfOp}
 
 abbrev total : List ℕ → ℕ → ℕ → ℕ
 total shares maps o = sum (λ m. shareAt shares m o) maps
@@ -24,7 +25,7 @@ abbrev passes : List ℕ → List ℕ → ℕ → ℕ → Bool
 passes costs shares maps o = leb (total shares maps o) (costAt costs o)
 
 abbrev said : ℕ → Refusal
-said o = SharesAboveCost (7 + o)
+said o = SharesAboveCost (lineOfOp o)
 
 abbrev Inv-loop : tie.InvT-loop
 Inv-loop costs shares ops maps o₀ o = (o ≤ ops) × (each (tests (passes costs shares maps) said) o 0 ≡ Clean)
@@ -37,18 +38,6 @@ loop-holds c =
     let args = c .before .before .args in
     (omega arith, walk-none (tests (passes (args .costs .now) (args .shares .now) (args .c .maps)) said))
 
-cost-at-requires : tie.Need-cost-at-requires Inv-loop μ-loop
-cost-at-requires c κs = search needs
-
-cast-cost : tie.Need-cast-cost Inv-loop μ-loop
-cast-cost c = search needs
-
-share-total-requires : tie.Need-share-total-requires Inv-loop μ-loop
-share-total-requires c κs = search needs
-
-add-t12 : tie.Need-add-t12 Inv-loop μ-loop
-add-t12 c = search needs
-
 returns : tie.Need-returns Inv-loop μ-loop
 unfolding splitFault
 returns c =
@@ -60,12 +49,6 @@ returns c =
     let loop-test = c .before .before .before .loop-test in
     let high = lt-leb (total (args .shares .now) (args .c .maps) (run .o)) (costAt (args .costs .now) (run .o)) (omega (arith, cost-at .ensures, share-total .ensures, if1 .taken)) in
     sym (tests-here (passes (args .costs .now) (args .shares .now) (args .c .maps)) said (args .c .ops) (run .o) (run .inv .1) (loop-test .taken) high)
-
-add-o : tie.Need-add-o Inv-loop μ-loop
-add-o c = search needs
-
-loop-less : tie.Need-loop-less Inv-loop μ-loop
-loop-less c = search needs
 
 loop-again : tie.Need-loop-again Inv-loop μ-loop
 loop-again c =
@@ -91,12 +74,12 @@ split-fault-spec =
     Inv-loop
     μ-loop
     loop-holds
-    cost-at-requires
-    cast-cost
-    share-total-requires
-    add-t12
+    (λ c κs. search needs)
+    (λ c. search needs)
+    (λ c κs. search needs)
+    (λ c. search needs)
     returns
-    add-o
-    loop-less
+    (λ c. search needs)
+    (λ c. search needs)
     loop-again
     returns-2)

@@ -25,9 +25,6 @@ Inv-loop facts s vars v₀ v = (v ≤ vars) × (each (tests (inside facts s) Val
 abbrev μ-loop : tie.MeasureT-loop
 μ-loop facts s vars v₀ v = vars - v
 
-cast-if1 : tie.Need-cast-if1 Inv-loop μ-loop
-cast-if1 c = search needs
-
 returns : tie.Need-returns Inv-loop μ-loop
 unfolding stateFault
 returns c =
@@ -40,15 +37,6 @@ loop-holds c =
     let args = c .before .before .before .args in
     (omega arith, walk-none (tests (inside (args .facts .now) (args .s .now)) ValueOutside))
 
-cast-byte-at : tie.Need-cast-byte-at Inv-loop μ-loop
-cast-byte-at c = search needs
-
-byte-at-requires : tie.Need-byte-at-requires Inv-loop μ-loop
-byte-at-requires c κs = search needs
-
-value-fits-requires : tie.Need-value-fits-requires Inv-loop μ-loop
-value-fits-requires c κs = search needs
-
 returns-2 : tie.Need-returns-2 Inv-loop μ-loop
 unfolding stateFault
 returns-2 c =
@@ -60,12 +48,6 @@ returns-2 c =
     let if1 = c .before .before .before .before .before .if1 in
     let out : inside (args .facts .now) (args .s .now) (run .v) ≡ false = cc (value-fits .ensures, byte-at .ensures, not-true (value-fits .result) (if2 .taken)) in
     sym (rw (le-leb (args .c .vars) (length (args .s .now)) (if1 .left), tests-here (inside (args .facts .now) (args .s .now)) ValueOutside (args .c .vars) (run .v) (run .inv .1) (omega arith) out))
-
-add-v : tie.Need-add-v Inv-loop μ-loop
-add-v c = search needs
-
-loop-less : tie.Need-loop-less Inv-loop μ-loop
-loop-less c = search needs
 
 loop-again : tie.Need-loop-again Inv-loop μ-loop
 loop-again c =
@@ -91,14 +73,14 @@ state-fault-spec =
     (tie.spec
     Inv-loop
     μ-loop
-    cast-if1
+    (λ c. search needs)
     returns
     loop-holds
-    cast-byte-at
-    byte-at-requires
-    value-fits-requires
+    (λ c. search needs)
+    (λ c κs. search needs)
+    (λ c κs. search needs)
     returns-2
-    add-v
-    loop-less
+    (λ c. search needs)
+    (λ c. search needs)
     loop-again
     returns-3)

@@ -10,9 +10,6 @@ use Rattle.scan.proofs.Lines.{room-decides, head-decides, lines-decide,
 use Rattle.scan.proofs.tables_fault.Statement.{statement}
 use Rattle.scan.proofs.tables_fault.Tie as tie
 
-has-room-requires : tie.Need-has-room-requires
-has-room-requires c κs = search needs
-
 returns : tie.Need-returns
 unfolding roomy
 returns c =
@@ -21,14 +18,8 @@ returns c =
     let if1 = c .if1 in
     sym (room-decides (tables (args .c) (args .facts .now) (args .costs .now) (args .shares .now)) (sym (has-room .ensures) ∙ not-true (has-room .result) (if1 .taken)))
 
-head-fault-requires : tie.Need-head-fault-requires
-head-fault-requires c κs = search needs
-
 enum-told : tie.Need-enum-told
 enum-told c = search needs
-
-enum-told-2 : tie.Need-enum-told-2
-enum-told-2 c = search needs
 
 returns-2 : tie.Need-returns-2
 unfolding roomy
@@ -46,12 +37,6 @@ lines-fault-requires c κs =
     let head-fault = c .before .before .head-fault in
     let enum-told = c .enum-told in
     sym (head-fault .ensures) ∙ enum-told .given .1
-
-enum-told-3 : tie.Need-enum-told-3
-enum-told-3 c = search needs
-
-enum-told-4 : tie.Need-enum-told-4
-enum-told-4 c = search needs
 
 returns-3 : tie.Need-returns-3
 unfolding roomy
@@ -74,12 +59,6 @@ shares-fault-requires c κs =
     let lines-fault = c .before .before .lines-fault in
     let enum-told3 = c .enum-told3 in
     (head-clean (taskOf (tables (args .c) (args .facts .now) (args .costs .now) (args .shares .now))) (sym (head-fault .ensures ∙ head-of (args .c) (args .facts .now) (args .costs .now) (args .shares .now)) ∙ enum-told .given .1) .ops, lines-clean (taskOf (tables (args .c) (args .facts .now) (args .costs .now) (args .shares .now))) (sym (lines-fault .ensures ∙ lines-of (args .c) (args .facts .now) (args .costs .now) (args .shares .now)) ∙ enum-told3 .given .1) .maps .1)
-
-enum-told-5 : tie.Need-enum-told-5
-enum-told-5 c = search needs
-
-enum-told-6 : tie.Need-enum-told-6
-enum-told-6 c = search needs
 
 returns-4 : tie.Need-returns-4
 unfolding roomy
@@ -123,19 +102,19 @@ pub tables-fault-spec : {M : Type 1} → statement M
 tables-fault-spec =
     tie.close
     (tie.spec
-    has-room-requires
+    (λ c κs. search needs)
     returns
-    head-fault-requires
+    (λ c κs. search needs)
     enum-told
-    enum-told-2
+    (λ c. search needs)
     returns-2
     lines-fault-requires
-    enum-told-3
-    enum-told-4
+    (λ c. search needs)
+    (λ c. search needs)
     returns-3
     shares-fault-requires
-    enum-told-5
-    enum-told-6
+    (λ c. search needs)
+    (λ c. search needs)
     returns-4
     split-fault-requires
     returns-5)

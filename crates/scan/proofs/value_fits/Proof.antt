@@ -5,9 +5,6 @@ use borrow.Author.Needs.{needs}
 use Rattle.scan.proofs.value_fits.Statement.{statement}
 use Rattle.scan.proofs.value_fits.Tie as tie
 
-row-at-requires : tie.Need-row-at-requires
-row-at-requires c κs = search needs
-
 returns : tie.Need-returns
 returns c =
     let args = c .before .before .args in
@@ -15,4 +12,6 @@ returns c =
     ap (ltb (args .x)) (row-at .ensures)
 
 pub value-fits-spec : {M : Type 1} → statement M
-value-fits-spec = tie.close (tie.spec row-at-requires returns)
+value-fits-spec = tie.close (tie.spec
+    (λ c κs. search needs)
+    returns)

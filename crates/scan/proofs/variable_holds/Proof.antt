@@ -9,12 +9,6 @@ use Rattle.scan.specs.Scan.{within}
 use Rattle.scan.proofs.variable_holds.Statement.{statement}
 use Rattle.scan.proofs.variable_holds.Tie as tie
 
-word-of-requires : tie.Need-word-of-requires
-word-of-requires c κs = search needs
-
-lies-within-requires : tie.Need-lies-within-requires
-lies-within-requires c κs = search needs
-
 returns : tie.Need-returns
 returns c =
     let args = c .before .before .before .before .args in
@@ -22,12 +16,6 @@ returns c =
     let lies-within = c .lies-within in
     let word-of = c .before .word-of in
     rw (eq-eqb (args .line) 3 (if1 .taken)) (lies-within .ensures ∙ ap (within 1 8) (word-of .ensures))
-
-row-at-requires : tie.Need-row-at-requires
-row-at-requires c κs = search needs
-
-value-fits-requires : tie.Need-value-fits-requires
-value-fits-requires c κs = search needs
 
 returns-2 : tie.Need-returns-2
 returns-2 c =
@@ -37,9 +25,6 @@ returns-2 c =
     let value-fits = c .value-fits in
     let row-at = c .before .row-at in
     rw (ne-eqb (args .line) 3 (if1 .left), eq-eqb (args .line) 4 (if2 .taken)) (value-fits .ensures ∙ ap (λ (x : ℕ). ltb x (domAt (args .facts .now) (args .v))) (row-at .ensures))
-
-fact-fits-requires : tie.Need-fact-fits-requires
-fact-fits-requires c κs = search needs
 
 returns-3 : tie.Need-returns-3
 returns-3 c =
@@ -53,11 +38,11 @@ pub variable-holds-spec : {M : Type 1} → statement M
 variable-holds-spec =
     tie.close
     (tie.spec
-    word-of-requires
-    lies-within-requires
+    (λ c κs. search needs)
+    (λ c κs. search needs)
     returns
-    row-at-requires
-    value-fits-requires
+    (λ c κs. search needs)
+    (λ c κs. search needs)
     returns-2
-    fact-fits-requires
+    (λ c κs. search needs)
     returns-3)

@@ -27,9 +27,6 @@ loop-holds c =
     let args = c .before .args in
     (omega arith, walk-none (tests (variableHolds (args .facts .now) (args .line)) (said (args .line))))
 
-variable-holds-requires : tie.Need-variable-holds-requires Inv-loop μ-loop
-variable-holds-requires c κs = search needs
-
 returns : tie.Need-returns Inv-loop μ-loop
 returns c =
     let args = c .before .before .before .before .before .args in
@@ -38,12 +35,6 @@ returns c =
     let variable-holds = c .before .variable-holds in
     let if1 = c .if1 in
     sym (tests-here (variableHolds (args .facts .now) (args .line)) (said (args .line)) (args .vars) (run .v) (run .inv .1) (loop-test .taken) (sym (variable-holds .ensures) ∙ not-true (variable-holds .result) (if1 .taken)))
-
-add-v : tie.Need-add-v Inv-loop μ-loop
-add-v c = search needs
-
-loop-less : tie.Need-loop-less Inv-loop μ-loop
-loop-less c = search needs
 
 loop-again : tie.Need-loop-again Inv-loop μ-loop
 loop-again c =
@@ -66,9 +57,9 @@ variables-fault-spec =
     Inv-loop
     μ-loop
     loop-holds
-    variable-holds-requires
+    (λ c κs. search needs)
     returns
-    add-v
-    loop-less
+    (λ c. search needs)
+    (λ c. search needs)
     loop-again
     returns-2)

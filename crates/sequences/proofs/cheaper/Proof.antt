@@ -5,14 +5,11 @@ use Rattle.sequences.specs.Choosing.{namedOf}
 use Rattle.sequences.proofs.cheaper.Statement.{statement}
 use Rattle.sequences.proofs.cheaper.Tie as tie
 
-choice-of-requires : tie.Need-choice-of-requires
-choice-of-requires c κs = search needs
-
-named-requires : tie.Need-named-requires
-named-requires c κs = search needs
-
 returns : tie.Need-returns
 returns c = c .named .ensures ∙ ap namedOf (c .before .choice-of .ensures)
 
 pub cheaper-spec : {M : Type 1} → statement M
-cheaper-spec = tie.close (tie.spec choice-of-requires named-requires returns)
+cheaper-spec = tie.close (tie.spec
+    (λ c κs. search needs)
+    (λ c κs. search needs)
+    returns)

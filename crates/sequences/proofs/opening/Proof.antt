@@ -6,33 +6,6 @@ use Rattle.sequences.proofs.Accepted.{opening-of}
 use Rattle.sequences.proofs.opening.Statement.{statement}
 use Rattle.sequences.proofs.opening.Tie as tie
 
-choice-of-requires : tie.Need-choice-of-requires
-choice-of-requires c κs = search needs
-
-enum-known-d : tie.Need-enum-known-d
-enum-known-d c = search needs
-
-front-requires : tie.Need-front-requires
-front-requires c κs = search needs
-
-enum-known-d-2 : tie.Need-enum-known-d-2
-enum-known-d-2 c = search needs
-
-front-requires-2 : tie.Need-front-requires-2
-front-requires-2 c κs = search needs
-
-enum-told : tie.Need-enum-told
-enum-told c = search needs
-
-front-requires-3 : tie.Need-front-requires-3
-front-requires-3 c κs = search needs
-
-enum-told-2 : tie.Need-enum-told-2
-enum-told-2 c = search needs
-
-front-requires-4 : tie.Need-front-requires-4
-front-requires-4 c κs = search needs
-
 returns : tie.Need-returns
 returns c =
     let a = c .before .before .before .before .before .before .before .before .before .before .before .args in
@@ -57,15 +30,15 @@ pub opening-spec : {M : Type 1} → statement M
 opening-spec =
     tie.close
     (tie.spec
-    choice-of-requires
-    enum-known-d
-    front-requires
-    enum-known-d-2
-    front-requires-2
-    enum-told
-    front-requires-3
-    enum-told-2
-    front-requires-4
+    (λ c κs. search needs)
+    (λ c. search needs)
+    (λ c κs. search needs)
+    (λ c. search needs)
+    (λ c κs. search needs)
+    (λ c. search needs)
+    (λ c κs. search needs)
+    (λ c. search needs)
+    (λ c κs. search needs)
     returns
     returns-2
     returns-3

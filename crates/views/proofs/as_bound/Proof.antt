@@ -12,4 +12,6 @@ returns-2 : tie.Need-returns-2
 returns-2 c = sym (ap (λ b. boundSaid (totalIf b (c .before .args .sum .total))) (c .if1 .left))
 
 pub as-bound-spec : {M : Type 1} → statement M
-as-bound-spec = tie.close (tie.spec returns returns-2)
+as-bound-spec = tie.close (tie.spec
+    returns
+    returns-2)

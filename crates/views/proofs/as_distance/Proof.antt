@@ -12,4 +12,6 @@ returns-2 : tie.Need-returns-2
 returns-2 c = sym (ap distanceSaid (said-fin (c .before .args .distance) (c .if1 .left)))
 
 pub as-distance-spec : {M : Type 1} → statement M
-as-distance-spec = tie.close (tie.spec returns returns-2)
+as-distance-spec = tie.close (tie.spec
+    returns
+    returns-2)

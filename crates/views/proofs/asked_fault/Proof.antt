@@ -4,18 +4,13 @@ use mathlib.Core.Path.{_∙_}
 use Rattle.tables.specs.Task.{tables}
 use Rattle.scan.specs.Scan.{tablesFault}
 use Rattle.views.specs.Entries.{noSuchMap, askedFault}
-use Rattle.views.proofs.Judging.{hands-on, goes-on, map-there, map-missing}
+use Rattle.views.proofs.Judging.{map-there, map-missing}
+use Rattle.scan.proofs.Walks.{hands-on, goes-on}
 use Rattle.views.proofs.asked_fault.Statement.{statement}
 use Rattle.views.proofs.asked_fault.Tie as tie
 
-tables-fault-requires : tie.Need-tables-fault-requires
-tables-fault-requires c κs = search needs
-
 enum-told : tie.Need-enum-told
 enum-told c = search needs
-
-enum-told-2 : tie.Need-enum-told-2
-enum-told-2 c = search needs
 
 returns : tie.Need-returns
 unfolding askedFault
@@ -45,4 +40,10 @@ returns-3 c =
 
 pub asked-fault-spec : {M : Type 1} → statement M
 asked-fault-spec =
-    tie.close (tie.spec tables-fault-requires enum-told enum-told-2 returns returns-2 returns-3)
+    tie.close (tie.spec
+    (λ c κs. search needs)
+    enum-told
+    (λ c. search needs)
+    returns
+    returns-2
+    returns-3)

@@ -8,12 +8,6 @@ use Rattle.views.proofs.Judging.{bound-clean, given-bound-refused, give
 use Rattle.views.proofs.bound.Statement.{statement}
 use Rattle.views.proofs.bound.Tie as tie
 
-bound-fault-requires : tie.Need-bound-fault-requires
-bound-fault-requires c κs = search needs
-
-enum-known-found : tie.Need-enum-known-found
-enum-known-found c = search needs
-
 enum-told : tie.Need-enum-told
 enum-told c = search needs
 
@@ -23,9 +17,6 @@ sum-of-requires c κs =
     let bound-fault = c .before .before .bound-fault in
     let q = bound-clean (tables (a .c) (a .facts .now) (a .costs .now) (a .shares .now)) (a .s .now) (sym (bound-fault .ensures) ∙ c .enum-told .given .1) in
     (valid-unpriced (a .c) (a .facts .now) (a .costs .now) (a .shares .now) (q .0), (λ m lm o l. q .0 .shares m o lm l), q .1)
-
-as-bound-requires : tie.Need-as-bound-requires
-as-bound-requires c κs = search needs
 
 returns : tie.Need-returns
 returns c =
@@ -45,10 +36,10 @@ pub bound-spec : {M : Type 1} → statement M
 bound-spec =
     tie.close
     (tie.spec
-    bound-fault-requires
-    enum-known-found
+    (λ c κs. search needs)
+    (λ c. search needs)
     enum-told
     sum-of-requires
-    as-bound-requires
+    (λ c κs. search needs)
     returns
     returns-2)

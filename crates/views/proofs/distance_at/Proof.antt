@@ -7,12 +7,6 @@ use Rattle.views.proofs.Judging.{distance-clean, given-distance-refused
 use Rattle.views.proofs.distance_at.Statement.{statement}
 use Rattle.views.proofs.distance_at.Tie as tie
 
-distance-fault-requires : tie.Need-distance-fault-requires
-distance-fault-requires c κs = search needs
-
-enum-known-found : tie.Need-enum-known-found
-enum-known-found c = search needs
-
 enum-told : tie.Need-enum-told
 enum-told c = search needs
 
@@ -23,9 +17,6 @@ away-of-requires c κs =
     let q = distance-clean (tables (a .c) (a .facts .now) (a .costs .now) (a .shares .now)) (a .map) (a .s .now)
     (sym (distance-fault .ensures) ∙ c .enum-told .given .1) in
     (valid-unpriced (a .c) (a .facts .now) (a .costs .now) (a .shares .now) (q .0), q .1, (λ o l. q .0 .shares (a .map) o (q .1) l), q .2)
-
-as-distance-requires : tie.Need-as-distance-requires
-as-distance-requires c κs = search needs
 
 returns : tie.Need-returns
 returns c =
@@ -46,10 +37,10 @@ pub distance-at-spec : {M : Type 1} → statement M
 distance-at-spec =
     tie.close
     (tie.spec
-    distance-fault-requires
-    enum-known-found
+    (λ c κs. search needs)
+    (λ c. search needs)
     enum-told
     away-of-requires
-    as-distance-requires
+    (λ c κs. search needs)
     returns
     returns-2)

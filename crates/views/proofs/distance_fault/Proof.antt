@@ -4,18 +4,9 @@ use mathlib.Core.Path.{_∙_}
 use Rattle.tables.specs.Task.{tables}
 use Rattle.scan.specs.Scan.{stateFault}
 use Rattle.views.specs.Entries.{askedFault, distanceFault}
-use Rattle.views.proofs.Judging.{hands-on, goes-on}
+use Rattle.scan.proofs.Walks.{hands-on, goes-on}
 use Rattle.views.proofs.distance_fault.Statement.{statement}
 use Rattle.views.proofs.distance_fault.Tie as tie
-
-asked-fault-requires : tie.Need-asked-fault-requires
-asked-fault-requires c κs = search needs
-
-enum-told : tie.Need-enum-told
-enum-told c = search needs
-
-enum-told-2 : tie.Need-enum-told-2
-enum-told-2 c = search needs
 
 returns : tie.Need-returns
 unfolding distanceFault
@@ -24,9 +15,6 @@ returns c =
     let asked-fault = c .before .before .asked-fault in
     let t = tables (a .c) (a .facts .now) (a .costs .now) (a .shares .now) in
     hands-on (askedFault t (a .map)) (stateFault (a .c) (a .facts .now) (a .s .now)) (asked-fault .result) (c .enum-told2 .given .0 .0) (asked-fault .ensures) (c .enum-told2 .given .1)
-
-state-fault-requires : tie.Need-state-fault-requires
-state-fault-requires c κs = search needs
 
 returns-2 : tie.Need-returns-2
 unfolding distanceFault
@@ -39,4 +27,10 @@ returns-2 c =
 pub distance-fault-spec : {M : Type 1} → statement M
 distance-fault-spec =
     tie.close
-    (tie.spec asked-fault-requires enum-told enum-told-2 returns state-fault-requires returns-2)
+    (tie.spec
+    (λ c κs. search needs)
+    (λ c. search needs)
+    (λ c. search needs)
+    returns
+    (λ c κs. search needs)
+    returns-2)

@@ -13,20 +13,8 @@ returns c =
     let a = c .before .before .before .before .before .args in
     given-short (tables (a .c) (a .facts .now) (a .costs .now) (a .shares .now)) (a .map) (a .out .now) (c .if1 .taken)
 
-asked-fault-requires : tie.Need-asked-fault-requires
-asked-fault-requires c κs = search needs
-
-enum-known-found : tie.Need-enum-known-found
-enum-known-found c = search needs
-
 enum-told : tie.Need-enum-told
 enum-told c = search needs
-
-share-row-requires : tie.Need-share-row-requires
-share-row-requires c κs = search needs
-
-slice-aggregate-view-rounds : tie.Need-slice-aggregate-view-rounds
-slice-aggregate-view-rounds c = search needs
 
 view-rounds-requires : tie.Need-view-rounds-requires
 view-rounds-requires c κs =
@@ -50,9 +38,6 @@ returns-2 c =
     given-refused (tables (a .c) (a .facts .now) (a .costs .now) (a .shares .now)) (a .map) (a .out .now) (c .before .found .given .0 .0)
     (if1 .left) (sym (asked-fault .ensures) ∙ c .before .found .given .1)
 
-same-length : tie.Need-same-length
-same-length c = search needs
-
 returns-3 : tie.Need-returns-3
 returns-3 c =
     let a = c .before .before .before .before .before .before .before .before .before .before .before .before .before .before .args in
@@ -72,12 +57,12 @@ distances-spec =
     tie.close
     (tie.spec
     returns
-    asked-fault-requires
-    enum-known-found
+    (λ c κs. search needs)
+    (λ c. search needs)
     enum-told
-    share-row-requires
-    slice-aggregate-view-rounds
+    (λ c κs. search needs)
+    (λ c. search needs)
     view-rounds-requires
     returns-2
-    same-length
+    (λ c. search needs)
     returns-3)

@@ -8,18 +8,6 @@ use mathlib.Core.Path.{_∙_, ap}
 use Rattle.desk_c.proofs.runs.hand_back.Statement.{statement}
 use Rattle.desk_c.proofs.runs.hand_back.Tie as tie
 
-enum-told : tie.Need-enum-told
-enum-told c = search needs
-
-put-bytes-requires : tie.Need-put-bytes-requires
-put-bytes-requires c κs = search needs
-
-put-words-requires : tie.Need-put-words-requires
-put-words-requires c κs = search needs
-
-answer-word-requires : tie.Need-answer-word-requires
-answer-word-requires c κs = search needs
-
 same-length : tie.Need-same-length
 same-length c = ⊎-elim (λ w. ap length (w .10) ∙ bytes-length _ _ _ (w .3 .ensures)) (λ w. ap length (w .1)) (c .before .match .came)
 
@@ -38,10 +26,10 @@ pub hand-back-spec : {M : Type 1} → statement M
 hand-back-spec =
     tie.close
     (tie.spec
-    enum-told
-    put-bytes-requires
-    put-words-requires
-    answer-word-requires
+    (λ c. search needs)
+    (λ c κs. search needs)
+    (λ c κs. search needs)
+    (λ c κs. search needs)
     same-length
     same-length-2
     returns)

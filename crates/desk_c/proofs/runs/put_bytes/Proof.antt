@@ -18,9 +18,6 @@ slice-aggregate-copy-bytes-2 c = search needs
 copy-bytes-requires-2 : tie.Need-copy-bytes-requires-2
 copy-bytes-requires-2 c κs = (omega (arith, slice-aggregate-copy-bytes-2 (c .before)), omega arith)
 
-same-length : tie.Need-same-length
-same-length c = search needs
-
 returns : tie.Need-returns
 returns c = bytes-put _ _ _ _ (c .before .before .before .before .before .before .before .copy-bytes .ensures) (c .before .before .copy-bytes2 .ensures)
 
@@ -32,5 +29,5 @@ put-bytes-spec =
     copy-bytes-requires
     slice-aggregate-copy-bytes-2
     copy-bytes-requires-2
-    same-length
+    (λ c. search needs)
     returns)

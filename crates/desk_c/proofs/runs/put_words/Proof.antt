@@ -1,6 +1,6 @@
 -- `runs::put_words` meets its contract: the log, the number of its steps after it, and then the columns. Assumes nothing.
 use Rattle.desk_c.proofs.Parts.{words-length, words-put}
-use Rattle.sequences.specs.Stepping.{steps}
+use Rattle.meaning.specs.Limits.{mostSteps}
 use borrow.Author.Needs.{needs}
 use lib.ListN.{length-set}
 use native.Mathlib.Omega.{arith}
@@ -11,25 +11,22 @@ slice-aggregate-copy-words : tie.Need-slice-aggregate-copy-words
 slice-aggregate-copy-words c = search needs
 
 copy-words-requires : tie.Need-copy-words-requires
-unfolding steps
+unfolding mostSteps
 copy-words-requires c κs = (omega (arith, slice-aggregate-copy-words (c .before)), omega arith)
 
 slice-write-words : tie.Need-slice-write-words
-unfolding steps
+unfolding mostSteps
 slice-write-words c = search needs
 
 slice-aggregate-copy-words-2 : tie.Need-slice-aggregate-copy-words-2
 slice-aggregate-copy-words-2 c = search needs
 
-add-copy-words : tie.Need-add-copy-words
-add-copy-words c = search needs
-
 copy-words-requires-2 : tie.Need-copy-words-requires-2
-unfolding steps
+unfolding mostSteps
 copy-words-requires-2 c κs = (omega (arith, slice-aggregate-copy-words-2 (c .before)), simp length-set (omega arith))
 
 returns : tie.Need-returns
-unfolding steps
+unfolding mostSteps
 returns c = words-put _ _ _ _ (c .before .before .before .before .before .before .before .copy-words .ensures) (c .before .before .copy-words2 .ensures)
 
 same-length : tie.Need-same-length
@@ -43,7 +40,7 @@ put-words-spec =
     copy-words-requires
     slice-write-words
     slice-aggregate-copy-words-2
-    add-copy-words
+    (λ c. search needs)
     copy-words-requires-2
     same-length
     returns)

@@ -1,41 +1,17 @@
 -- `words::opening_word` meets its contract. Assumes nothing.
 use borrow.Author.Needs.{needs}
 use native.Mathlib.Omega.{arith}
-use Rattle.sequences.specs.Stepping.{steps}
+use Rattle.meaning.specs.Limits.{mostSteps}
 use Rattle.desk_c.proofs.words.opening_word.Statement.{statement}
 use Rattle.desk_c.proofs.words.opening_word.Tie as tie
 
-enum-known-d : tie.Need-enum-known-d
-enum-known-d c = search needs
-
 cast-word : tie.Need-cast-word
-unfolding steps
+unfolding mostSteps
 cast-word c = omega (arith, rw (c .before .d .given .1) at (c .before .before .before .pre))
 
-word-requires : tie.Need-word-requires
-word-requires c κs = search needs
-
-enum-known-d-2 : tie.Need-enum-known-d-2
-enum-known-d-2 c = search needs
-
 cast-word-2 : tie.Need-cast-word-2
-unfolding steps
+unfolding mostSteps
 cast-word-2 c = omega (arith, rw (c .before .d2 .given .1) at (c .before .before .before .pre))
-
-word-requires-2 : tie.Need-word-requires-2
-word-requires-2 c κs = search needs
-
-enum-told : tie.Need-enum-told
-enum-told c = search needs
-
-word-requires-3 : tie.Need-word-requires-3
-word-requires-3 c κs = search needs
-
-enum-told-2 : tie.Need-enum-told-2
-enum-told-2 c = search needs
-
-word-requires-4 : tie.Need-word-requires-4
-word-requires-4 c κs = search needs
 
 returns : tie.Need-returns
 returns c = rw (c .before .before .d .given .1) (c .word .ensures)
@@ -53,16 +29,16 @@ pub opening-word-spec : {M : Type 1} → statement M
 opening-word-spec =
     tie.close
     (tie.spec
-    enum-known-d
+    (λ c. search needs)
     cast-word
-    word-requires
-    enum-known-d-2
+    (λ c κs. search needs)
+    (λ c. search needs)
     cast-word-2
-    word-requires-2
-    enum-told
-    word-requires-3
-    enum-told-2
-    word-requires-4
+    (λ c κs. search needs)
+    (λ c. search needs)
+    (λ c κs. search needs)
+    (λ c. search needs)
+    (λ c κs. search needs)
     returns
     returns-2
     returns-3

@@ -1,6 +1,6 @@
 -- `Run::advance` meets its contract. Assumes nothing.
 use Rattle.ledger.proofs.Gains.{column-room}
-use Rattle.sequences.specs.Stepping.{steps}
+use Rattle.meaning.specs.Limits.{mostSteps}
 use Rattle.ledger.specs.Ledger.{advanced}
 use borrow.Author.Needs.{needs}
 use mathlib.Core.Path.{refl}
@@ -8,22 +8,13 @@ use native.Mathlib.Omega.{arith}
 use Rattle.ledger.proofs.Run.advance.Statement.{statement}
 use Rattle.ledger.proofs.Run.advance.Tie as tie
 
-cast-at : tie.Need-cast-at
-cast-at c = search needs
-
-mul-self : tie.Need-mul-self
-mul-self c = search needs
-
 element-write-self : tie.Need-element-write-self
-unfolding steps
+unfolding mostSteps
 element-write-self c = omega (arith, c .before .before .before .before .before .pre .2)
 
 add-self : tie.Need-add-self
-unfolding steps
+unfolding mostSteps
 add-self c = omega (arith, c .before .before .before .before .before .pre .2)
-
-state-after-requires : tie.Need-state-after-requires
-state-after-requires c κs = search needs
 
 columns-after-requires : tie.Need-columns-after-requires
 columns-after-requires c κs = (c .before .before .before .before .before .before .pre .0, c .before .before .before .before .before .before .pre .1, column-room _ (c .before .before .before .before .before .before .pre .2) (c .before .before .before .before .before .before .pre .3))
@@ -36,10 +27,10 @@ pub advance-spec : {M : Type 1} → statement M
 advance-spec =
     tie.close
     (tie.spec
-    cast-at
-    mul-self
+    (λ c. search needs)
+    (λ c. search needs)
     element-write-self
     add-self
-    state-after-requires
+    (λ c κs. search needs)
     columns-after-requires
     returns)

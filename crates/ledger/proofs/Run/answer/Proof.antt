@@ -13,12 +13,6 @@ use Rattle.ledger.proofs.Run.answer.Tie as tie
 abbrev lent : tie.Start → Tables
 lent c = tables (c .args .c) (c .args .facts .now) (c .args .costs .now) (c .args .shares .now)
 
-tables-fault-requires : tie.Need-tables-fault-requires
-tables-fault-requires c κs = search needs
-
-enum-told : tie.Need-enum-told
-enum-told c = search needs
-
 is-run-requires : tie.Need-is-run-requires
 is-run-requires c κs = clean-valid _ (sym (c .before .before .tables-fault .ensures) ∙ c .enum-told .given .1)
 
@@ -27,9 +21,6 @@ returns c = answered-not-a-run _ _ _ _ (sym (c .before .before .before .before .
 
 judge-requires : tie.Need-judge-requires
 judge-requires c κs = (clean-valid _ (sym (c .before .before .before .before .tables-fault .ensures) ∙ c .before .before .enum-told .given .1) .ops, run-len _ _ (sym (c .before .is-run .ensures) ∙ not-false (c .before .is-run .result) (c .if1 .left)))
-
-enum-known-found : tie.Need-enum-known-found
-enum-known-found c = search needs
 
 returns-2 : tie.Need-returns-2
 returns-2 c = c .judge .ensures ∙ answered-judged _ _ _ _ (sym (c .before .before .before .before .before .tables-fault .ensures) ∙ c .before .before .before .enum-told .given .1) (sym (c .before .before .is-run .ensures) ∙ not-false (c .before .before .is-run .result) (c .before .if1 .left))
@@ -41,11 +32,11 @@ pub answer-spec : {M : Type 1} → statement M
 answer-spec =
     tie.close
     (tie.spec
-    tables-fault-requires
-    enum-told
+    (λ c κs. search needs)
+    (λ c. search needs)
     is-run-requires
     returns
     judge-requires
-    enum-known-found
+    (λ c. search needs)
     returns-2
     returns-3)

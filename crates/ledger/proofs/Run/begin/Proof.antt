@@ -11,39 +11,24 @@ use Rattle.ledger.proofs.Run.begin.Tie as tie
 abbrev lent : tie.Start → Tables
 lent c = tables (c .args .c) (c .args .facts .now) (c .args .costs .now) (c .args .shares .now)
 
-start-fault-requires : tie.Need-start-fault-requires
-start-fault-requires c κs = search needs
-
-enum-told : tie.Need-enum-told
-enum-told c = search needs
-
 start-from-requires : tie.Need-start-from-requires
-start-from-requires c κs = few-vars _ _ (sym (c .before .before .start-fault .ensures) ∙ c .enum-told .given .1)
-
-fresh-requires : tie.Need-fresh-requires
-fresh-requires c κs = search needs
-
-enum-known-found : tie.Need-enum-known-found
-enum-known-found c = search needs
-
-fresh-requires-2 : tie.Need-fresh-requires-2
-fresh-requires-2 c κs = search needs
+start-from-requires c κs = few-vars _ _ (sym (c .before .before .input-fault .ensures) ∙ c .enum-told .given .1)
 
 returns : tie.Need-returns
-returns c = begun-clean _ _ _ (sym (c .before .before .before .before .start-fault .ensures) ∙ c .before .before .enum-told .given .1) (c .fresh .ensures ∙ ap fresh (c .before .start-from .ensures))
+returns c = begun-clean _ _ _ (sym (c .before .before .before .before .input-fault .ensures) ∙ c .before .before .enum-told .given .1) (c .fresh .ensures ∙ ap fresh (c .before .start-from .ensures))
 
 returns-2 : tie.Need-returns-2
-returns-2 c = begun-fault _ _ _ _ (sym (c .before .before .before .before .start-fault .ensures) ∙ c .before .before .found .given .1) (c .fresh2 .ensures)
+returns-2 c = begun-fault _ _ _ _ (sym (c .before .before .before .before .input-fault .ensures) ∙ c .before .before .found .given .1) (c .fresh2 .ensures)
 
 pub begin-spec : {M : Type 1} → statement M
 begin-spec =
     tie.close
     (tie.spec
-    start-fault-requires
-    enum-told
+    (λ c κs. search needs)
+    (λ c. search needs)
     start-from-requires
-    fresh-requires
-    enum-known-found
-    fresh-requires-2
+    (λ c κs. search needs)
+    (λ c. search needs)
+    (λ c κs. search needs)
     returns
     returns-2)

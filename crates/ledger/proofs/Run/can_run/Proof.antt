@@ -7,11 +7,11 @@ use Rattle.ledger.proofs.Run.can_run.Tie as tie
 returns : tie.Need-returns
 returns c = can-no _ _ _ _ (c .if1 .taken)
 
-may-run-requires : tie.Need-may-run-requires
-may-run-requires c κs = search needs
-
 returns-2 : tie.Need-returns-2
 returns-2 c = can-may _ _ _ _ _ (c .before .before .before .before .if1 .left) (c .may-run .ensures)
 
 pub can-run-spec : {M : Type 1} → statement M
-can-run-spec = tie.close (tie.spec returns may-run-requires returns-2)
+can-run-spec = tie.close (tie.spec
+    returns
+    (λ c κs. search needs)
+    returns-2)

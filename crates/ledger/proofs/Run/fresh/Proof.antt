@@ -1,13 +1,14 @@
 -- `Run::fresh` meets its contract. Assumes nothing.
-use Rattle.sequences.specs.Stepping.{steps}
+use Rattle.meaning.specs.Limits.{mostSteps}
 use Rattle.ledger.specs.Ledger.{fresh}
 use mathlib.Core.Path.{refl}
 use Rattle.ledger.proofs.Run.fresh.Statement.{statement}
 use Rattle.ledger.proofs.Run.fresh.Tie as tie
 
 returns : tie.Need-returns
-unfolding fresh steps
+unfolding fresh mostSteps
 returns c = refl
 
 pub fresh-spec : {M : Type 1} → statement M
-fresh-spec = tie.close (tie.spec returns)
+fresh-spec = tie.close (tie.spec
+    returns)

@@ -1,6 +1,6 @@
 -- `Run::judge` meets its contract. Assumes nothing.
 use Rattle.ledger.proofs.Answers.{judged-beyond, judged-next, judged-none, judged-old, judged-zero}
-use Rattle.sequences.specs.Stepping.{steps}
+use Rattle.meaning.specs.Limits.{mostSteps}
 use borrow.Author.Needs.{needs}
 use native.Mathlib.Omega.{arith}
 use Rattle.ledger.proofs.Run.judge.Statement.{statement}
@@ -13,20 +13,14 @@ returns-2 : tie.Need-returns-2
 returns-2 c = judged-zero _ _ _ _ _ (c .before .if1 .left) (c .if2 .taken)
 
 add-if3 : tie.Need-add-if3
-unfolding steps
+unfolding mostSteps
 add-if3 c = omega (arith, c .before .before .before .before .before .before .pre .1)
 
 returns-3 : tie.Need-returns-3
 returns-3 c = judged-beyond _ _ _ _ _ (c .before .before .before .if1 .left) (c .before .before .if2 .left) (c .if3 .taken)
 
-old-step-requires : tie.Need-old-step-requires
-old-step-requires c κs = search needs
-
 returns-4 : tie.Need-returns-4
 returns-4 c = judged-old _ _ _ _ _ (c .before .before .before .before .before .before .if1 .left) (c .before .before .before .before .before .if2 .left) _ (c .before .if4 .taken) (c .old-step .ensures)
-
-next-step-requires : tie.Need-next-step-requires
-next-step-requires c κs = search needs
 
 returns-5 : tie.Need-returns-5
 returns-5 c = judged-next _ _ _ _ _ (c .before .before .before .before .before .before .if1 .left) (c .before .before .before .before .before .if2 .left) _ (c .before .before .before .if3 .left) (c .before .if4 .left) (c .next-step .ensures)
@@ -39,7 +33,7 @@ judge-spec =
     returns-2
     add-if3
     returns-3
-    old-step-requires
+    (λ c κs. search needs)
     returns-4
-    next-step-requires
+    (λ c κs. search needs)
     returns-5)

@@ -1,28 +1,27 @@
 -- `Run::next_step` meets its contract. Assumes nothing.
 use Rattle.ledger.proofs.Answers.{next-full, next-go, next-not}
-use Rattle.sequences.specs.Stepping.{steps}
+use Rattle.meaning.specs.Limits.{mostSteps}
 use borrow.Author.Needs.{needs}
 use mathlib.Core.Path.{_∙_, sym}
 use Rattle.ledger.proofs.Run.next_step.Statement.{statement}
 use Rattle.ledger.proofs.Run.next_step.Tie as tie
 
-cast-if1 : tie.Need-cast-if1
-cast-if1 c = search needs
-
 returns : tie.Need-returns
-unfolding steps
+unfolding mostSteps
 returns c = next-full _ _ _ _ _ (c .if1 .taken)
 
-can-run-requires : tie.Need-can-run-requires
-can-run-requires c κs = search needs
-
 returns-2 : tie.Need-returns-2
-unfolding steps
+unfolding mostSteps
 returns-2 c = next-go _ _ _ _ _ (c .before .before .if1 .left) (sym (c .before .can-run .ensures) ∙ c .if2 .taken)
 
 returns-3 : tie.Need-returns-3
-unfolding steps
+unfolding mostSteps
 returns-3 c = next-not _ _ _ _ _ (c .before .before .if1 .left) (sym (c .before .can-run .ensures) ∙ c .if2 .left)
 
 pub next-step-spec : {M : Type 1} → statement M
-next-step-spec = tie.close (tie.spec cast-if1 returns can-run-requires returns-2 returns-3)
+next-step-spec = tie.close (tie.spec
+    (λ c. search needs)
+    returns
+    (λ c κs. search needs)
+    returns-2
+    returns-3)

@@ -10,20 +10,8 @@ use Rattle.ledger.proofs.Run.offer.Tie as tie
 abbrev lent : tie.Start → Tables
 lent c = tables (c .args .c) (c .args .facts .now) (c .args .costs .now) (c .args .shares .now)
 
-answer-requires : tie.Need-answer-requires
-answer-requires c κs = search needs
-
-enum-told : tie.Need-enum-told
-enum-told c = search needs
-
 advance-requires : tie.Need-advance-requires
 advance-requires c κs = step-asks _ _ _ _ (sym (c .before .before .answer .ensures) ∙ c .enum-told .given .1)
-
-enum-told-2 : tie.Need-enum-told-2
-enum-told-2 c = search needs
-
-enum-told-3 : tie.Need-enum-told-3
-enum-told-3 c = search needs
 
 returns : tie.Need-returns
 returns c = offered-accepted _ _ _ _ _ (c .before .before .before .answer .ensures) _ (c .before .enum-told .given .1) (c .advance .ensures)
@@ -38,11 +26,11 @@ pub offer-spec : {M : Type 1} → statement M
 offer-spec =
     tie.close
     (tie.spec
-    answer-requires
-    enum-told
+    (λ c κs. search needs)
+    (λ c. search needs)
     advance-requires
-    enum-told-2
-    enum-told-3
+    (λ c. search needs)
+    (λ c. search needs)
     returns
     returns-2
     returns-3)

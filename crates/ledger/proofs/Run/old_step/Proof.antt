@@ -1,22 +1,13 @@
 -- `Run::old_step` meets its contract. Assumes nothing.
 use Rattle.ledger.proofs.Answers.{old-other, old-same}
-use Rattle.sequences.specs.Stepping.{steps}
+use Rattle.meaning.specs.Limits.{mostSteps}
 use borrow.Author.Needs.{needs}
 use native.Mathlib.Omega.{arith}
 use Rattle.ledger.proofs.Run.old_step.Statement.{statement}
 use Rattle.ledger.proofs.Run.old_step.Tie as tie
 
-sub-at : tie.Need-sub-at
-sub-at c = search needs
-
-cast-at : tie.Need-cast-at
-cast-at c = search needs
-
-mul-if1 : tie.Need-mul-if1
-mul-if1 c = search needs
-
 element-copy-out-if1 : tie.Need-element-copy-out-if1
-unfolding steps
+unfolding mostSteps
 element-copy-out-if1 c = omega (arith, c .pre .2)
 
 returns : tie.Need-returns
@@ -26,4 +17,10 @@ returns-2 : tie.Need-returns-2
 returns-2 c = old-other _ _ _ (c .if1 .left)
 
 pub old-step-spec : {M : Type 1} → statement M
-old-step-spec = tie.close (tie.spec sub-at cast-at mul-if1 element-copy-out-if1 returns returns-2)
+old-step-spec = tie.close (tie.spec
+    (λ c. search needs)
+    (λ c. search needs)
+    (λ c. search needs)
+    element-copy-out-if1
+    returns
+    returns-2)

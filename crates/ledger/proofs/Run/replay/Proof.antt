@@ -3,7 +3,7 @@ use Prim.Native.Nat.{_+_, _-_, _≤_, ℕ}
 use Rattle.ledger.proofs.Gains.{fresh-bounded}
 use Rattle.ledger.proofs.Runs.{advanced-len, bounded-step, can-exists, given-end, given-next, given-stop}
 use Rattle.ledger.specs.Inside.{Bounded}
-use Rattle.sequences.specs.Stepping.{steps}
+use Rattle.meaning.specs.Limits.{mostSteps}
 use Rattle.ledger.specs.Ledger.{fresh, replayed}
 use Rattle.ledger.specs.declared.Run.{Run}
 use Rattle.tables.specs.Task.{tables}
@@ -23,22 +23,19 @@ abbrev μ-loop : tie.MeasureT-loop
 
 -- the log is as long as its type says
 log-long : (c : tie.Start Inv-loop μ-loop) → c .args .len ≤ length (c .args .t6)
-unfolding steps
+unfolding mostSteps
 log-long c = omega (arith, c .good .1 .1 .1 .1 .1 .0, c .pre .1)
-
-fresh-requires : tie.Need-fresh-requires Inv-loop μ-loop
-fresh-requires c κs = search needs
 
 loop-holds : tie.Need-loop-holds Inv-loop μ-loop
 unfolding fresh
 loop-holds c = (omega arith, refl, rw (c .fresh .ensures) (fresh-bounded _), rw (c .fresh .ensures) refl)
 
 mul-t13 : tie.Need-mul-t13 Inv-loop μ-loop
-unfolding steps
+unfolding mostSteps
 mul-t13 c = omega (arith, c .before .before .before .before .before .before .pre .1)
 
 array-read-t16 : tie.Need-array-read-t16 Inv-loop μ-loop
-unfolding steps
+unfolding mostSteps
 array-read-t16 c = omega (arith, c .before .before .before .before .before .before .pre .1)
 
 can-run-requires : tie.Need-can-run-requires Inv-loop μ-loop
@@ -49,12 +46,6 @@ returns c = given-stop _ _ _ _ (log-long (c .before .before .before .before .bef
 
 advance-requires : tie.Need-advance-requires Inv-loop μ-loop
 advance-requires c κs = (c .before .before .before .before .before .before .before .before .pre .0, can-exists _ _ _ _ (sym (c .before .can-run .ensures) ∙ not-false (c .before .can-run .result) (c .if1 .left)), omega (arith, c .before .before .before .before .before .before .before .before .pre .1), c .before .before .before .loop .inv .2)
-
-add-i : tie.Need-add-i Inv-loop μ-loop
-add-i c = search needs
-
-loop-less : tie.Need-loop-less Inv-loop μ-loop
-loop-less c = search needs
 
 loop-again : tie.Need-loop-again Inv-loop μ-loop
 loop-again c =
@@ -74,14 +65,14 @@ replay-spec =
     (tie.spec
     Inv-loop
     μ-loop
-    fresh-requires
+    (λ c κs. search needs)
     loop-holds
     mul-t13
     array-read-t16
     can-run-requires
     returns
     advance-requires
-    add-i
-    loop-less
+    (λ c. search needs)
+    (λ c. search needs)
     loop-again
     returns-2)

@@ -6,20 +6,11 @@ use mathlib.Core.Path.{_∙_, sym}
 use Rattle.ledger.proofs.Run.same.Statement.{statement}
 use Rattle.ledger.proofs.Run.same.Tie as tie
 
-same-states-requires : tie.Need-same-states-requires
-same-states-requires c κs = search needs
-
 returns : tie.Need-returns
 returns c = same-no _ _ (sym (c .before .same-states .ensures) ∙ not-true (c .before .same-states .result) (c .if1 .taken))
 
-same-steps-requires : tie.Need-same-steps-requires
-same-steps-requires c κs = search needs
-
 returns-2 : tie.Need-returns-2
 returns-2 c = same-no-steps _ _ (sym (c .before .same-steps .ensures) ∙ not-true (c .before .same-steps .result) (c .if2 .taken))
-
-same-words-requires : tie.Need-same-words-requires
-same-words-requires c κs = search needs
 
 returns-3 : tie.Need-returns-3
 returns-3 c = same-yes _ _ _ (sym (c .before .before .before .before .before .before .before .before .before .before .same-states .ensures) ∙ not-false (c .before .before .before .before .before .before .before .before .before .before .same-states .result) (c .before .before .before .before .before .before .before .before .before .if1 .left)) (sym (c .before .before .before .before .before .before .before .before .same-steps .ensures) ∙ not-false (c .before .before .before .before .before .before .before .before .same-steps .result) (c .before .before .before .before .before .before .before .if2 .left)) (c .same-words .ensures)
@@ -28,9 +19,9 @@ pub same-spec : {M : Type 1} → statement M
 same-spec =
     tie.close
     (tie.spec
-    same-states-requires
+    (λ c κs. search needs)
     returns
-    same-steps-requires
+    (λ c κs. search needs)
     returns-2
-    same-words-requires
+    (λ c κs. search needs)
     returns-3)

@@ -6,17 +6,15 @@ use mathlib.Core.Path.{_∙_, sym}
 use Rattle.ledger.proofs.Run.same_states.Statement.{statement}
 use Rattle.ledger.proofs.Run.same_states.Tie as tie
 
-same-bytes-requires : tie.Need-same-bytes-requires
-same-bytes-requires c κs = search needs
-
 returns : tie.Need-returns
 returns c = states-no _ _ (sym (c .before .same-bytes .ensures) ∙ not-true (c .before .same-bytes .result) (c .if1 .taken))
-
-same-bytes-requires-2 : tie.Need-same-bytes-requires-2
-same-bytes-requires-2 c κs = search needs
 
 returns-2 : tie.Need-returns-2
 returns-2 c = states-yes _ _ _ (sym (c .before .before .before .before .before .before .same-bytes .ensures) ∙ not-false (c .before .before .before .before .before .before .same-bytes .result) (c .before .before .before .before .before .if1 .left)) (c .same-bytes2 .ensures)
 
 pub same-states-spec : {M : Type 1} → statement M
-same-states-spec = tie.close (tie.spec same-bytes-requires returns same-bytes-requires-2 returns-2)
+same-states-spec = tie.close (tie.spec
+    (λ c κs. search needs)
+    returns
+    (λ c κs. search needs)
+    returns-2)

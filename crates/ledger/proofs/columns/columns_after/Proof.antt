@@ -21,29 +21,8 @@ loop-holds : tie.Need-loop-holds Inv-loop μ-loop
 unfolding filled
 loop-holds c = (omega arith, refl)
 
-mul-t : tie.Need-mul-t Inv-loop μ-loop
-mul-t c = search needs
-
-array-read-t : tie.Need-array-read-t Inv-loop μ-loop
-array-read-t c = search needs
-
-gain-of-requires : tie.Need-gain-of-requires Inv-loop μ-loop
-gain-of-requires c κs = search needs
-
 add-t : tie.Need-add-t Inv-loop μ-loop
 add-t c = omega (arith, filled-still _ _ _ _ (c .before .before .loop .inv .1), c .gain-of .ensures, gain-small _ (c .before .before .before .before .before .before .pre .0) _ (c .before .before .before .before .before .before .pre .1) (c .before .before .loop .k), c .before .before .before .before .before .before .pre .2 (c .before .before .loop .k) (omega arith))
-
-mul-t-2 : tie.Need-mul-t-2 Inv-loop μ-loop
-mul-t-2 c = search needs
-
-array-write-t : tie.Need-array-write-t Inv-loop μ-loop
-array-write-t c = search needs
-
-add-k : tie.Need-add-k Inv-loop μ-loop
-add-k c = search needs
-
-loop-less : tie.Need-loop-less Inv-loop μ-loop
-loop-less c = search needs
 
 loop-again : tie.Need-loop-again Inv-loop μ-loop
 loop-again c = (omega arith, filled-next _ _ _ _ _ (c .before .before .loop .inv .1) (ap₂ (λ (x y : ℕ). x + y) (filled-still _ _ _ _ (c .before .before .loop .inv .1)) (c .gain-of .ensures)))
@@ -59,13 +38,13 @@ columns-after-spec =
     Inv-loop
     μ-loop
     loop-holds
-    mul-t
-    array-read-t
-    gain-of-requires
+    (λ c. search needs)
+    (λ c. search needs)
+    (λ c κs. search needs)
     add-t
-    mul-t-2
-    array-write-t
-    add-k
-    loop-less
+    (λ c. search needs)
+    (λ c. search needs)
+    (λ c. search needs)
+    (λ c. search needs)
     loop-again
     returns)

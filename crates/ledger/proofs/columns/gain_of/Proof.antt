@@ -6,20 +6,11 @@ use native.Mathlib.Omega.{arith}
 use Rattle.ledger.proofs.columns.gain_of.Statement.{statement}
 use Rattle.ledger.proofs.columns.gain_of.Tie as tie
 
-cast-if1 : tie.Need-cast-if1
-cast-if1 c = search needs
-
 cast-share-at : tie.Need-cast-share-at
 cast-share-at c = omega (arith, c .before .before .before .before .before .pre .0 .maps .1)
 
-share-at-requires : tie.Need-share-at-requires
-share-at-requires c κs = search needs
-
 returns : tie.Need-returns
 returns c = c .share-at .ensures ∙ sym (gain-map _ _ _ (c .before .if1 .taken))
-
-rest-of-requires : tie.Need-rest-of-requires
-rest-of-requires c κs = search needs
 
 returns-2 : tie.Need-returns-2
 returns-2 c = c .rest-of .ensures ∙ sym (gain-rest _ _ _ (c .before .before .if1 .left) (c .before .if2 .taken))
@@ -31,10 +22,10 @@ pub gain-of-spec : {M : Type 1} → statement M
 gain-of-spec =
     tie.close
     (tie.spec
-    cast-if1
+    (λ c. search needs)
     cast-share-at
-    share-at-requires
+    (λ c κs. search needs)
     returns
-    rest-of-requires
+    (λ c κs. search needs)
     returns-2
     returns-3)

@@ -18,23 +18,11 @@ abbrev μ-loop : tie.MeasureT-loop
 loop-holds : tie.Need-loop-holds Inv-loop μ-loop
 loop-holds c = (omega arith, refl)
 
-share-at-requires : tie.Need-share-at-requires Inv-loop μ-loop
-share-at-requires c κs = search needs
-
 add-shared : tie.Need-add-shared Inv-loop μ-loop
 add-shared c = omega (arith, c .share-at .ensures, c .before .before .loop .inv .1, shares-fit _ (c .before .before .before .before .before .before .pre .0) _ (c .before .before .before .before .before .before .pre .1) (c .before .before .loop .m) (omega arith), c .before .before .before .before .before .before .pre .0 .costs _ (c .before .before .before .before .before .before .pre .1))
 
-add-m : tie.Need-add-m Inv-loop μ-loop
-add-m c = search needs
-
-loop-less : tie.Need-loop-less Inv-loop μ-loop
-loop-less c = search needs
-
 loop-again : tie.Need-loop-again Inv-loop μ-loop
 loop-again c = (omega arith, sum-more _ (c .before .before .loop .m) _ _ (c .before .before .loop .inv .1) (c .share-at .ensures))
-
-cost-at-requires : tie.Need-cost-at-requires Inv-loop μ-loop
-cost-at-requires c κs = search needs
 
 sub-result : tie.Need-sub-result Inv-loop μ-loop
 sub-result c = omega (arith, c .cost-at .ensures, sum-end _ (c .before .before .before .before .before .before .args .c .maps) (c .before .before .loop .m) _ (c .before .before .loop .inv .1) (omega arith) (omega arith), c .before .before .before .before .before .before .pre .0 .split _ (c .before .before .before .before .before .before .pre .1))
@@ -49,11 +37,11 @@ rest-of-spec =
     Inv-loop
     μ-loop
     loop-holds
-    share-at-requires
+    (λ c κs. search needs)
     add-shared
-    add-m
-    loop-less
+    (λ c. search needs)
+    (λ c. search needs)
     loop-again
-    cost-at-requires
+    (λ c κs. search needs)
     sub-result
     returns)

@@ -5,12 +5,11 @@ use borrow.Author.Needs.{needs}
 use Rattle.ledger.proofs.starts.start_from.Statement.{statement}
 use Rattle.ledger.proofs.starts.start_from.Tie as tie
 
-copy-requires : tie.Need-copy-requires
-copy-requires c κs = search needs
-
 returns : tie.Need-returns
 unfolding startFrom copied
 returns c = c .copy .ensures
 
 pub start-from-spec : {M : Type 1} → statement M
-start-from-spec = tie.close (tie.spec copy-requires returns)
+start-from-spec = tie.close (tie.spec
+    (λ c κs. search needs)
+    returns)

@@ -20,24 +20,9 @@ abbrev μ-loop : tie.MeasureT-loop
 loop-holds : tie.Need-loop-holds Inv-loop μ-loop
 loop-holds c = (omega arith, refl)
 
-cast-start-at : tie.Need-cast-start-at Inv-loop μ-loop
-cast-start-at c = search needs
-
-array-read-start-at : tie.Need-array-read-start-at Inv-loop μ-loop
-array-read-start-at c = search needs
-
-start-at-requires : tie.Need-start-at-requires Inv-loop μ-loop
-start-at-requires c κs = search needs
-
 returns : tie.Need-returns Inv-loop μ-loop
 unfolding startIn
 returns c = sym (every-false (startsAt (c .before .before .before .before .before .args .c) (c .before .before .before .before .before .args .facts .now) (c .before .before .before .before .before .args .t3)) 8 (c .before .before .before .loop .v) (omega arith) (sym (c .before .start-at .ensures) ∙ not-true (c .before .start-at .result) (c .if1 .taken)))
-
-add-v : tie.Need-add-v Inv-loop μ-loop
-add-v c = search needs
-
-loop-less : tie.Need-loop-less Inv-loop μ-loop
-loop-less c = search needs
 
 loop-again : tie.Need-loop-again Inv-loop μ-loop
 loop-again c = (omega arith, every-more (startsAt (c .before .before .before .before .before .args .c) (c .before .before .before .before .before .args .facts .now) (c .before .before .before .before .before .args .t3)) (c .before .before .before .loop .v) (c .before .before .before .loop .inv .1) (sym (c .before .start-at .ensures) ∙ not-false (c .before .start-at .result) (c .if1 .left)))
@@ -53,11 +38,11 @@ start-in-spec =
     Inv-loop
     μ-loop
     loop-holds
-    cast-start-at
-    array-read-start-at
-    start-at-requires
+    (λ c. search needs)
+    (λ c. search needs)
+    (λ c κs. search needs)
     returns
-    add-v
-    loop-less
+    (λ c. search needs)
+    (λ c. search needs)
     loop-again
     returns-2)

@@ -10,4 +10,6 @@ returns-2 : tie.Need-returns-2
 returns-2 c = most-beyond (c .before .args .limit) (c .before .args .n) (c .if1 .left)
 
 pub at-most-spec : {M : Type 1} → statement M
-at-most-spec = tie.close (tie.spec returns returns-2)
+at-most-spec = tie.close (tie.spec
+    returns
+    returns-2)

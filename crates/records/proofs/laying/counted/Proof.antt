@@ -5,9 +5,6 @@ use Rattle.records.proofs.Laws.{at-most-limit}
 use Rattle.records.proofs.laying.counted.Statement.{statement}
 use Rattle.records.proofs.laying.counted.Tie as tie
 
-at-most-requires : tie.Need-at-most-requires
-at-most-requires c κs = search needs
-
 cast-ops : tie.Need-cast-ops
 cast-ops c = omega (arith, at-most-limit 65 (c .before .args .n), c .at-most .ensures)
 
@@ -15,4 +12,7 @@ returns : tie.Need-returns
 returns c = rw (c .at-most .ensures)
 
 pub counted-spec : {M : Type 1} → statement M
-counted-spec = tie.close (tie.spec at-most-requires cast-ops returns)
+counted-spec = tie.close (tie.spec
+    (λ c κs. search needs)
+    cast-ops
+    returns)

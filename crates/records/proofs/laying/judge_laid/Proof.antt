@@ -10,18 +10,6 @@ returns c =
     let a = c .before .before .before .before .args in
     judged-short (a .c) (a .room) (a .n) (a .t) (a .shares .now) (a .s .now) (a .ops .now) (c .if1 .taken)
 
-counted-requires : tie.Need-counted-requires
-counted-requires c κs = search needs
-
-slice-aggregate-judge : tie.Need-slice-aggregate-judge
-slice-aggregate-judge c = search needs
-
-slice-aggregate-judge-2 : tie.Need-slice-aggregate-judge-2
-slice-aggregate-judge-2 c = search needs
-
-judge-requires : tie.Need-judge-requires
-judge-requires c κs = search needs
-
 returns-2 : tie.Need-returns-2
 returns-2 c =
     let a = c .before .before .before .before .before .before .before .before .before .before .args in
@@ -33,8 +21,8 @@ judge-laid-spec =
     tie.close
     (tie.spec
     returns
-    counted-requires
-    slice-aggregate-judge
-    slice-aggregate-judge-2
-    judge-requires
+    (λ c κs. search needs)
+    (λ c. search needs)
+    (λ c. search needs)
+    (λ c κs. search needs)
     returns-2)

@@ -18,24 +18,6 @@ loop-holds : tie.Need-loop-holds Inv-loop μ-loop
 unfolding rowLaid
 loop-holds c = (omega arith, refl)
 
-array-read-laid : tie.Need-array-read-laid Inv-loop μ-loop
-array-read-laid c = search needs
-
-mul-laid : tie.Need-mul-laid Inv-loop μ-loop
-mul-laid c = search needs
-
-add-laid : tie.Need-add-laid Inv-loop μ-loop
-add-laid c = search needs
-
-array-write-laid : tie.Need-array-write-laid Inv-loop μ-loop
-array-write-laid c = search needs
-
-add-v : tie.Need-add-v Inv-loop μ-loop
-add-v c = search needs
-
-loop-less : tie.Need-loop-less Inv-loop μ-loop
-loop-less c = search needs
-
 loop-again : tie.Need-loop-again Inv-loop μ-loop
 loop-again c =
     let a = c .before .before .args in
@@ -55,11 +37,11 @@ with-row-spec =
     Inv-loop
     μ-loop
     loop-holds
-    array-read-laid
-    mul-laid
-    add-laid
-    array-write-laid
-    add-v
-    loop-less
+    (λ c. search needs)
+    (λ c. search needs)
+    (λ c. search needs)
+    (λ c. search needs)
+    (λ c. search needs)
+    (λ c. search needs)
     loop-again
     returns)

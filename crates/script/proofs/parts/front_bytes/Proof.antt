@@ -7,11 +7,8 @@ use Rattle.script.proofs.parts.front_bytes.Tie as tie
 slice-aggregate-result : tie.Need-slice-aggregate-result
 slice-aggregate-result c = simp (length-take-le, c .before .if1 .taken)
 
-returns : tie.Need-returns
-returns c = search needs
-
-returns-2 : tie.Need-returns-2
-returns-2 c = search needs
-
 pub front-bytes-spec : {M : Type 1} → statement M
-front-bytes-spec = tie.close (tie.spec slice-aggregate-result returns returns-2)
+front-bytes-spec = tie.close (tie.spec
+    slice-aggregate-result
+    (λ c. search needs)
+    (λ c. search needs))

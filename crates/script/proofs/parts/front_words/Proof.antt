@@ -7,11 +7,8 @@ use Rattle.script.proofs.parts.front_words.Tie as tie
 slice-aggregate-result : tie.Need-slice-aggregate-result
 slice-aggregate-result c = simp (length-take-le, c .before .if1 .taken)
 
-returns : tie.Need-returns
-returns c = search needs
-
-returns-2 : tie.Need-returns-2
-returns-2 c = search needs
-
 pub front-words-spec : {M : Type 1} → statement M
-front-words-spec = tie.close (tie.spec slice-aggregate-result returns returns-2)
+front-words-spec = tie.close (tie.spec
+    slice-aggregate-result
+    (λ c. search needs)
+    (λ c. search needs))

@@ -6,19 +6,10 @@ use Rattle.sequences.proofs.Accepted.{usable, chosen-clean, chosen-faul
 use Rattle.sequences.proofs.choosing.choice_of.Statement.{statement}
 use Rattle.sequences.proofs.choosing.choice_of.Tie as tie
 
-input-fault-requires : tie.Need-input-fault-requires
-input-fault-requires c κs = search needs
-
-enum-told : tie.Need-enum-told
-enum-told c = search needs
-
 choose-lists-requires : tie.Need-choose-lists-requires
 choose-lists-requires c κs =
     let a = c .before .before .before .before .before .before .before .before .before .args in
     usable (tables (a .c) (a .facts .now) (a .costs .now) (a .shares .now)) (a .s .now) (c .before .before .input-fault .result) (c .before .before .input-fault .ensures) (c .enum-told .given .1)
-
-enum-known-f : tie.Need-enum-known-f
-enum-known-f c = search needs
 
 returns : tie.Need-returns
 returns c =
@@ -34,4 +25,10 @@ returns-2 c =
 pub choice-of-spec : {M : Type 1} → statement M
 choice-of-spec =
     tie.close
-    (tie.spec input-fault-requires enum-told choose-lists-requires enum-known-f returns returns-2)
+    (tie.spec
+    (λ c κs. search needs)
+    (λ c. search needs)
+    choose-lists-requires
+    (λ c. search needs)
+    returns
+    returns-2)

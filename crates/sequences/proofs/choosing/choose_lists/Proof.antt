@@ -9,18 +9,6 @@ use Rattle.sequences.proofs.Laws.{reachedOf-same, same-copied}
 use Rattle.sequences.proofs.choosing.choose_lists.Statement.{statement}
 use Rattle.sequences.proofs.choosing.choose_lists.Tie as tie
 
-copy-requires : tie.Need-copy-requires
-copy-requires c κs = search needs
-
-reach-within-requires : tie.Need-reach-within-requires
-reach-within-requires c κs = search needs
-
-reach-within-requires-2 : tie.Need-reach-within-requires-2
-reach-within-requires-2 c κs = search needs
-
-choose-requires : tie.Need-choose-requires
-choose-requires c κs = search needs
-
 returns : tie.Need-returns
 returns c =
     let a = c .before .before .before .before .before .before .before .before .before .args in
@@ -33,4 +21,9 @@ returns c =
 pub choose-lists-spec : {M : Type 1} → statement M
 choose-lists-spec =
     tie.close
-    (tie.spec copy-requires reach-within-requires reach-within-requires-2 choose-requires returns)
+    (tie.spec
+    (λ c κs. search needs)
+    (λ c κs. search needs)
+    (λ c κs. search needs)
+    (λ c κs. search needs)
+    returns)

@@ -11,11 +11,11 @@ use Rattle.sequences.proofs.choosing.front.Tie as tie
 slice-aggregate-result : tie.Need-slice-aggregate-result
 slice-aggregate-result c = simp (length-take-le, c .before .if1 .taken)
 
-returns : tie.Need-returns
-returns c = search needs
-
 returns-2 : tie.Need-returns-2
 returns-2 c = let h : length (c .before .args .a .now) ≤ c .before .args .n = omega arith in record { place = refl; items = sym (take-all _ _ h) }
 
 pub front-spec : {M : Type 1} → statement M
-front-spec = tie.close (tie.spec slice-aggregate-result returns returns-2)
+front-spec = tie.close (tie.spec
+    slice-aggregate-result
+    (λ c. search needs)
+    returns-2)

@@ -7,7 +7,8 @@ use lib.ListN.{length, drop, getD}
 use borrow.Author.Needs.{needs}
 use Rattle.tables.specs.Task.{stateOf}
 use Rattle.sequences.specs.Choosing.{reachedFrom}
-use Rattle.sequences.specs.Stepping.{sas, steps}
+use Rattle.sequences.specs.Stepping.{sas}
+use Rattle.meaning.specs.Limits.{mostSteps}
 use Rattle.sequences.proofs.Laws.{Along, goal-said, taken-exists, turn, along-on, reached-on, reached-refused, reached-goal, reached-end}
 use Rattle.sequences.proofs.choosing.reach.Statement.{statement}
 use Rattle.sequences.proofs.choosing.reach.Tie as tie
@@ -24,29 +25,14 @@ loop-holds c = (record { inside = omega arith; size = search needs; paid = omega
 slice-aggregate-meets-goal : tie.Need-slice-aggregate-meets-goal Inv-loop μ-loop
 slice-aggregate-meets-goal c = sym (c .before .before .loop .inv .0 .size)
 
-meets-goal-requires : tie.Need-meets-goal-requires Inv-loop μ-loop
-meets-goal-requires c κs = search needs
-
 returns : tie.Need-returns Inv-loop μ-loop
 returns c =
     let a = c .before .before .before .before .before .before .before .before .args in
     let l = c .before .before .before .before .loop in
     sym (l .inv .1 ∙ reached-goal (sas (a .c) (a .facts .now) (a .costs .now)) (l .i) (l .paid) (stateOf (l .s)) (drop (l .i) (a .ops .now)) (goal-said (a .c) (a .facts .now) (a .costs .now) (l .s) (c .before .meets-goal .result) true (c .before .meets-goal .ensures) (c .if1 .taken)))
 
-mul-o : tie.Need-mul-o Inv-loop μ-loop
-mul-o c = search needs
-
-shared-slice-read-o : tie.Need-shared-slice-read-o Inv-loop μ-loop
-shared-slice-read-o c = search needs
-
 slice-aggregate-step : tie.Need-slice-aggregate-step Inv-loop μ-loop
 slice-aggregate-step c = sym (c .before .before .before .before .before .before .loop .inv .0 .size)
-
-step-requires : tie.Need-step-requires Inv-loop μ-loop
-step-requires c κs = search needs
-
-enum-known-m : tie.Need-enum-known-m Inv-loop μ-loop
-enum-known-m c = search needs
 
 returns-2 : tie.Need-returns-2 Inv-loop μ-loop
 returns-2 c =
@@ -62,19 +48,13 @@ state-after-requires c κs =
     (search needs, taken-exists (a .c) (a .facts .now) (a .costs .now) (c .before .before .before .before .before .before .before .before .before .before .before .before .before .before .pre .0) (c .before .before .before .step .result) (stateOf (l .s)) (getD (a .ops .now) (l .i) 0) (c .before .m .given .0 .0) (c .before .before .before .step .ensures) (c .before .m .given .1))
 
 add-paid : tie.Need-add-paid Inv-loop μ-loop
-unfolding steps
+unfolding mostSteps
 add-paid c =
     let a = c .before .before .before .before .before .before .before .before .before .before .before .before .before .before .before .args in
     let l = c .before .before .before .before .before .before .before .before .before .before .before .loop in
     let o : ℕ = getD (a .ops .now) (l .i) 0 in
     let k = turn (a .c) (a .facts .now) (a .costs .now) (c .before .before .before .before .before .before .before .before .before .before .before .before .before .before .before .pre .0) (c .before .before .before .before .step .result) (l .s) (c .state-after .result) o (c .before .before .m .given .0 .0) (l .inv .0 .size) (c .before .before .before .before .step .ensures) (c .before .before .m .given .1) (c .state-after .ensures) in
     omega (arith, k .cost, l .inv .0 .paid, c .before .before .before .before .before .before .before .before .before .before .before .before .before .before .before .pre .1, c .before .before .before .before .before .before .before .before .before .before .loop-test .taken)
-
-add-i : tie.Need-add-i Inv-loop μ-loop
-add-i c = search needs
-
-loop-less : tie.Need-loop-less Inv-loop μ-loop
-loop-less c = search needs
 
 loop-again : tie.Need-loop-again Inv-loop μ-loop
 loop-again c =
@@ -88,9 +68,6 @@ loop-again c =
 
 slice-aggregate-meets-goal-2 : tie.Need-slice-aggregate-meets-goal-2 Inv-loop μ-loop
 slice-aggregate-meets-goal-2 c = sym (c .before .before .loop .inv .0 .size)
-
-meets-goal-requires-2 : tie.Need-meets-goal-requires-2 Inv-loop μ-loop
-meets-goal-requires-2 c κs = search needs
 
 returns-3 : tie.Need-returns-3 Inv-loop μ-loop
 returns-3 c =
@@ -112,20 +89,20 @@ reach-spec =
     μ-loop
     loop-holds
     slice-aggregate-meets-goal
-    meets-goal-requires
+    (λ c κs. search needs)
     returns
-    mul-o
-    shared-slice-read-o
+    (λ c. search needs)
+    (λ c. search needs)
     slice-aggregate-step
-    step-requires
-    enum-known-m
+    (λ c κs. search needs)
+    (λ c. search needs)
     returns-2
     state-after-requires
     add-paid
-    add-i
-    loop-less
+    (λ c. search needs)
+    (λ c. search needs)
     loop-again
     slice-aggregate-meets-goal-2
-    meets-goal-requires-2
+    (λ c κs. search needs)
     returns-3
     returns-4)

@@ -4,24 +4,22 @@ use native.Mathlib.Omega.{arith}
 use borrow.Author.Needs.{needs}
 use Rattle.meaning.specs.Sas.{Sas}
 use Rattle.tables.specs.Task.{stateOf}
-use Rattle.sequences.specs.Stepping.{sas, steps}
+use Rattle.sequences.specs.Stepping.{sas}
+use Rattle.meaning.specs.Limits.{mostSteps}
 use Rattle.sequences.proofs.Laws.{limited-within, limited-above, same-copied}
 use Rattle.sequences.proofs.judging.judge_list.Statement.{statement}
 use Rattle.sequences.proofs.judging.judge_list.Tie as tie
 
 returns : tie.Need-returns
-unfolding steps
+unfolding mostSteps
 returns c = let a = c .before .before .before .before .before .args in limited-above (sas (a .c) (a .facts .now) (a .costs .now)) (stateOf (a .s .now)) (a .ops .now) (omega (arith, c .if1 .taken))
 
-copy-requires : tie.Need-copy-requires
-copy-requires c κs = search needs
-
 walk-requires : tie.Need-walk-requires
-unfolding steps
+unfolding mostSteps
 walk-requires c κs = (c .before .before .before .before .before .before .pre, c .before .if1 .left)
 
 returns-2 : tie.Need-returns-2
-unfolding steps
+unfolding mostSteps
 returns-2 c =
     let a = c .before .before .before .before .before .before .before .args in
     let S : Sas = sas (a .c) (a .facts .now) (a .costs .now) in
@@ -29,4 +27,8 @@ returns-2 c =
     ∙ limited-within S (stateOf (a .s .now)) (stateOf (c .before .copy .result)) (a .ops .now) (same-copied S (a .s .now) (c .before .copy .result) (c .before .before .before .before .before .before .before .pre) (c .before .copy .ensures)) (c .before .before .if1 .left)
 
 pub judge-list-spec : {M : Type 1} → statement M
-judge-list-spec = tie.close (tie.spec returns copy-requires walk-requires returns-2)
+judge-list-spec = tie.close (tie.spec
+    returns
+    (λ c κs. search needs)
+    walk-requires
+    returns-2)

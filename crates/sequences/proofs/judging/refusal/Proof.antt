@@ -3,15 +3,6 @@ use borrow.Author.Needs.{needs}
 use Rattle.sequences.proofs.judging.refusal.Statement.{statement}
 use Rattle.sequences.proofs.judging.refusal.Tie as tie
 
-enum-known-m : tie.Need-enum-known-m
-enum-known-m c = search needs
-
-enum-told : tie.Need-enum-told
-enum-told c = search needs
-
-enum-told-2 : tie.Need-enum-told-2
-enum-told-2 c = search needs
-
 returns : tie.Need-returns
 returns c = rw (c .before .m .given .1)
 
@@ -22,4 +13,10 @@ returns-3 : tie.Need-returns-3
 returns-3 c = rw (c .enum-told2 .given .1)
 
 pub refusal-spec : {M : Type 1} → statement M
-refusal-spec = tie.close (tie.spec enum-known-m enum-told enum-told-2 returns returns-2 returns-3)
+refusal-spec = tie.close (tie.spec
+    (λ c. search needs)
+    (λ c. search needs)
+    (λ c. search needs)
+    returns
+    returns-2
+    returns-3)

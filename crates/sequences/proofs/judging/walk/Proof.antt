@@ -9,7 +9,8 @@ use Rattle.refusals.specs.declared.Refusal.the-variants.{NoGoal}
 use Rattle.tables.specs.Task.{stateOf}
 use Rattle.sequences.specs.declared.judging.Judged.the-variants.{Passed, Refused}
 use Rattle.sequences.specs.Judging.{walked}
-use Rattle.sequences.specs.Stepping.{sas, steps}
+use Rattle.sequences.specs.Stepping.{sas}
+use Rattle.meaning.specs.Limits.{mostSteps}
 use Rattle.sequences.proofs.Laws.{Along, goal-said, taken-exists, turn, along-on, walked-on, walked-refused, walked-end}
 use Rattle.sequences.proofs.judging.walk.Statement.{statement}
 use Rattle.sequences.proofs.judging.walk.Tie as tie
@@ -23,30 +24,12 @@ abbrev μ-loop : tie.MeasureT-loop
 loop-holds : tie.Need-loop-holds Inv-loop μ-loop
 loop-holds c = (record { inside = omega arith; size = search needs; paid = omega arith }, refl)
 
-mul-o : tie.Need-mul-o Inv-loop μ-loop
-mul-o c = search needs
-
-shared-slice-read-o : tie.Need-shared-slice-read-o Inv-loop μ-loop
-shared-slice-read-o c = search needs
-
 slice-aggregate-step : tie.Need-slice-aggregate-step Inv-loop μ-loop
 slice-aggregate-step c = sym (c .before .before .before .loop .inv .0 .size)
 
-step-requires : tie.Need-step-requires Inv-loop μ-loop
-step-requires c κs = search needs
-
-enum-known-m : tie.Need-enum-known-m Inv-loop μ-loop
-enum-known-m c = search needs
-
-add-refusal : tie.Need-add-refusal Inv-loop μ-loop
-add-refusal c = search needs
-
 cast-refusal : tie.Need-cast-refusal Inv-loop μ-loop
-unfolding steps
+unfolding mostSteps
 cast-refusal c = omega (arith, c .before .before .before .before .before .before .before .before .before .pre .1)
-
-refusal-requires : tie.Need-refusal-requires Inv-loop μ-loop
-refusal-requires c κs = search needs
 
 returns : tie.Need-returns Inv-loop μ-loop
 returns c =
@@ -63,19 +46,13 @@ state-after-requires c κs =
     (search needs, taken-exists (a .c) (a .facts .now) (a .costs .now) (c .before .before .before .before .before .before .before .before .before .before .before .pre .0) (c .before .before .before .step .result) (stateOf (l .s)) (getD (a .ops .now) (l .i) 0) (c .before .m .given .0 .0) (c .before .before .before .step .ensures) (c .before .m .given .1))
 
 add-paid : tie.Need-add-paid Inv-loop μ-loop
-unfolding steps
+unfolding mostSteps
 add-paid c =
     let a = c .before .before .before .before .before .before .before .before .before .before .before .before .args in
     let l = c .before .before .before .before .before .before .before .before .loop in
     let o : ℕ = getD (a .ops .now) (l .i) 0 in
     let k = turn (a .c) (a .facts .now) (a .costs .now) (c .before .before .before .before .before .before .before .before .before .before .before .before .pre .0) (c .before .before .before .before .step .result) (l .s) (c .state-after .result) o (c .before .before .m .given .0 .0) (l .inv .0 .size) (c .before .before .before .before .step .ensures) (c .before .before .m .given .1) (c .state-after .ensures) in
     omega (arith, k .cost, l .inv .0 .paid, c .before .before .before .before .before .before .before .before .before .before .before .before .pre .1, c .before .before .before .before .before .before .before .loop-test .taken)
-
-add-i : tie.Need-add-i Inv-loop μ-loop
-add-i c = search needs
-
-loop-less : tie.Need-loop-less Inv-loop μ-loop
-loop-less c = search needs
 
 loop-again : tie.Need-loop-again Inv-loop μ-loop
 loop-again c =
@@ -90,9 +67,6 @@ loop-again c =
 slice-aggregate-meets-goal : tie.Need-slice-aggregate-meets-goal Inv-loop μ-loop
 slice-aggregate-meets-goal c = sym (c .before .before .loop .inv .0 .size)
 
-meets-goal-requires : tie.Need-meets-goal-requires Inv-loop μ-loop
-meets-goal-requires c κs = search needs
-
 returns-2 : tie.Need-returns-2 Inv-loop μ-loop
 returns-2 c =
     let a = c .before .before .before .before .before .before .before .before .args in
@@ -101,7 +75,7 @@ returns-2 c =
     ∙ ap (λ (b : Bool). cond b (Passed (l .paid)) (Refused (NoGoal (l .i)))) (goal-said (a .c) (a .facts .now) (a .costs .now) (l .s) (c .before .meets-goal .result) true (c .before .meets-goal .ensures) (c .if1 .taken)))
 
 cast-t26 : tie.Need-cast-t26 Inv-loop μ-loop
-unfolding steps
+unfolding mostSteps
 cast-t26 c = omega (arith, c .before .before .before .before .before .before .before .before .pre .1)
 
 returns-3 : tie.Need-returns-3 Inv-loop μ-loop
@@ -118,22 +92,22 @@ walk-spec =
     Inv-loop
     μ-loop
     loop-holds
-    mul-o
-    shared-slice-read-o
+    (λ c. search needs)
+    (λ c. search needs)
     slice-aggregate-step
-    step-requires
-    enum-known-m
-    add-refusal
+    (λ c κs. search needs)
+    (λ c. search needs)
+    (λ c. search needs)
     cast-refusal
-    refusal-requires
+    (λ c κs. search needs)
     returns
     state-after-requires
     add-paid
-    add-i
-    loop-less
+    (λ c. search needs)
+    (λ c. search needs)
     loop-again
     slice-aggregate-meets-goal
-    meets-goal-requires
+    (λ c κs. search needs)
     returns-2
     cast-t26
     returns-3)

@@ -21,18 +21,6 @@ loop-holds : tie.Need-loop-holds Inv-loop μ-loop
 unfolding filled
 loop-holds c = (omega arith, refl)
 
-byte-at-requires : tie.Need-byte-at-requires Inv-loop μ-loop
-byte-at-requires c κs = search needs
-
-array-write-t : tie.Need-array-write-t Inv-loop μ-loop
-array-write-t c = search needs
-
-add-v : tie.Need-add-v Inv-loop μ-loop
-add-v c = search needs
-
-loop-less : tie.Need-loop-less Inv-loop μ-loop
-loop-less c = search needs
-
 loop-again : tie.Need-loop-again Inv-loop μ-loop
 loop-again c = (omega arith, filled-next (stateOf (c .before .before .before .before .args .s .now)) (replicate 8 0) (c .before .before .loop .t) (c .before .before .loop .v) (c .byte-at .result) (c .before .before .loop .inv .1) (c .byte-at .ensures))
 
@@ -47,9 +35,9 @@ copy-spec =
     Inv-loop
     μ-loop
     loop-holds
-    byte-at-requires
-    array-write-t
-    add-v
-    loop-less
+    (λ c κs. search needs)
+    (λ c. search needs)
+    (λ c. search needs)
+    (λ c. search needs)
     loop-again
     returns)

@@ -9,12 +9,6 @@ use Rattle.sequences.specs.Stepping.{stepOf}
 use Rattle.sequences.proofs.stepping.step.Statement.{statement}
 use Rattle.sequences.proofs.stepping.step.Tie as tie
 
-may-run-requires : tie.Need-may-run-requires
-may-run-requires c κs = search needs
-
-cost-at-requires : tie.Need-cost-at-requires
-cost-at-requires c κs = search needs
-
 returns : tie.Need-returns
 unfolding stepOf
 returns c = let a = c .before .before .before .before .before .before .before .before .before .args in simp (lt-ltb _ _ (c .before .before .before .if1 .taken), sym (may-run-is (tables (a .c) (a .facts .now) (a .costs .now) []) (a .s .now) (a .o .0)) ∙ sym (c .before .before .may-run .ensures) ∙ c .before .if2 .taken, c .cost-at .ensures)
@@ -28,4 +22,9 @@ unfolding stepOf
 returns-3 c = simp (le-ltb _ _ (c .if1 .left))
 
 pub step-spec : {M : Type 1} → statement M
-step-spec = tie.close (tie.spec may-run-requires cost-at-requires returns returns-2 returns-3)
+step-spec = tie.close (tie.spec
+    (λ c κs. search needs)
+    (λ c κs. search needs)
+    returns
+    returns-2
+    returns-3)

@@ -6,12 +6,6 @@ use Rattle.sweep.proofs.Classing.{class-below, count-is, count-byte}
 use Rattle.sweep.proofs.classes.class_count.Statement.{statement}
 use Rattle.sweep.proofs.classes.class_count.Tie as tie
 
-row-at-requires : tie.Need-row-at-requires
-row-at-requires c κs = search needs
-
-wide-requires : tie.Need-wide-requires
-wide-requires c κs = search needs
-
 class-row-requires : tie.Need-class-row-requires
 class-row-requires c κs =
     let pre = c .before .before .before .pre in
@@ -48,8 +42,8 @@ pub class-count-spec : {M : Type 1} → statement M
 class-count-spec =
     tie.close
     (tie.spec
-    row-at-requires
-    wide-requires
+    (λ c κs. search needs)
+    (λ c κs. search needs)
     class-row-requires
     count-of-requires
     cast-result

@@ -30,19 +30,10 @@ class-count-requires c κs =
     let pre = c .before .before .before .before .pre in
     (pre .0, pre .1, c .loop-test .taken)
 
-cast-t : tie.Need-cast-t Inv-loop μ-loop
-cast-t c = search needs
-
 array-write-t : tie.Need-array-write-t Inv-loop μ-loop
 array-write-t c =
     let pre = c .before .before .before .before .before .pre in
     omega (arith, c .before .loop-test .taken, pre .0 .vars .1)
-
-add-v : tie.Need-add-v Inv-loop μ-loop
-add-v c = search needs
-
-loop-less : tie.Need-loop-less Inv-loop μ-loop
-loop-less c = search needs
 
 loop-again : tie.Need-loop-again Inv-loop μ-loop
 loop-again c =
@@ -70,9 +61,9 @@ class-facts-spec =
     seen-facts-requires
     loop-holds
     class-count-requires
-    cast-t
+    (λ c. search needs)
     array-write-t
-    add-v
-    loop-less
+    (λ c. search needs)
+    (λ c. search needs)
     loop-again
     returns)

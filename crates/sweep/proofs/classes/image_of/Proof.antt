@@ -30,21 +30,6 @@ class-row-requires c κs =
     let pre = c .before .before .before .before .pre in
     (omega (arith, pre .1, pre .0 .maps .1), omega (arith, c .loop-test .taken, pre .0 .vars .1))
 
-cast-byte-at : tie.Need-cast-byte-at Inv-loop μ-loop
-cast-byte-at c = search needs
-
-byte-at-requires : tie.Need-byte-at-requires Inv-loop μ-loop
-byte-at-requires c κs = search needs
-
-wide-requires : tie.Need-wide-requires Inv-loop μ-loop
-wide-requires c κs = search needs
-
-row-at-requires : tie.Need-row-at-requires Inv-loop μ-loop
-row-at-requires c κs = search needs
-
-wide-requires-2 : tie.Need-wide-requires-2 Inv-loop μ-loop
-wide-requires-2 c κs = search needs
-
 add-b : tie.Need-add-b Inv-loop μ-loop
 add-b c =
     let pre = c .before .before .before .before .before .before .before .before .before .pre in
@@ -63,15 +48,6 @@ class-count-requires c κs =
     let pre = c .before .before .before .before .before .before .before .before .before .pre in
     let loop-test = c .before .before .before .before .before .loop-test in
     (pre .0, pre .1, loop-test .taken)
-
-wide-requires-3 : tie.Need-wide-requires-3 Inv-loop μ-loop
-wide-requires-3 c κs = search needs
-
-add-v : tie.Need-add-v Inv-loop μ-loop
-add-v c = search needs
-
-loop-less : tie.Need-loop-less Inv-loop μ-loop
-loop-less c = search needs
 
 loop-again : tie.Need-loop-again Inv-loop μ-loop
 loop-again c =
@@ -114,17 +90,17 @@ image-of-spec =
     μ-loop
     loop-holds
     class-row-requires
-    cast-byte-at
-    byte-at-requires
-    wide-requires
-    row-at-requires
-    wide-requires-2
+    (λ c. search needs)
+    (λ c κs. search needs)
+    (λ c κs. search needs)
+    (λ c κs. search needs)
+    (λ c κs. search needs)
     mul-b
     add-b
     class-count-requires
-    wide-requires-3
+    (λ c κs. search needs)
     mul-stride
-    add-v
-    loop-less
+    (λ c. search needs)
+    (λ c. search needs)
     loop-again
     returns)

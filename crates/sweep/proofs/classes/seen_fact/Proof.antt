@@ -13,21 +13,6 @@ returns c =
     let a = c .before .before .args in
     λ h. seen-nothing (classAt (a .facts .now) (a .m) (a .v)) (a .fact) (c .if1 .taken)
 
-class-row-requires : tie.Need-class-row-requires
-class-row-requires c κs = search needs
-
-sub-wide : tie.Need-sub-wide
-sub-wide c = search needs
-
-wide-requires : tie.Need-wide-requires
-wide-requires c κs = search needs
-
-row-at-requires : tie.Need-row-at-requires
-row-at-requires c κs = search needs
-
-add-result : tie.Need-add-result
-add-result c = search needs
-
 returns-2 : tie.Need-returns-2
 returns-2 c =
     let a = c .before .before .before .before .before .before .args in
@@ -52,10 +37,10 @@ seen-fact-spec =
     tie.close
     (tie.spec
     returns
-    class-row-requires
-    sub-wide
-    wide-requires
-    row-at-requires
-    add-result
+    (λ c κs. search needs)
+    (λ c. search needs)
+    (λ c κs. search needs)
+    (λ c κs. search needs)
+    (λ c. search needs)
     returns-2
     returns-3)

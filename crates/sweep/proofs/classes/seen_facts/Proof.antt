@@ -21,24 +21,6 @@ abbrev μ-loop : tie.MeasureT-loop
 loop-holds : tie.Need-loop-holds Inv-loop μ-loop
 loop-holds c = (omega arith, refl, made-none _ _)
 
-cast-seen-fact : tie.Need-cast-seen-fact Inv-loop μ-loop
-cast-seen-fact c = search needs
-
-byte-at-requires : tie.Need-byte-at-requires Inv-loop μ-loop
-byte-at-requires c κs = search needs
-
-seen-fact-requires : tie.Need-seen-fact-requires Inv-loop μ-loop
-seen-fact-requires c κs = search needs
-
-array-write-t : tie.Need-array-write-t Inv-loop μ-loop
-array-write-t c = search needs
-
-add-i : tie.Need-add-i Inv-loop μ-loop
-add-i c = search needs
-
-loop-less : tie.Need-loop-less Inv-loop μ-loop
-loop-less c = search needs
-
 loop-again : tie.Need-loop-again Inv-loop μ-loop
 loop-again c =
     let a = c .before .before .before .before .before .args in
@@ -60,11 +42,11 @@ seen-facts-spec =
     Inv-loop
     μ-loop
     loop-holds
-    cast-seen-fact
-    byte-at-requires
-    seen-fact-requires
-    array-write-t
-    add-i
-    loop-less
+    (λ c. search needs)
+    (λ c κs. search needs)
+    (λ c κs. search needs)
+    (λ c. search needs)
+    (λ c. search needs)
+    (λ c. search needs)
     loop-again
     returns)

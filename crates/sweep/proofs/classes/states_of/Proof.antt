@@ -18,12 +18,6 @@ abbrev μ-loop : tie.MeasureT-loop
 loop-holds : tie.Need-loop-holds Inv-loop μ-loop
 loop-holds c = (omega arith, refl)
 
-row-at-requires : tie.Need-row-at-requires Inv-loop μ-loop
-row-at-requires c κs = search needs
-
-wide-requires : tie.Need-wide-requires Inv-loop μ-loop
-wide-requires c κs = search needs
-
 mul-n : tie.Need-mul-n Inv-loop μ-loop
 mul-n c =
     let pre = c .before .before .before .before .before .pre in
@@ -35,12 +29,6 @@ mul-n c =
       product-small (domAt (a .facts .now)) (a .c .vars) (l .v) (l .n) (c .wide .result)
           (pre .values) (pre .few) (loop-test .taken) (l .inv .1) (c .wide .ensures .0 ∙ c .before .row-at .ensures),
     )
-
-add-v : tie.Need-add-v Inv-loop μ-loop
-add-v c = search needs
-
-loop-less : tie.Need-loop-less Inv-loop μ-loop
-loop-less c = search needs
 
 loop-again : tie.Need-loop-again Inv-loop μ-loop
 loop-again c =
@@ -62,10 +50,10 @@ states-of-spec =
     Inv-loop
     μ-loop
     loop-holds
-    row-at-requires
-    wide-requires
+    (λ c κs. search needs)
+    (λ c κs. search needs)
     mul-n
-    add-v
-    loop-less
+    (λ c. search needs)
+    (λ c. search needs)
     loop-again
     returns)

@@ -6,15 +6,6 @@ use Rattle.sweep.proofs.Viewing.{image-below, away-said, shares-priced}
 use Rattle.sweep.proofs.maps.away_of.Statement.{statement}
 use Rattle.sweep.proofs.maps.away_of.Tie as tie
 
-share-row-requires : tie.Need-share-row-requires
-share-row-requires c κs = search needs
-
-slice-aggregate-view-rounds : tie.Need-slice-aggregate-view-rounds
-slice-aggregate-view-rounds c = search needs
-
-slice-aggregate-view-rounds-2 : tie.Need-slice-aggregate-view-rounds-2
-slice-aggregate-view-rounds-2 c = search needs
-
 view-rounds-requires : tie.Need-view-rounds-requires
 view-rounds-requires c κs =
     let pre = c .before .before .before .before .before .before .pre in
@@ -26,12 +17,6 @@ image-of-requires : tie.Need-image-of-requires
 image-of-requires c κs =
     let pre = c .before .before .before .before .before .before .before .before .pre in
     (pre .0, pre .1, pre .3)
-
-state-index-requires : tie.Need-state-index-requires
-state-index-requires c κs = search needs
-
-mul-result : tie.Need-mul-result
-mul-result c = search needs
 
 array-read-result : tie.Need-array-read-result
 array-read-result c =
@@ -59,12 +44,12 @@ pub away-of-spec : {M : Type 1} → statement M
 away-of-spec =
     tie.close
     (tie.spec
-    share-row-requires
-    slice-aggregate-view-rounds
-    slice-aggregate-view-rounds-2
+    (λ c κs. search needs)
+    (λ c. search needs)
+    (λ c. search needs)
     view-rounds-requires
     image-of-requires
-    state-index-requires
-    mul-result
+    (λ c κs. search needs)
+    (λ c. search needs)
     array-read-result
     returns)

@@ -19,24 +19,6 @@ abbrev μ-loop : tie.MeasureT-loop
 loop-holds : tie.Need-loop-holds Inv-loop μ-loop
 loop-holds c = (omega arith, refl, made-none _ _)
 
-share-at-requires : tie.Need-share-at-requires Inv-loop μ-loop
-share-at-requires c κs = search needs
-
-cast-prices : tie.Need-cast-prices Inv-loop μ-loop
-cast-prices c = search needs
-
-mul-prices : tie.Need-mul-prices Inv-loop μ-loop
-mul-prices c = search needs
-
-array-write-prices : tie.Need-array-write-prices Inv-loop μ-loop
-array-write-prices c = search needs
-
-add-o : tie.Need-add-o Inv-loop μ-loop
-add-o c = search needs
-
-loop-less : tie.Need-loop-less Inv-loop μ-loop
-loop-less c = search needs
-
 loop-again : tie.Need-loop-again Inv-loop μ-loop
 loop-again c =
     let l = c .before .before .loop in
@@ -52,11 +34,11 @@ share-row-spec =
     Inv-loop
     μ-loop
     loop-holds
-    share-at-requires
-    cast-prices
-    mul-prices
-    array-write-prices
-    add-o
-    loop-less
+    (λ c κs. search needs)
+    (λ c. search needs)
+    (λ c. search needs)
+    (λ c. search needs)
+    (λ c. search needs)
+    (λ c. search needs)
     loop-again
     returns)

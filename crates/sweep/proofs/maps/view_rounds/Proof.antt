@@ -13,20 +13,11 @@ class-facts-requires c κs =
     let pre = c .before .before .before .pre in
     (pre .0, pre .1)
 
-slice-aggregate-states-of : tie.Need-slice-aggregate-states-of
-slice-aggregate-states-of c = search needs
-
 states-of-requires : tie.Need-states-of-requires
 states-of-requires c κs =
     let pre = c .before .before .before .before .before .pre in
     let a = c .before .before .before .before .before .args in
     classed-walkable (a .c) (a .facts .now) (a .map) (pre .0) (pre .1) (c .before .class-facts .result) (c .before .class-facts .ensures)
-
-slice-aggregate-count-rounds : tie.Need-slice-aggregate-count-rounds
-slice-aggregate-count-rounds c = search needs
-
-slice-aggregate-count-rounds-2 : tie.Need-slice-aggregate-count-rounds-2
-slice-aggregate-count-rounds-2 c = search needs
 
 count-rounds-requires : tie.Need-count-rounds-requires
 count-rounds-requires c κs =
@@ -36,9 +27,6 @@ count-rounds-requires c κs =
     let states-of = c .before .before .before .states-of in
     let w = classed-walkable (a .c) (a .facts .now) (a .map) (pre .0) (pre .1) (class-facts .result) (class-facts .ensures) in
     ((w, pre .2, states-of .ensures), (omega (arith, w .few, states-of .ensures, pre .3), omega (arith, w .few, states-of .ensures)))
-
-same-length : tie.Need-same-length
-same-length c = search needs
 
 returns : tie.Need-returns
 returns c =
@@ -55,10 +43,10 @@ view-rounds-spec =
     tie.close
     (tie.spec
     class-facts-requires
-    slice-aggregate-states-of
+    (λ c. search needs)
     states-of-requires
-    slice-aggregate-count-rounds
-    slice-aggregate-count-rounds-2
+    (λ c. search needs)
+    (λ c. search needs)
     count-rounds-requires
-    same-length
+    (λ c. search needs)
     returns)

@@ -9,18 +9,6 @@ use Rattle.sweep.specs.Walks.{nextOf}
 use Rattle.sweep.proofs.rounds.beyond.Statement.{statement}
 use Rattle.sweep.proofs.rounds.beyond.Tie as tie
 
-enum-known-s : tie.Need-enum-known-s
-enum-known-s c = search needs
-
-state-index-requires : tie.Need-state-index-requires
-state-index-requires c κs = search needs
-
-word-at-requires : tie.Need-word-at-requires
-word-at-requires c κs = search needs
-
-enum-told : tie.Need-enum-told
-enum-told c = search needs
-
 returns : tie.Need-returns
 returns c =
     let args = c .before .before .before .before .before .before .args in
@@ -36,4 +24,10 @@ returns-2 c = search needs
 pub beyond-spec : {M : Type 1} → statement M
 beyond-spec =
     tie.close
-    (tie.spec enum-known-s state-index-requires word-at-requires enum-told returns returns-2)
+    (tie.spec
+    (λ c. search needs)
+    (λ c κs. search needs)
+    (λ c κs. search needs)
+    (λ c. search needs)
+    returns
+    returns-2)

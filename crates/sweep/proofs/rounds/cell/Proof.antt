@@ -23,26 +23,11 @@ digits-requires c κs =
     let pre = c .before .before .before .pre in
     (pre .0 .vars, pre .0 .values)
 
-slice-aggregate-meets-goal : tie.Need-slice-aggregate-meets-goal Inv-loop μ-loop
-slice-aggregate-meets-goal c = search needs
-
-meets-goal-requires : tie.Need-meets-goal-requires Inv-loop μ-loop
-meets-goal-requires c κs = search needs
-
-start-requires : tie.Need-start-requires Inv-loop μ-loop
-start-requires c κs = search needs
-
 loop-holds : tie.Need-loop-holds Inv-loop μ-loop
 loop-holds c =
     let x = c .before .before .before .before .before .before .before .args in
     let digits = c .before .before .before .digits in
     (omega arith, λ a h. c .start .ensures ∙ ap atGoal (c .before .meets-goal .ensures ∙ goal-is (x .c) (x .facts .now) (x .prices .now) a (digits .result) h))
-
-cost-at-requires : tie.Need-cost-at-requires Inv-loop μ-loop
-cost-at-requires c κs = search needs
-
-slice-aggregate-step-from : tie.Need-slice-aggregate-step-from Inv-loop μ-loop
-slice-aggregate-step-from c = search needs
 
 step-from-requires : tie.Need-step-from-requires Inv-loop μ-loop
 step-from-requires c κs =
@@ -51,9 +36,6 @@ step-from-requires c κs =
     let digits = c .before .before .before .before .before .before .before .digits in
     let loop-test = c .before .before .loop-test in
     (pre .0, loop-test .taken, spelt-digits (x .c) (x .facts .now) (x .prices .now) (pre .0) (x .a .0) (digits .result) (digits .ensures))
-
-beyond-requires : tie.Need-beyond-requires Inv-loop μ-loop
-beyond-requires c κs = search needs
 
 relax-requires : tie.Need-relax-requires Inv-loop μ-loop
 relax-requires c κs =
@@ -65,12 +47,6 @@ relax-requires c κs =
     let cost-at = c .before .before .before .cost-at in
     relax-fits (x .c) (x .facts .now) (x .prices .now) (pre .0) (x .old .now) (digits .result) (x .a .0) (loop .o) (cost-at .result) (c .beyond .result)
     (nextOf (c .before .step-from .result)) (pre .1) (pre .2) (loop-test .taken) (pre .3) (digits .ensures) (c .before .step-from .ensures) (cost-at .ensures) (c .beyond .ensures)
-
-add-o : tie.Need-add-o Inv-loop μ-loop
-add-o c = search needs
-
-loop-less : tie.Need-loop-less Inv-loop μ-loop
-loop-less c = search needs
 
 loop-again : tie.Need-loop-again Inv-loop μ-loop
 loop-again c =
@@ -104,16 +80,16 @@ cell-spec =
     Inv-loop
     μ-loop
     digits-requires
-    slice-aggregate-meets-goal
-    meets-goal-requires
-    start-requires
+    (λ c. search needs)
+    (λ c κs. search needs)
+    (λ c κs. search needs)
     loop-holds
-    cost-at-requires
-    slice-aggregate-step-from
+    (λ c κs. search needs)
+    (λ c. search needs)
     step-from-requires
-    beyond-requires
+    (λ c κs. search needs)
     relax-requires
-    add-o
-    loop-less
+    (λ c. search needs)
+    (λ c. search needs)
     loop-again
     returns)

@@ -50,12 +50,6 @@ add-rounds c =
     let loop = c .before .before .before .before .before .loop in
     omega (arith, loop .inv .less, pre .0 .0 .few)
 
-same-length : tie.Need-same-length Inv-loop μ-loop
-same-length c = search needs
-
-same-length-2 : tie.Need-same-length-2 Inv-loop μ-loop
-same-length-2 c = search needs
-
 returns : tie.Need-returns Inv-loop μ-loop
 returns c =
     let pre = c .before .before .before .before .before .before .before .before .before .before .before .before .before .before .before .pre in
@@ -106,8 +100,8 @@ count-rounds-spec =
     loop-holds
     sweep-requires
     add-rounds
-    same-length
-    same-length-2
+    (λ c. search needs)
+    (λ c. search needs)
     returns
     copy-requires
     loop-less

@@ -27,18 +27,6 @@ digits-requires c κs =
     let pre = c .before .before .before .before .pre in
     (pre .0 .vars, pre .0 .values)
 
-slice-aggregate-meets-goal : tie.Need-slice-aggregate-meets-goal Inv-loop μ-loop
-slice-aggregate-meets-goal c = search needs
-
-meets-goal-requires : tie.Need-meets-goal-requires Inv-loop μ-loop
-meets-goal-requires c κs = search needs
-
-start-requires : tie.Need-start-requires Inv-loop μ-loop
-start-requires c κs = search needs
-
-cast-t : tie.Need-cast-t Inv-loop μ-loop
-cast-t c = search needs
-
 mul-t : tie.Need-mul-t Inv-loop μ-loop
 mul-t c =
     let pre = c .before .before .before .before .before .before .before .before .pre in
@@ -52,12 +40,6 @@ slice-write-t c =
     let loop-test = c .before .before .before .before .loop-test in
     omega (arith, loop .inv .1 .size, pre .2, loop-test .taken)
 
-add-a : tie.Need-add-a Inv-loop μ-loop
-add-a c = search needs
-
-loop-less : tie.Need-loop-less Inv-loop μ-loop
-loop-less c = search needs
-
 loop-again : tie.Need-loop-again Inv-loop μ-loop
 loop-again c =
     let pre = c .before .before .before .before .before .before .before .before .pre in
@@ -68,9 +50,6 @@ loop-again c =
     let inside : l .a < length (l .t) = omega (arith, l .inv .1 .size, pre .2, loop-test .taken) in
     let goal = c .before .meets-goal .ensures ∙ goal-is (a .c) (a .facts .now) [] (l .a) (digits .result) (digits .ensures) in
     (search needs, made-more _ _ (l .a) _ (l .t) inside (l .inv .1) (c .start .ensures ∙ ap atGoal goal))
-
-same-length : tie.Need-same-length Inv-loop μ-loop
-same-length c = search needs
 
 returns : tie.Need-returns Inv-loop μ-loop
 returns c =
@@ -86,14 +65,14 @@ fill-spec =
     μ-loop
     loop-holds
     digits-requires
-    slice-aggregate-meets-goal
-    meets-goal-requires
-    start-requires
-    cast-t
+    (λ c. search needs)
+    (λ c κs. search needs)
+    (λ c κs. search needs)
+    (λ c. search needs)
     mul-t
     slice-write-t
-    add-a
-    loop-less
+    (λ c. search needs)
+    (λ c. search needs)
     loop-again
-    same-length
+    (λ c. search needs)
     returns)

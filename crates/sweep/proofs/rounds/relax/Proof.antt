@@ -25,4 +25,8 @@ returns-3 c =
     relax-keep (a .best) (a .price) (a .beyond) (omega arith) (omega (arith, pre (omega arith))) (c .if2 .left)
 
 pub relax-spec : {M : Type 1} → statement M
-relax-spec = tie.close (tie.spec returns add-x returns-2 returns-3)
+relax-spec = tie.close (tie.spec
+    returns
+    add-x
+    returns-2
+    returns-3)

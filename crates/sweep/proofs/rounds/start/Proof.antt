@@ -10,4 +10,6 @@ returns-2 : tie.Need-returns-2
 returns-2 c = start-other (c .before .args .goal) (c .if1 .left)
 
 pub start-spec : {M : Type 1} → statement M
-start-spec = tie.close (tie.spec returns returns-2)
+start-spec = tie.close (tie.spec
+    returns
+    returns-2)

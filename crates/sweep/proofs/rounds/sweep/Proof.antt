@@ -26,19 +26,10 @@ cell-requires c κs =
     let p = c .before .before .before .before .before .before .pre in
     (p .0 .0, p .0 .1, omega (arith, c .loop-test .taken, p .0 .2), subst (λ (k : ℕ). Within k (args .old .now)) (p .0 .2) (p .1 .2))
 
-cast-if1 : tie.Need-cast-if1 Inv-loop μ-loop
-cast-if1 c = search needs
-
 mul-if1 : tie.Need-mul-if1 Inv-loop μ-loop
 mul-if1 c =
     let pre = c .before .before .before .before .before .before .before .pre in
     omega (arith, c .before .loop-test .taken, pre .0 .2, pre .0 .0 .few)
-
-shared-slice-read-if1 : tie.Need-shared-slice-read-if1 Inv-loop μ-loop
-shared-slice-read-if1 c = search needs
-
-cast-new : tie.Need-cast-new Inv-loop μ-loop
-cast-new c = search needs
 
 mul-new : tie.Need-mul-new Inv-loop μ-loop
 mul-new c =
@@ -52,12 +43,6 @@ slice-write-new c =
     let loop = c .before .before .before .before .loop in
     let loop-test = c .before .before .before .loop-test in
     omega (arith, loop .inv .1 .table .size, pre .1 .1, loop-test .taken)
-
-add-a : tie.Need-add-a Inv-loop μ-loop
-add-a c = search needs
-
-loop-less : tie.Need-loop-less Inv-loop μ-loop
-loop-less c = search needs
 
 loop-again : tie.Need-loop-again Inv-loop μ-loop
 loop-again c =
@@ -92,14 +77,14 @@ sweep-spec =
     μ-loop
     loop-holds
     cell-requires
-    cast-if1
+    (λ c. search needs)
     mul-if1
-    shared-slice-read-if1
-    cast-new
+    (λ c. search needs)
+    (λ c. search needs)
     mul-new
     slice-write-new
-    add-a
-    loop-less
+    (λ c. search needs)
+    (λ c. search needs)
     loop-again
     same-length
     returns)

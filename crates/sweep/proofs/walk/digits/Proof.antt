@@ -23,12 +23,6 @@ abbrev μ-loop : tie.MeasureT-loop
 loop-holds : tie.Need-loop-holds Inv-loop μ-loop
 loop-holds c = (omega arith, refl, sym (div-one (c .before .args .a .0)), made-none _ _)
 
-row-at-requires : tie.Need-row-at-requires Inv-loop μ-loop
-row-at-requires c κs = search needs
-
-wide-requires : tie.Need-wide-requires Inv-loop μ-loop
-wide-requires c κs = search needs
-
 rem-s : tie.Need-rem-s Inv-loop μ-loop
 rem-s c =
     let pre = c .before .before .before .before .before .pre in
@@ -44,24 +38,12 @@ cast-s c =
     let p : 0 < c .wide .result = omega (arith, c .wide .ensures .0, c .before .row-at .ensures, pre .1 (loop .v) (loop-test .taken)) in
     omega (arith, c .wide .ensures .1, mod-lt (loop .rest) p)
 
-cast-s-2 : tie.Need-cast-s-2 Inv-loop μ-loop
-cast-s-2 c = search needs
-
-array-write-s : tie.Need-array-write-s Inv-loop μ-loop
-array-write-s c = search needs
-
 div-rest : tie.Need-div-rest Inv-loop μ-loop
 div-rest c =
     let pre = c .before .before .before .before .before .pre in
     let loop = c .before .before .before .loop in
     let loop-test = c .before .before .loop-test in
     omega (arith, c .wide .ensures .0, c .before .row-at .ensures, pre .1 (loop .v) (loop-test .taken))
-
-add-v : tie.Need-add-v Inv-loop μ-loop
-add-v c = search needs
-
-loop-less : tie.Need-loop-less Inv-loop μ-loop
-loop-less c = search needs
 
 loop-again : tie.Need-loop-again Inv-loop μ-loop
 loop-again c =
@@ -88,14 +70,14 @@ digits-spec =
     Inv-loop
     μ-loop
     loop-holds
-    row-at-requires
-    wide-requires
+    (λ c κs. search needs)
+    (λ c κs. search needs)
     rem-s
     cast-s
-    cast-s-2
-    array-write-s
+    (λ c. search needs)
+    (λ c. search needs)
     div-rest
-    add-v
-    loop-less
+    (λ c. search needs)
+    (λ c. search needs)
     loop-again
     returns)

@@ -21,21 +21,6 @@ loop-holds c =
     let a = c .before .before .args in
     numbered-none (domAt (a .facts .now)) (valueAfter (a .facts .now) (a .row) (a .s .now)) (a .vars)
 
-row-at-requires : tie.Need-row-at-requires Inv-loop μ-loop
-row-at-requires c κs = search needs
-
-cast-byte-at : tie.Need-cast-byte-at Inv-loop μ-loop
-cast-byte-at c = search needs
-
-byte-at-requires : tie.Need-byte-at-requires Inv-loop μ-loop
-byte-at-requires c κs = search needs
-
-value-after-requires : tie.Need-value-after-requires Inv-loop μ-loop
-value-after-requires c κs = search needs
-
-wide-requires : tie.Need-wide-requires Inv-loop μ-loop
-wide-requires c κs = search needs
-
 add-b : tie.Need-add-b Inv-loop μ-loop
 add-b c =
     let pre = c .before .before .before .before .before .before .before .before .pre in
@@ -49,18 +34,6 @@ add-b c =
     numbered-next (domAt (a .facts .now)) (valueAfter (a .facts .now) (a .row) (a .s .now)) (a .vars) (pre .0 .0) (pre .1) (pre .0 .1)
     (l .v) (l .stride) (l .b) (l .inv) (loop-test .taken) (c .wide .result) (domAt (a .facts .now) (l .v)) x refl in
     omega (arith, t .1)
-
-row-at-requires-2 : tie.Need-row-at-requires-2 Inv-loop μ-loop
-row-at-requires-2 c κs = search needs
-
-wide-requires-2 : tie.Need-wide-requires-2 Inv-loop μ-loop
-wide-requires-2 c κs = search needs
-
-add-v : tie.Need-add-v Inv-loop μ-loop
-add-v c = search needs
-
-loop-less : tie.Need-loop-less Inv-loop μ-loop
-loop-less c = search needs
 
 loop-again : tie.Need-loop-again Inv-loop μ-loop
 loop-again c =
@@ -99,17 +72,17 @@ number-after-spec =
     Inv-loop
     μ-loop
     loop-holds
-    row-at-requires
-    cast-byte-at
-    byte-at-requires
-    value-after-requires
-    wide-requires
+    (λ c κs. search needs)
+    (λ c. search needs)
+    (λ c κs. search needs)
+    (λ c κs. search needs)
+    (λ c κs. search needs)
     mul-b
     add-b
-    row-at-requires-2
-    wide-requires-2
+    (λ c κs. search needs)
+    (λ c κs. search needs)
     mul-stride
-    add-v
-    loop-less
+    (λ c. search needs)
+    (λ c. search needs)
     loop-again
     returns)

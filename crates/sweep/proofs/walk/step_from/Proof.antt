@@ -12,9 +12,6 @@ use Rattle.sweep.proofs.Walking.{after-digits, step-runs, step-stops}
 use Rattle.sweep.proofs.walk.step_from.Statement.{statement}
 use Rattle.sweep.proofs.walk.step_from.Tie as tie
 
-may-run-requires : tie.Need-may-run-requires
-may-run-requires c κs = search needs
-
 eff-row-requires : tie.Need-eff-row-requires
 eff-row-requires c κs =
     let pre = c .before .before .before .before .pre in
@@ -44,4 +41,9 @@ returns-2 c =
 
 pub step-from-spec : {M : Type 1} → statement M
 step-from-spec =
-    tie.close (tie.spec may-run-requires eff-row-requires number-after-requires returns returns-2)
+    tie.close (tie.spec
+    (λ c κs. search needs)
+    eff-row-requires
+    number-after-requires
+    returns
+    returns-2)

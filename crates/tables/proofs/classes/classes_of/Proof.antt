@@ -8,12 +8,6 @@ use Rattle.tables.proofs.ClassRows.{beyond-outside, width-counts, width
 use Rattle.tables.proofs.classes.classes_of.Statement.{statement}
 use Rattle.tables.proofs.classes.classes_of.Tie as tie
 
-mask-of-requires : tie.Need-mask-of-requires
-mask-of-requires c κs = search needs
-
-enum-known-found : tie.Need-enum-known-found
-enum-known-found c = search needs
-
 enum-told : tie.Need-enum-told
 enum-told c = search needs
 
@@ -23,9 +17,6 @@ returns c =
     let mask-of = c .before .before .mask-of in
     let enum-told = c .enum-told in
     beyond-outside (rowAt (args .facts .now) (args .row)) (args .dom) (sym (mask-of .ensures) ∙ enum-told .given .1)
-
-width-requires : tie.Need-width-requires
-width-requires c κs = search needs
 
 returns-2 : tie.Need-returns-2
 returns-2 c =
@@ -49,10 +40,10 @@ pub classes-of-spec : {M : Type 1} → statement M
 classes-of-spec =
     tie.close
     (tie.spec
-    mask-of-requires
-    enum-known-found
+    (λ c κs. search needs)
+    (λ c. search needs)
     enum-told
     returns
-    width-requires
+    (λ c κs. search needs)
     returns-2
     returns-3)

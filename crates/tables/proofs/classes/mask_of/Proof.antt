@@ -28,9 +28,6 @@ abbrev μ-loop : tie.MeasureT-loop
 loop-holds : tie.Need-loop-holds Inv-loop μ-loop
 loop-holds c = (omega arith, refl, refl)
 
-word-of-requires : tie.Need-word-of-requires Inv-loop μ-loop
-word-of-requires c κs = search needs
-
 returns : tie.Need-returns Inv-loop μ-loop
 unfolding maskFound
 returns c =
@@ -40,15 +37,6 @@ returns c =
     let if1 = c .if1 in
     let f : ℕ → Bool = below (args .facts .now) (args .dom) (args .row) in
     sym (rw (every-false f (args .dom) (run .x) (omega arith) (le-ltb (rowAt (args .facts .now) (args .row) (run .x)) (args .dom) (omega (arith, word-of .ensures, if1 .taken)))))
-
-shl-mask : tie.Need-shl-mask Inv-loop μ-loop
-shl-mask c = omega arith
-
-add-x : tie.Need-add-x Inv-loop μ-loop
-add-x c = search needs
-
-loop-less : tie.Need-loop-less Inv-loop μ-loop
-loop-less c = search needs
 
 loop-again : tie.Need-loop-again Inv-loop μ-loop
 loop-again c =
@@ -79,10 +67,10 @@ mask-of-spec =
     Inv-loop
     μ-loop
     loop-holds
-    word-of-requires
+    (λ c κs. search needs)
     returns
-    shl-mask
-    add-x
-    loop-less
+    (λ c. omega arith)
+    (λ c. search needs)
+    (λ c. search needs)
     loop-again
     returns-2)

@@ -9,8 +9,7 @@ sub-result c =
     let args = c .args in
     leading-le 32 (args .mask)
 
-returns : tie.Need-returns
-returns c = search needs
-
 pub width-spec : {M : Type 1} → statement M
-width-spec = tie.close (tie.spec sub-result returns)
+width-spec = tie.close (tie.spec
+    sub-result
+    (λ c. search needs))

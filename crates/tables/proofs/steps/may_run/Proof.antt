@@ -6,15 +6,12 @@ use borrow.Author.Needs.{needs}
 use Rattle.tables.proofs.steps.may_run.Statement.{statement}
 use Rattle.tables.proofs.steps.may_run.Tie as tie
 
-pre-row-requires : tie.Need-pre-row-requires
-pre-row-requires c κs = search needs
-
-row-holds-requires : tie.Need-row-holds-requires
-row-holds-requires c κs = search needs
-
 returns : tie.Need-returns
 unfolding mayRun
 returns c = c .row-holds .ensures ∙ ap (λ (r : ℕ). rowHolds (c .before .before .before .before .args .c .vars) (c .before .before .before .before .args .facts .now) r (c .before .before .before .before .args .s .now)) (c .before .pre-row .ensures)
 
 pub may-run-spec : {M : Type 1} → statement M
-may-run-spec = tie.close (tie.spec pre-row-requires row-holds-requires returns)
+may-run-spec = tie.close (tie.spec
+    (λ c κs. search needs)
+    (λ c κs. search needs)
+    returns)

@@ -4,12 +4,11 @@ use borrow.Author.Needs.{needs}
 use Rattle.tables.proofs.steps.meets_goal.Statement.{statement}
 use Rattle.tables.proofs.steps.meets_goal.Tie as tie
 
-row-holds-requires : tie.Need-row-holds-requires
-row-holds-requires c κs = search needs
-
 returns : tie.Need-returns
 unfolding meetsGoal
 returns c = c .row-holds .ensures
 
 pub meets-goal-spec : {M : Type 1} → statement M
-meets-goal-spec = tie.close (tie.spec row-holds-requires returns)
+meets-goal-spec = tie.close (tie.spec
+    (λ c κs. search needs)
+    returns)

@@ -15,36 +15,9 @@ Inv-loop facts vars row t₀ v₀ t v = (v ≤ vars) × (t ≡ filled (valueAfte
 abbrev μ-loop : tie.MeasureT-loop
 μ-loop facts vars row t₀ v₀ t v = vars - v
 
-cast-vars : tie.Need-cast-vars Inv-loop μ-loop
-cast-vars c = search needs
-
-eff-row-requires : tie.Need-eff-row-requires Inv-loop μ-loop
-eff-row-requires c κs = search needs
-
 loop-holds : tie.Need-loop-holds Inv-loop μ-loop
 unfolding filled
 loop-holds c = (omega arith, refl)
-
-cast-row-at : tie.Need-cast-row-at Inv-loop μ-loop
-cast-row-at c = search needs
-
-row-at-requires : tie.Need-row-at-requires Inv-loop μ-loop
-row-at-requires c κs = search needs
-
-array-read-value-after : tie.Need-array-read-value-after Inv-loop μ-loop
-array-read-value-after c = search needs
-
-value-after-requires : tie.Need-value-after-requires Inv-loop μ-loop
-value-after-requires c κs = search needs
-
-array-write-t : tie.Need-array-write-t Inv-loop μ-loop
-array-write-t c = search needs
-
-add-v : tie.Need-add-v Inv-loop μ-loop
-add-v c = search needs
-
-loop-less : tie.Need-loop-less Inv-loop μ-loop
-loop-less c = search needs
 
 loop-again : tie.Need-loop-again Inv-loop μ-loop
 loop-again c = (omega arith, filled-next (valueAfter (c .before .before .before .before .before .before .before .args .facts .now) (c .before .before .before .before .eff-row .result) (c .before .before .before .before .before .before .before .args .s)) (c .before .before .before .before .before .before .before .args .s) (c .before .before .before .loop .t) (c .before .before .before .loop .v) (c .value-after .result) (c .before .before .before .loop .inv .1) (c .value-after .ensures ∙ ap₂ put (c .before .row-at .ensures) (filled-still (valueAfter (c .before .before .before .before .before .before .before .args .facts .now) (c .before .before .before .before .eff-row .result) (c .before .before .before .before .before .before .before .args .s)) (c .before .before .before .before .before .before .before .args .s) (c .before .before .before .loop .t) (c .before .before .before .loop .v) (c .before .before .before .loop .inv .1))))
@@ -59,15 +32,15 @@ state-after-spec =
     (tie.spec
     Inv-loop
     μ-loop
-    cast-vars
-    eff-row-requires
+    (λ c. search needs)
+    (λ c κs. search needs)
     loop-holds
-    cast-row-at
-    row-at-requires
-    array-read-value-after
-    value-after-requires
-    array-write-t
-    add-v
-    loop-less
+    (λ c. search needs)
+    (λ c κs. search needs)
+    (λ c. search needs)
+    (λ c κs. search needs)
+    (λ c. search needs)
+    (λ c. search needs)
+    (λ c. search needs)
     loop-again
     returns)

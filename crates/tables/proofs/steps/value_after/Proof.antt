@@ -4,14 +4,11 @@ use borrow.Author.Needs.{needs}
 use Rattle.tables.proofs.steps.value_after.Statement.{statement}
 use Rattle.tables.proofs.steps.value_after.Tie as tie
 
-sub-result : tie.Need-sub-result
-sub-result c = search needs
-
-returns : tie.Need-returns
-returns c = search needs
-
 returns-2 : tie.Need-returns-2
 returns-2 c = put-said (c .before .args .fact) (c .before .args .x) (c .if1 .left)
 
 pub value-after-spec : {M : Type 1} → statement M
-value-after-spec = tie.close (tie.spec sub-result returns returns-2)
+value-after-spec = tie.close (tie.spec
+    (λ c. search needs)
+    (λ c. search needs)
+    returns-2)

@@ -7,15 +7,6 @@ use mathlib.Core.Path.{refl, sym}
 use Rattle.text.proofs.area.put_byte.Statement.{statement}
 use Rattle.text.proofs.area.put_byte.Tie as tie
 
-cast-w : tie.Need-cast-w
-cast-w c = search needs
-
-slice-write-w : tie.Need-slice-write-w
-slice-write-w c = search needs
-
-same-length : tie.Need-same-length
-same-length c = search needs
-
 returns : tie.Need-returns
 unfolding put
 returns c = refl
@@ -25,4 +16,9 @@ unfolding put
 returns-2 c = sym (set-out (c .before .args .w .now) (c .before .args .i) (c .before .args .v % 256) (c .if1 .left))
 
 pub put-byte-spec : {M : Type 1} → statement M
-put-byte-spec = tie.close (tie.spec cast-w slice-write-w same-length returns returns-2)
+put-byte-spec = tie.close (tie.spec
+    (λ c. search needs)
+    (λ c. search needs)
+    (λ c. search needs)
+    returns
+    returns-2)

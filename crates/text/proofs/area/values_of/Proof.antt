@@ -4,17 +4,12 @@ use mathlib.Core.Path.{_∙_}
 use Rattle.text.proofs.area.values_of.Statement.{statement}
 use Rattle.text.proofs.area.values_of.Tie as tie
 
-wide-requires : tie.Need-wide-requires
-wide-requires c κs = search needs
-
-byte-at-requires : tie.Need-byte-at-requires
-byte-at-requires c κs = search needs
-
-word-requires : tie.Need-word-requires
-word-requires c κs = search needs
-
 returns : tie.Need-returns
 returns c = c .word .ensures .0 ∙ simp (c .before .byte-at .ensures, c .before .before .wide .ensures)
 
 pub values-of-spec : {M : Type 1} → statement M
-values-of-spec = tie.close (tie.spec wide-requires byte-at-requires word-requires returns)
+values-of-spec = tie.close (tie.spec
+    (λ c κs. search needs)
+    (λ c κs. search needs)
+    (λ c κs. search needs)
+    returns)

@@ -5,12 +5,6 @@ use borrow.Author.Tests.{eq-eqb, ne-eqb}
 use Rattle.text.proofs.control.after_ops.Statement.{statement}
 use Rattle.text.proofs.control.after_ops.Tie as tie
 
-to-line-requires : tie.Need-to-line-requires
-to-line-requires c κs = search needs
-
-to-line-requires-2 : tie.Need-to-line-requires-2
-to-line-requires-2 c κs = search needs
-
 returns : tie.Need-returns
 unfolding pick
 returns c = simp (eq-eqb _ _ (c .before .if1 .taken)) (c .to-line .ensures)
@@ -20,4 +14,8 @@ unfolding pick
 returns-2 c = simp (ne-eqb _ _ (c .before .if1 .left)) (c .to-line2 .ensures)
 
 pub after-ops-spec : {M : Type 1} → statement M
-after-ops-spec = tie.close (tie.spec to-line-requires to-line-requires-2 returns returns-2)
+after-ops-spec = tie.close (tie.spec
+    (λ c κs. search needs)
+    (λ c κs. search needs)
+    returns
+    returns-2)

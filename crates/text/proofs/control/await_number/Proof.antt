@@ -9,4 +9,5 @@ unfolding due
 returns c = refl
 
 pub await-number-spec : {M : Type 1} → statement M
-await-number-spec = tie.close (tie.spec returns)
+await-number-spec = tie.close (tie.spec
+    returns)

@@ -9,4 +9,5 @@ unfolding fresh
 returns c = refl
 
 pub begin-part-spec : {M : Type 1} → statement M
-begin-part-spec = tie.close (tie.spec returns)
+begin-part-spec = tie.close (tie.spec
+    returns)

@@ -17,4 +17,7 @@ unfolding pick
 returns-3 c = simp (ne-eqb _ _ (c .if1 .left))
 
 pub first-part-spec : {M : Type 1} → statement M
-first-part-spec = tie.close (tie.spec returns returns-2 returns-3)
+first-part-spec = tie.close (tie.spec
+    returns
+    returns-2
+    returns-3)

@@ -9,4 +9,5 @@ unfolding withDigit
 returns c = refl
 
 pub grow-spec : {M : Type 1} → statement M
-grow-spec = tie.close (tie.spec returns)
+grow-spec = tie.close (tie.spec
+    returns)

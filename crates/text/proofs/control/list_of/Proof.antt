@@ -9,4 +9,5 @@ unfolding listOf
 returns c = refl
 
 pub list-of-spec : {M : Type 1} → statement M
-list-of-spec = tie.close (tie.spec returns)
+list-of-spec = tie.close (tie.spec
+    returns)

@@ -4,15 +4,12 @@ use borrow.Author.Needs.{needs}
 use Rattle.text.proofs.control.open_line.Statement.{statement}
 use Rattle.text.proofs.control.open_line.Tie as tie
 
-first-part-requires : tie.Need-first-part-requires
-first-part-requires c κs = search needs
-
-begin-part-requires : tie.Need-begin-part-requires
-begin-part-requires c κs = search needs
-
 returns : tie.Need-returns
 unfolding opened
 returns c = simp (← c .before .first-part .ensures) (c .begin-part .ensures)
 
 pub open-line-spec : {M : Type 1} → statement M
-open-line-spec = tie.close (tie.spec first-part-requires begin-part-requires returns)
+open-line-spec = tie.close (tie.spec
+    (λ c κs. search needs)
+    (λ c κs. search needs)
+    returns)

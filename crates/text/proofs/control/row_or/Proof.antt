@@ -6,15 +6,6 @@ use borrow.Author.Tests.{le-ltb, lt-ltb}
 use Rattle.text.proofs.control.row_or.Statement.{statement}
 use Rattle.text.proofs.control.row_or.Tie as tie
 
-one-more-requires : tie.Need-one-more-requires
-one-more-requires c κs = search needs
-
-to-line-requires : tie.Need-to-line-requires
-to-line-requires c κs = search needs
-
-to-line-requires-2 : tie.Need-to-line-requires-2
-to-line-requires-2 c κs = search needs
-
 returns : tie.Need-returns
 unfolding rowOr pick
 returns c = simp (← c .before .before .one-more .ensures, lt-ltb _ _ (c .before .if1 .taken)) (c .to-line .ensures)
@@ -25,4 +16,9 @@ returns-2 c = simp (← c .before .before .one-more .ensures, le-ltb _ _ (c .bef
 
 pub row-or-spec : {M : Type 1} → statement M
 row-or-spec =
-    tie.close (tie.spec one-more-requires to-line-requires to-line-requires-2 returns returns-2)
+    tie.close (tie.spec
+    (λ c κs. search needs)
+    (λ c κs. search needs)
+    (λ c κs. search needs)
+    returns
+    returns-2)

@@ -9,4 +9,5 @@ unfolding start
 returns c = refl
 
 pub start-of-text-spec : {M : Type 1} → statement M
-start-of-text-spec = tie.close (tie.spec returns)
+start-of-text-spec = tie.close (tie.spec
+    returns)

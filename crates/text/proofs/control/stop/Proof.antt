@@ -9,4 +9,5 @@ unfolding stopped
 returns c = refl
 
 pub stop-spec : {M : Type 1} → statement M
-stop-spec = tie.close (tie.spec returns)
+stop-spec = tie.close (tie.spec
+    returns)

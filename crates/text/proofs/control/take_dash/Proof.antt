@@ -4,12 +4,11 @@ use borrow.Author.Needs.{needs}
 use Rattle.text.proofs.control.take_dash.Statement.{statement}
 use Rattle.text.proofs.control.take_dash.Tie as tie
 
-begin-part-requires : tie.Need-begin-part-requires
-begin-part-requires c κs = search needs
-
 returns : tie.Need-returns
 unfolding dashed
 returns c = c .begin-part .ensures
 
 pub take-dash-spec : {M : Type 1} → statement M
-take-dash-spec = tie.close (tie.spec begin-part-requires returns)
+take-dash-spec = tie.close (tie.spec
+    (λ c κs. search needs)
+    returns)

@@ -9,4 +9,5 @@ unfolding countsOf
 returns c = refl
 
 pub counts-of-spec : {M : Type 1} → statement M
-counts-of-spec = tie.close (tie.spec returns)
+counts-of-spec = tie.close (tie.spec
+    returns)

@@ -14,9 +14,6 @@ returns-2 : tie.Need-returns-2
 unfolding ended pick
 returns-2 c = simp (eq-eqb _ _ (c .before .before .if1 .left), eq-eqb _ _ (c .if2 .taken))
 
-fault-of-requires : tie.Need-fault-of-requires
-fault-of-requires c κs = search needs
-
 returns-3 : tie.Need-returns-3
 unfolding ended pick
 returns-3 c = simp (eq-eqb _ _ (c .before .before .before .before .if1 .left), ne-eqb _ _ (c .before .before .if2 .left), ← c .before .fault-of .ensures, eq-eqb _ _ (c .if3 .taken))
@@ -26,4 +23,9 @@ unfolding ended pick
 returns-4 c = simp (eq-eqb _ _ (c .before .before .before .before .if1 .left), ne-eqb _ _ (c .before .before .if2 .left), ← c .before .fault-of .ensures, ne-eqb _ _ (c .if3 .left))
 
 pub end-code-spec : {M : Type 1} → statement M
-end-code-spec = tie.close (tie.spec returns returns-2 fault-of-requires returns-3 returns-4)
+end-code-spec = tie.close (tie.spec
+    returns
+    returns-2
+    (λ c κs. search needs)
+    returns-3
+    returns-4)

@@ -17,26 +17,14 @@ Inv-loop w maps ops o₀ o =
 abbrev μ-loop : tie.MeasureT-loop
 μ-loop w maps ops o₀ o = ops - o
 
-at-most-requires : tie.Need-at-most-requires Inv-loop μ-loop
-at-most-requires c κs = search needs
-
-at-most-requires-2 : tie.Need-at-most-requires-2 Inv-loop μ-loop
-at-most-requires-2 c κs = search needs
-
 loop-holds : tie.Need-loop-holds Inv-loop μ-loop
 loop-holds c = (omega arith, omega (arith, c .at-most2 .ensures), omega (arith, c .before .at-most .ensures), simp sub-zero)
-
-cost-byte-requires : tie.Need-cost-byte-requires Inv-loop μ-loop
-cost-byte-requires c κs = search needs
 
 word-at-requires : tie.Need-word-at-requires Inv-loop μ-loop
 word-at-requires c κs = c .cost-byte .ensures .1
 
 share-total-requires : tie.Need-share-total-requires Inv-loop μ-loop
 share-total-requires c κs = c .before .before .before .loop .inv .2
-
-add-result : tie.Need-add-result Inv-loop μ-loop
-add-result c = omega arith
 
 returns : tie.Need-returns Inv-loop μ-loop
 unfolding over
@@ -45,12 +33,6 @@ returns c =
     sym
     (simp (← c .before .before .before .before .before .before .before .at-most .ensures, ← c .before .before .before .before .before .before .at-most2 .ensures)
     (run .inv .3 ∙ over-told (costIn (c .before .before .before .before .before .before .before .before .before .args .w .now)) (shareIn (c .before .before .before .before .before .before .before .before .before .args .w .now)) (c .before .before .before .before .before .before .before .at-most .result) (c .before .before .before .before .before .before .at-most2 .result) (run .o) (c .before .before .before .before .loop-test .taken) (simp (c .before .before .word-at .ensures .0, c .before .before .before .cost-byte .ensures .0, c .before .share-total .ensures) at (c .if1 .taken))))
-
-add-o : tie.Need-add-o Inv-loop μ-loop
-add-o c = omega arith
-
-loop-less : tie.Need-loop-less Inv-loop μ-loop
-loop-less c = omega arith
 
 loop-again : tie.Need-loop-again Inv-loop μ-loop
 loop-again c =
@@ -69,15 +51,15 @@ over-line-spec =
     (tie.spec
     Inv-loop
     μ-loop
-    at-most-requires
-    at-most-requires-2
+    (λ c κs. search needs)
+    (λ c κs. search needs)
     loop-holds
-    cost-byte-requires
+    (λ c κs. search needs)
     word-at-requires
     share-total-requires
-    add-result
+    (λ c. omega arith)
     returns
-    add-o
-    loop-less
+    (λ c. omega arith)
+    (λ c. omega arith)
     loop-again
     returns-2)

@@ -26,4 +26,9 @@ unfolding refusalOf pick
 returns-5 c = simp (ne-eqb _ _ (c .before .before .before .if1 .left), ne-eqb _ _ (c .before .before .if2 .left), ne-eqb _ _ (c .before .if3 .left), ne-eqb _ _ (c .if4 .left))
 
 pub refusal-of-spec : {M : Type 1} → statement M
-refusal-of-spec = tie.close (tie.spec returns returns-2 returns-3 returns-4 returns-5)
+refusal-of-spec = tie.close (tie.spec
+    returns
+    returns-2
+    returns-3
+    returns-4
+    returns-5)

@@ -19,20 +19,11 @@ loop-holds : tie.Need-loop-holds Inv-loop μ-loop
 unfolding shareTotal
 loop-holds c = (omega arith, refl, omega arith)
 
-share-byte-requires : tie.Need-share-byte-requires Inv-loop μ-loop
-share-byte-requires c κs = search needs
-
 word-at-requires : tie.Need-word-at-requires Inv-loop μ-loop
 word-at-requires c κs = c .share-byte .ensures .1
 
 add-total : tie.Need-add-total Inv-loop μ-loop
 add-total c = omega (arith, c .word-at .ensures .1)
-
-add-m : tie.Need-add-m Inv-loop μ-loop
-add-m c = omega arith
-
-loop-less : tie.Need-loop-less Inv-loop μ-loop
-loop-less c = omega arith
 
 loop-again : tie.Need-loop-again Inv-loop μ-loop
 loop-again c = (omega arith, simp (c .before .before .before .loop .inv .1, c .word-at .ensures .0, c .before .share-byte .ensures .0) (sym (total-next (shareIn (c .before .before .before .before .before .args .w .now)) (c .before .before .before .loop .m) (c .before .before .before .before .before .args .o))), omega (arith, c .word-at .ensures .1))
@@ -47,10 +38,10 @@ share-total-spec =
     Inv-loop
     μ-loop
     loop-holds
-    share-byte-requires
+    (λ c κs. search needs)
     word-at-requires
     add-total
-    add-m
-    loop-less
+    (λ c. omega arith)
+    (λ c. omega arith)
     loop-again
     returns)

@@ -5,12 +5,6 @@ use borrow.Author.Needs.{needs}
 use Rattle.text.proofs.fields.before_byte.Statement.{statement}
 use Rattle.text.proofs.fields.before_byte.Tie as tie
 
-last-class-requires : tie.Need-last-class-requires
-last-class-requires c κs = search needs
-
-class-fault-requires : tie.Need-class-fault-requires
-class-fault-requires c κs = search needs
-
 returns : tie.Need-returns
 unfolding before pick
 returns c = simp (← c .before .before .last-class .ensures, c .before .if1 .taken) (c .class-fault .ensures)
@@ -20,4 +14,8 @@ unfolding before pick
 returns-2 c = simp (← c .before .last-class .ensures, c .if1 .left)
 
 pub before-byte-spec : {M : Type 1} → statement M
-before-byte-spec = tie.close (tie.spec last-class-requires class-fault-requires returns returns-2)
+before-byte-spec = tie.close (tie.spec
+    (λ c κs. search needs)
+    (λ c κs. search needs)
+    returns
+    returns-2)

@@ -6,18 +6,6 @@ use borrow.Author.Tests.{le-ltb, lt-ltb}
 use Rattle.text.proofs.fields.class_fault.Statement.{statement}
 use Rattle.text.proofs.fields.class_fault.Tie as tie
 
-none-missing-requires : tie.Need-none-missing-requires
-none-missing-requires c κs = search needs
-
-last-var-requires : tie.Need-last-var-requires
-last-var-requires c κs = search needs
-
-width-of-requires : tie.Need-width-of-requires
-width-of-requires c κs = search needs
-
-multiply-requires : tie.Need-multiply-requires
-multiply-requires c κs = search needs
-
 returns : tie.Need-returns
 unfolding classFault pick
 returns c = simp (← c .before .before .before .before .before .before .none-missing .ensures, c .before .before .before .before .before .if1 .taken, ← c .before .before .before .before .last-var .ensures, c .before .before .before .if2 .taken, ← c .before .before .width-of .ensures, ← c .before .multiply .ensures, lt-ltb _ _ (c .if3 .taken))
@@ -38,10 +26,10 @@ pub class-fault-spec : {M : Type 1} → statement M
 class-fault-spec =
     tie.close
     (tie.spec
-    none-missing-requires
-    last-var-requires
-    width-of-requires
-    multiply-requires
+    (λ c κs. search needs)
+    (λ c κs. search needs)
+    (λ c κs. search needs)
+    (λ c κs. search needs)
     returns
     returns-2
     returns-3

@@ -10,15 +10,6 @@ returns : tie.Need-returns
 unfolding fault pick
 returns c = simp (eq-eqb _ _ (c .if1 .taken))
 
-judge-requires : tie.Need-judge-requires
-judge-requires c κs = search needs
-
-note-requires : tie.Need-note-requires
-note-requires c κs = search needs
-
-before-byte-requires : tie.Need-before-byte-requires
-before-byte-requires c κs = search needs
-
 returns-2 : tie.Need-returns-2
 unfolding fault pick
 returns-2 c = simp (ne-eqb _ _ (c .before .before .before .before .if1 .left), ← c .before .before .before .judge .ensures, eq-eqb _ _ (c .before .before .if2 .taken), ← c .before .note .ensures) (c .before-byte .ensures)
@@ -30,4 +21,10 @@ returns-3 c = simp (ne-eqb _ _ (c .before .before .if1 .left), ← c .before .ju
 pub fault-of-spec : {M : Type 1} → statement M
 fault-of-spec =
     tie.close
-    (tie.spec returns judge-requires note-requires before-byte-requires returns-2 returns-3)
+    (tie.spec
+    returns
+    (λ c κs. search needs)
+    (λ c κs. search needs)
+    (λ c κs. search needs)
+    returns-2
+    returns-3)

@@ -6,12 +6,6 @@ use borrow.Author.Tests.{le-leb, lt-leb}
 use Rattle.text.proofs.fields.in_range.Statement.{statement}
 use Rattle.text.proofs.fields.in_range.Tie as tie
 
-least-of-requires : tie.Need-least-of-requires
-least-of-requires c κs = search needs
-
-limit-of-requires : tie.Need-limit-of-requires
-limit-of-requires c κs = search needs
-
 returns : tie.Need-returns
 unfolding inRange pick
 returns c = simp (← c .before .before .before .before .least-of .ensures, le-leb _ _ (c .before .before .if1 .taken), ← c .before .limit-of .ensures)
@@ -21,4 +15,8 @@ unfolding inRange pick
 returns-2 c = simp (← c .before .before .least-of .ensures, lt-leb _ _ (c .if1 .left))
 
 pub in-range-spec : {M : Type 1} → statement M
-in-range-spec = tie.close (tie.spec least-of-requires limit-of-requires returns returns-2)
+in-range-spec = tie.close (tie.spec
+    (λ c κs. search needs)
+    (λ c κs. search needs)
+    returns
+    returns-2)

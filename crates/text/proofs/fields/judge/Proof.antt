@@ -6,9 +6,6 @@ use borrow.Author.Tests.{le-leb, lt-leb}
 use Rattle.text.proofs.fields.judge.Statement.{statement}
 use Rattle.text.proofs.fields.judge.Tie as tie
 
-in-range-requires : tie.Need-in-range-requires
-in-range-requires c κs = search needs
-
 returns : tie.Need-returns
 unfolding judged pick
 returns c = simp (← c .before .before .before .in-range .ensures, c .before .before .if1 .taken, le-leb _ _ (c .if2 .taken))
@@ -22,4 +19,8 @@ unfolding judged pick
 returns-3 c = simp (← c .before .in-range .ensures, c .if1 .left)
 
 pub judge-spec : {M : Type 1} → statement M
-judge-spec = tie.close (tie.spec in-range-requires returns returns-2 returns-3)
+judge-spec = tie.close (tie.spec
+    (λ c κs. search needs)
+    returns
+    returns-2
+    returns-3)

@@ -7,18 +7,13 @@ use mathlib.Core.Path.{_∙_, ap}
 use Rattle.text.proofs.fields.kind_of.Statement.{statement}
 use Rattle.text.proofs.fields.kind_of.Tie as tie
 
-slice-aggregate-entry : tie.Need-slice-aggregate-entry
-slice-aggregate-entry c = search needs
-
-wide-requires : tie.Need-wide-requires
-wide-requires c κs = search needs
-
-entry-requires : tie.Need-entry-requires
-entry-requires c κs = search needs
-
 returns : tie.Need-returns
 unfolding kind
 returns c = c .entry .ensures ∙ ap (λ (i : ℕ). getD kinds i 0) (c .before .wide .ensures)
 
 pub kind-of-spec : {M : Type 1} → statement M
-kind-of-spec = tie.close (tie.spec slice-aggregate-entry wide-requires entry-requires returns)
+kind-of-spec = tie.close (tie.spec
+    (λ c. search needs)
+    (λ c κs. search needs)
+    (λ c κs. search needs)
+    returns)

@@ -6,12 +6,6 @@ use borrow.Author.Tests.{eq-eqb, ne-eqb}
 use Rattle.text.proofs.fields.last_class.Statement.{statement}
 use Rattle.text.proofs.fields.last_class.Tie as tie
 
-one-more-requires : tie.Need-one-more-requires
-one-more-requires c κs = search needs
-
-values-of-requires : tie.Need-values-of-requires
-values-of-requires c κs = search needs
-
 returns : tie.Need-returns
 unfolding lastClass pick
 returns c = simp (eq-eqb _ _ (c .before .before .if1 .taken), ← c .before .one-more .ensures, ← c .values-of .ensures)
@@ -21,4 +15,8 @@ unfolding lastClass pick
 returns-2 c = simp (ne-eqb _ _ (c .if1 .left))
 
 pub last-class-spec : {M : Type 1} → statement M
-last-class-spec = tie.close (tie.spec one-more-requires values-of-requires returns returns-2)
+last-class-spec = tie.close (tie.spec
+    (λ c κs. search needs)
+    (λ c κs. search needs)
+    returns
+    returns-2)

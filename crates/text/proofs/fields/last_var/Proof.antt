@@ -4,12 +4,11 @@ use borrow.Author.Needs.{needs}
 use Rattle.text.proofs.fields.last_var.Statement.{statement}
 use Rattle.text.proofs.fields.last_var.Tie as tie
 
-one-more-requires : tie.Need-one-more-requires
-one-more-requires c κs = search needs
-
 returns : tie.Need-returns
 unfolding lastVar
 returns c = simp (← c .before .one-more .ensures)
 
 pub last-var-spec : {M : Type 1} → statement M
-last-var-spec = tie.close (tie.spec one-more-requires returns)
+last-var-spec = tie.close (tie.spec
+    (λ c κs. search needs)
+    returns)

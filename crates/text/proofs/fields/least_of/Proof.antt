@@ -7,17 +7,12 @@ use mathlib.Core.Path.{_∙_, ap}
 use Rattle.text.proofs.fields.least_of.Statement.{statement}
 use Rattle.text.proofs.fields.least_of.Tie as tie
 
-slice-aggregate-entry : tie.Need-slice-aggregate-entry
-slice-aggregate-entry c = search needs
-
-wide-requires : tie.Need-wide-requires
-wide-requires c κs = search needs
-
-entry-requires : tie.Need-entry-requires
-entry-requires c κs = search needs
-
 returns : tie.Need-returns
 returns c = c .entry .ensures ∙ ap (λ (i : ℕ). getD leasts i 0) (c .before .wide .ensures)
 
 pub least-of-spec : {M : Type 1} → statement M
-least-of-spec = tie.close (tie.spec slice-aggregate-entry wide-requires entry-requires returns)
+least-of-spec = tie.close (tie.spec
+    (λ c. search needs)
+    (λ c κs. search needs)
+    (λ c κs. search needs)
+    returns)

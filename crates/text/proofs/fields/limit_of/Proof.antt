@@ -6,12 +6,6 @@ use borrow.Author.Tests.{eq-eqb, ne-eqb}
 use Rattle.text.proofs.fields.limit_of.Statement.{statement}
 use Rattle.text.proofs.fields.limit_of.Tie as tie
 
-bound-of-requires : tie.Need-bound-of-requires
-bound-of-requires c κs = search needs
-
-values-of-requires : tie.Need-values-of-requires
-values-of-requires c κs = search needs
-
 returns : tie.Need-returns
 unfolding limit pick
 returns c = simp (← c .before .before .bound-of .ensures, eq-eqb _ _ (c .before .if1 .taken)) (c .values-of .ensures)
@@ -26,4 +20,9 @@ returns-3 c = simp (← c .before .before .bound-of .ensures, ne-eqb _ _ (c .bef
 
 pub limit-of-spec : {M : Type 1} → statement M
 limit-of-spec =
-    tie.close (tie.spec bound-of-requires values-of-requires returns returns-2 returns-3)
+    tie.close (tie.spec
+    (λ c κs. search needs)
+    (λ c κs. search needs)
+    returns
+    returns-2
+    returns-3)

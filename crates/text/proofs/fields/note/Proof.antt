@@ -19,9 +19,6 @@ returns-3 : tie.Need-returns-3
 unfolding noted pick
 returns-3 c = simp (at-field 1 (c .if3 .taken), at-field 6 (c .if3 .taken), at-field 12 (c .if3 .taken), at-field 13 (c .if3 .taken))
 
-add-class-requires : tie.Need-add-class-requires
-add-class-requires c κs = search needs
-
 returns-4 : tie.Need-returns-4
 unfolding noted pick
 returns-4 c = simp (at-field 1 (c .before .if4 .taken), at-field 6 (c .before .if4 .taken), at-field 12 (c .before .if4 .taken), at-field 13 (c .before .if4 .taken), ← c .add-class .ensures)
@@ -31,4 +28,10 @@ unfolding noted pick
 returns-5 c = simp (ne-eqb _ _ (c .before .before .before .before .before .before .if1 .left), ne-eqb _ _ (c .before .before .before .before .if2 .left), ne-eqb _ _ (c .before .before .if3 .left), ne-eqb _ _ (c .if4 .left))
 
 pub note-spec : {M : Type 1} → statement M
-note-spec = tie.close (tie.spec returns returns-2 returns-3 add-class-requires returns-4 returns-5)
+note-spec = tie.close (tie.spec
+    returns
+    returns-2
+    returns-3
+    (λ c κs. search needs)
+    returns-4
+    returns-5)

@@ -18,21 +18,6 @@ abbrev μ-loop : tie.MeasureT-loop
 loop-holds : tie.Need-loop-holds Inv-loop μ-loop
 loop-holds c = (omega arith, refl, λ k h. let z : ⊥ = omega arith in absurd z)
 
-nth-word-requires : tie.Need-nth-word-requires Inv-loop μ-loop
-nth-word-requires c κs = search needs
-
-mul-out : tie.Need-mul-out Inv-loop μ-loop
-mul-out c = search needs
-
-slice-write-out : tie.Need-slice-write-out Inv-loop μ-loop
-slice-write-out c = omega arith
-
-add-i : tie.Need-add-i Inv-loop μ-loop
-add-i c = omega arith
-
-loop-less : tie.Need-loop-less Inv-loop μ-loop
-loop-less c = omega arith
-
 loop-again : tie.Need-loop-again Inv-loop μ-loop
 loop-again c = let run = c .before .before .loop in let fits : run .i < length (run .out) = omega arith in (omega arith, length-set (run .out) (run .i) (c .nth-word .result) ∙ run .inv .1, fill-turn (threes (c .before .before .before .before .before .args .n) (c .before .before .before .before .before .args .at) (c .before .before .before .before .before .args .w .now)) (run .out) (run .i) (c .nth-word .result) fits (c .nth-word .ensures) (run .inv .2))
 
@@ -49,11 +34,11 @@ fill-words-spec =
     Inv-loop
     μ-loop
     loop-holds
-    nth-word-requires
-    mul-out
-    slice-write-out
-    add-i
-    loop-less
+    (λ c κs. search needs)
+    (λ c. search needs)
+    (λ c. omega arith)
+    (λ c. omega arith)
+    (λ c. omega arith)
     loop-again
     same-length
     returns)

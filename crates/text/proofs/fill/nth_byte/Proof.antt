@@ -7,9 +7,6 @@ use native.Mathlib.Omega.{arith}
 use Rattle.text.proofs.fill.nth_byte.Statement.{statement}
 use Rattle.text.proofs.fill.nth_byte.Tie as tie
 
-byte-at-requires : tie.Need-byte-at-requires
-byte-at-requires c κs = search needs
-
 returns : tie.Need-returns
 returns c = c .byte-at .ensures ∙ sym (getD-take (c .before .before .before .args .n) (c .before .before .before .args .w .now) (c .before .before .before .args .i) 0 (c .before .if1 .taken))
 
@@ -17,4 +14,7 @@ returns-2 : tie.Need-returns-2
 returns-2 c = sym (List·getD-eq-default (take (c .before .before .args .n) (c .before .before .args .w .now)) 0 (omega (arith, length-take (c .before .before .args .n) (c .before .before .args .w .now), c .if1 .left)))
 
 pub nth-byte-spec : {M : Type 1} → statement M
-nth-byte-spec = tie.close (tie.spec byte-at-requires returns returns-2)
+nth-byte-spec = tie.close (tie.spec
+    (λ c κs. search needs)
+    returns
+    returns-2)

@@ -8,15 +8,6 @@ use native.Mathlib.Omega.{arith}
 use Rattle.text.proofs.fill.nth_word.Statement.{statement}
 use Rattle.text.proofs.fill.nth_word.Tie as tie
 
-mul-word-at : tie.Need-mul-word-at
-mul-word-at c = search needs
-
-add-word-at : tie.Need-add-word-at
-add-word-at c = search needs
-
-word-at-requires : tie.Need-word-at-requires
-word-at-requires c κs = search needs
-
 returns : tie.Need-returns
 returns c = c .word-at .ensures .0 ∙ sym (threes-at (c .before .before .before .args .n) (c .before .before .before .args .at) (c .before .before .before .args .i) (c .before .before .before .args .w .now) (c .before .if1 .taken))
 
@@ -24,4 +15,9 @@ returns-2 : tie.Need-returns-2
 returns-2 c = sym (List·getD-eq-default (threes (c .before .before .args .n) (c .before .before .args .at) (c .before .before .args .w .now)) 0 (omega (arith, threes-length (c .before .before .args .n) (c .before .before .args .at) (c .before .before .args .w .now), c .if1 .left)))
 
 pub nth-word-spec : {M : Type 1} → statement M
-nth-word-spec = tie.close (tie.spec mul-word-at add-word-at word-at-requires returns returns-2)
+nth-word-spec = tie.close (tie.spec
+    (λ c. search needs)
+    (λ c. search needs)
+    (λ c κs. search needs)
+    returns
+    returns-2)

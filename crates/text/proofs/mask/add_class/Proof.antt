@@ -7,9 +7,6 @@ use borrow.Author.Tests.{le-ltb, lt-ltb}
 use Rattle.text.proofs.mask.add_class.Statement.{statement}
 use Rattle.text.proofs.mask.add_class.Tie as tie
 
-shl-result : tie.Need-shl-result
-shl-result c = search needs
-
 returns : tie.Need-returns
 unfolding withClass pick
 returns c = simp (lt-ltb _ _ (c .if1 .taken), one-shl 32 (c .before .args .x) (c .if1 .taken))
@@ -19,4 +16,7 @@ unfolding withClass pick
 returns-2 c = simp (le-ltb _ _ (c .if1 .left))
 
 pub add-class-spec : {M : Type 1} → statement M
-add-class-spec = tie.close (tie.spec shl-result returns returns-2)
+add-class-spec = tie.close (tie.spec
+    (λ c. search needs)
+    returns
+    returns-2)

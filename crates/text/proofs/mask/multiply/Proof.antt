@@ -12,17 +12,8 @@ returns : tie.Need-returns
 unfolding times pick
 returns c = simp (lt-ltb _ _ (c .if1 .taken))
 
-wide-requires : tie.Need-wide-requires
-wide-requires c κs = search needs
-
-wide-requires-2 : tie.Need-wide-requires-2
-wide-requires-2 c κs = search needs
-
 mul-x : tie.Need-mul-x
 mul-x c = let h = small-product (c .before .before .before .args .p) (c .before .before .before .args .n) (c .before .before .if1 .left) (omega arith) in simp (c .before .wide .ensures, c .wide2 .ensures) (omega arith)
-
-cast-result : tie.Need-cast-result
-cast-result c = search needs
 
 returns-2 : tie.Need-returns-2
 unfolding times pick
@@ -35,4 +26,11 @@ returns-3 c = simp (le-ltb _ _ (c .before .before .before .if1 .left), ← c .be
 pub multiply-spec : {M : Type 1} → statement M
 multiply-spec =
     tie.close
-    (tie.spec returns wide-requires wide-requires-2 mul-x cast-result returns-2 returns-3)
+    (tie.spec
+    returns
+    (λ c κs. search needs)
+    (λ c κs. search needs)
+    mul-x
+    (λ c. search needs)
+    returns-2
+    returns-3)

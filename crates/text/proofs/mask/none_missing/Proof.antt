@@ -4,12 +4,11 @@ use borrow.Author.Needs.{needs}
 use Rattle.text.proofs.mask.none_missing.Statement.{statement}
 use Rattle.text.proofs.mask.none_missing.Tie as tie
 
-width-of-requires : tie.Need-width-of-requires
-width-of-requires c κs = search needs
-
 returns : tie.Need-returns
 unfolding gapless
 returns c = simp (← c .width-of .ensures)
 
 pub none-missing-spec : {M : Type 1} → statement M
-none-missing-spec = tie.close (tie.spec width-of-requires returns)
+none-missing-spec = tie.close (tie.spec
+    (λ c κs. search needs)
+    returns)

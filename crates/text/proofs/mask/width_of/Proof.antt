@@ -13,4 +13,6 @@ unfolding width
 returns c = refl
 
 pub width-of-spec : {M : Type 1} → statement M
-width-of-spec = tie.close (tie.spec sub-result returns)
+width-of-spec = tie.close (tie.spec
+    sub-result
+    returns)

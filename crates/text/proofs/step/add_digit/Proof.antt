@@ -6,21 +6,9 @@ use borrow.Author.Tests.{eq-eqb, ne-eqb}
 use Rattle.text.proofs.step.add_digit.Statement.{statement}
 use Rattle.text.proofs.step.add_digit.Tie as tie
 
-stop-requires : tie.Need-stop-requires
-stop-requires c κs = search needs
-
 returns : tie.Need-returns
 unfolding digit pick
 returns c = simp (eq-eqb _ _ (c .before .if1 .taken)) (c .stop .ensures)
-
-run-after-requires : tie.Need-run-after-requires
-run-after-requires c κs = search needs
-
-longer-requires : tie.Need-longer-requires
-longer-requires c κs = search needs
-
-grow-requires : tie.Need-grow-requires
-grow-requires c κs = search needs
 
 returns-2 : tie.Need-returns-2
 unfolding digit pick
@@ -29,4 +17,10 @@ returns-2 c = simp (ne-eqb _ _ (c .before .before .before .if1 .left), ← c .be
 pub add-digit-spec : {M : Type 1} → statement M
 add-digit-spec =
     tie.close
-    (tie.spec stop-requires returns run-after-requires longer-requires grow-requires returns-2)
+    (tie.spec
+    (λ c κs. search needs)
+    returns
+    (λ c κs. search needs)
+    (λ c κs. search needs)
+    (λ c κs. search needs)
+    returns-2)

@@ -6,39 +6,6 @@ use borrow.Author.Tests.{ne-eqb}
 use Rattle.text.proofs.step.after_number.Statement.{statement}
 use Rattle.text.proofs.step.after_number.Tie as tie
 
-kind-of-requires : tie.Need-kind-of-requires
-kind-of-requires c κs = search needs
-
-after-var-requires : tie.Need-after-var-requires
-after-var-requires c κs = search needs
-
-one-more-requires : tie.Need-one-more-requires
-one-more-requires c κs = search needs
-
-await-number-requires : tie.Need-await-number-requires
-await-number-requires c κs = search needs
-
-expect-requires : tie.Need-expect-requires
-expect-requires c κs = search needs
-
-after-value-requires : tie.Need-after-value-requires
-after-value-requires c κs = search needs
-
-await-number-requires-2 : tie.Need-await-number-requires-2
-await-number-requires-2 c κs = search needs
-
-expect-requires-2 : tie.Need-expect-requires-2
-expect-requires-2 c κs = search needs
-
-after-class-requires : tie.Need-after-class-requires
-after-class-requires c κs = search needs
-
-after-share-requires : tie.Need-after-share-requires
-after-share-requires c κs = search needs
-
-end-line-requires : tie.Need-end-line-requires
-end-line-requires c κs = search needs
-
 returns : tie.Need-returns
 unfolding after pick
 returns c = simp (← c .before .before .kind-of .ensures, c .before .match .keys1) (c .after-var .ensures)
@@ -71,17 +38,17 @@ pub after-number-spec : {M : Type 1} → statement M
 after-number-spec =
     tie.close
     (tie.spec
-    kind-of-requires
-    after-var-requires
-    one-more-requires
-    await-number-requires
-    expect-requires
-    after-value-requires
-    await-number-requires-2
-    expect-requires-2
-    after-class-requires
-    after-share-requires
-    end-line-requires
+    (λ c κs. search needs)
+    (λ c κs. search needs)
+    (λ c κs. search needs)
+    (λ c κs. search needs)
+    (λ c κs. search needs)
+    (λ c κs. search needs)
+    (λ c κs. search needs)
+    (λ c κs. search needs)
+    (λ c κs. search needs)
+    (λ c κs. search needs)
+    (λ c κs. search needs)
     returns
     returns-2
     returns-3

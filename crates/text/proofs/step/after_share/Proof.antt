@@ -6,18 +6,6 @@ use borrow.Author.Tests.{eq-eqb, ne-eqb}
 use Rattle.text.proofs.step.after_share.Statement.{statement}
 use Rattle.text.proofs.step.after_share.Tie as tie
 
-one-more-requires : tie.Need-one-more-requires
-one-more-requires c κs = search needs
-
-end-line-requires : tie.Need-end-line-requires
-end-line-requires c κs = search needs
-
-await-number-requires : tie.Need-await-number-requires
-await-number-requires c κs = search needs
-
-expect-requires : tie.Need-expect-requires
-expect-requires c κs = search needs
-
 returns : tie.Need-returns
 unfolding afterShare pick
 returns c = simp (← c .before .before .before .one-more .ensures, eq-eqb _ _ (c .before .if1 .taken)) (c .end-line .ensures)
@@ -30,9 +18,9 @@ pub after-share-spec : {M : Type 1} → statement M
 after-share-spec =
     tie.close
     (tie.spec
-    one-more-requires
-    end-line-requires
-    await-number-requires
-    expect-requires
+    (λ c κs. search needs)
+    (λ c κs. search needs)
+    (λ c κs. search needs)
+    (λ c κs. search needs)
     returns
     returns-2)

@@ -6,18 +6,6 @@ use borrow.Author.Tests.{eq-eqb, ne-eqb}
 use Rattle.text.proofs.step.after_value.Statement.{statement}
 use Rattle.text.proofs.step.after_value.Tie as tie
 
-field-before-requires : tie.Need-field-before-requires
-field-before-requires c κs = search needs
-
-one-more-requires : tie.Need-one-more-requires
-one-more-requires c κs = search needs
-
-await-number-requires : tie.Need-await-number-requires
-await-number-requires c κs = search needs
-
-list-end-requires : tie.Need-list-end-requires
-list-end-requires c κs = search needs
-
 returns : tie.Need-returns
 unfolding afterValue pick
 returns c = simp (eq-eqb _ _ (c .before .before .before .if1 .taken), ← c .before .before .field-before .ensures, ← c .before .one-more .ensures) (c .await-number .ensures)
@@ -30,9 +18,9 @@ pub after-value-spec : {M : Type 1} → statement M
 after-value-spec =
     tie.close
     (tie.spec
-    field-before-requires
-    one-more-requires
-    await-number-requires
-    list-end-requires
+    (λ c κs. search needs)
+    (λ c κs. search needs)
+    (λ c κs. search needs)
+    (λ c κs. search needs)
     returns
     returns-2)

@@ -5,21 +5,6 @@ use borrow.Author.Needs.{needs}
 use Rattle.text.proofs.step.after_var.Statement.{statement}
 use Rattle.text.proofs.step.after_var.Tie as tie
 
-last-var-requires : tie.Need-last-var-requires
-last-var-requires c κs = search needs
-
-end-line-requires : tie.Need-end-line-requires
-end-line-requires c κs = search needs
-
-one-more-requires : tie.Need-one-more-requires
-one-more-requires c κs = search needs
-
-await-number-requires : tie.Need-await-number-requires
-await-number-requires c κs = search needs
-
-expect-requires : tie.Need-expect-requires
-expect-requires c κs = search needs
-
 returns : tie.Need-returns
 unfolding afterVar pick
 returns c = simp (← c .before .before .last-var .ensures, c .before .if1 .taken) (c .end-line .ensures)
@@ -32,10 +17,10 @@ pub after-var-spec : {M : Type 1} → statement M
 after-var-spec =
     tie.close
     (tie.spec
-    last-var-requires
-    end-line-requires
-    one-more-requires
-    await-number-requires
-    expect-requires
+    (λ c κs. search needs)
+    (λ c κs. search needs)
+    (λ c κs. search needs)
+    (λ c κs. search needs)
+    (λ c κs. search needs)
     returns
     returns-2)

@@ -10,15 +10,9 @@ returns : tie.Need-returns
 unfolding dashHere pick
 returns c = simp (ne-eqb _ _ (c .if1 .taken))
 
-kind-of-requires : tie.Need-kind-of-requires
-kind-of-requires c κs = search needs
-
 returns-2 : tie.Need-returns-2
 unfolding dashHere pick
 returns-2 c = simp (eq-eqb _ _ (c .before .before .if1 .left), ← c .before .kind-of .ensures, ne-eqb _ _ (c .if2 .taken))
-
-nothing-read-requires : tie.Need-nothing-read-requires
-nothing-read-requires c κs = search needs
 
 returns-3 : tie.Need-returns-3
 unfolding dashHere pick
@@ -26,4 +20,9 @@ returns-3 c = simp (eq-eqb _ _ (c .before .before .before .if1 .left), ← c .be
 
 pub dash-here-spec : {M : Type 1} → statement M
 dash-here-spec =
-    tie.close (tie.spec returns kind-of-requires returns-2 nothing-read-requires returns-3)
+    tie.close (tie.spec
+    returns
+    (λ c κs. search needs)
+    returns-2
+    (λ c κs. search needs)
+    returns-3)

@@ -3,14 +3,11 @@ use borrow.Author.Needs.{needs}
 use Rattle.text.proofs.step.end_line.Statement.{statement}
 use Rattle.text.proofs.step.end_line.Tie as tie
 
-next-line-requires : tie.Need-next-line-requires
-next-line-requires c κs = search needs
-
-expect-requires : tie.Need-expect-requires
-expect-requires c κs = search needs
-
 returns : tie.Need-returns
 returns c = simp (← c .before .next-line .ensures) (c .expect .ensures)
 
 pub end-line-spec : {M : Type 1} → statement M
-end-line-spec = tie.close (tie.spec next-line-requires expect-requires returns)
+end-line-spec = tie.close (tie.spec
+    (λ c κs. search needs)
+    (λ c κs. search needs)
+    returns)

@@ -6,9 +6,6 @@ use borrow.Author.Tests.{eq-eqb, ne-eqb}
 use Rattle.text.proofs.step.expect.Statement.{statement}
 use Rattle.text.proofs.step.expect.Tie as tie
 
-stop-requires : tie.Need-stop-requires
-stop-requires c κs = search needs
-
 returns : tie.Need-returns
 unfolding mark pick
 returns c = simp (eq-eqb _ _ (c .if1 .taken))
@@ -18,4 +15,7 @@ unfolding mark pick
 returns-2 c = simp (ne-eqb _ _ (c .before .if1 .left)) (c .stop .ensures)
 
 pub expect-spec : {M : Type 1} → statement M
-expect-spec = tie.close (tie.spec stop-requires returns returns-2)
+expect-spec = tie.close (tie.spec
+    (λ c κs. search needs)
+    returns
+    returns-2)

@@ -19,18 +19,6 @@ abbrev μ-loop : tie.MeasureT-loop
 loop-holds : tie.Need-loop-holds Inv-loop μ-loop
 loop-holds c = (omega arith, refl, refl)
 
-shared-slice-read-step-byte : tie.Need-shared-slice-read-step-byte Inv-loop μ-loop
-shared-slice-read-step-byte c = omega arith
-
-step-byte-requires : tie.Need-step-byte-requires Inv-loop μ-loop
-step-byte-requires c κs = search needs
-
-add-i : tie.Need-add-i Inv-loop μ-loop
-add-i c = omega arith
-
-loop-less : tie.Need-loop-less Inv-loop μ-loop
-loop-less c = omega arith
-
 loop-again : tie.Need-loop-again Inv-loop μ-loop
 loop-again c = let run = c .before .before .before .before .before .before .loop in let s = c .before .before .before .before .before .before .before .before .before .args .s .now in (omega arith, c .before .before .step-byte .kept .1 .1 .0 ∙ run .inv .1, ap (λ (x : St). feed x (drop (run .i + 1) s)) (c .before .before .step-byte .ensures) ∙ feed-next _ s (run .i) (c .before .before .before .before .before .loop-test .taken) ∙ run .inv .2)
 
@@ -48,10 +36,10 @@ feed-piece-spec =
     Inv-loop
     μ-loop
     loop-holds
-    shared-slice-read-step-byte
-    step-byte-requires
-    add-i
-    loop-less
+    (λ c. omega arith)
+    (λ c κs. search needs)
+    (λ c. omega arith)
+    (λ c. omega arith)
     loop-again
     same-length
     returns)

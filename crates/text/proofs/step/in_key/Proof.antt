@@ -6,21 +6,9 @@ use borrow.Author.Tests.{eq-eqb, ne-eqb}
 use Rattle.text.proofs.step.in_key.Statement.{statement}
 use Rattle.text.proofs.step.in_key.Tie as tie
 
-key-byte-requires : tie.Need-key-byte-requires
-key-byte-requires c κs = search needs
-
-stop-requires : tie.Need-stop-requires
-stop-requires c κs = search needs
-
 returns : tie.Need-returns
 unfolding inKey pick
 returns c = simp (← c .before .before .key-byte .ensures, ne-eqb _ _ (c .before .if1 .taken)) (c .stop .ensures)
-
-open-line-requires : tie.Need-open-line-requires
-open-line-requires c κs = search needs
-
-next-key-requires : tie.Need-next-key-requires
-next-key-requires c κs = search needs
 
 returns-2 : tie.Need-returns-2
 unfolding inKey pick
@@ -34,10 +22,10 @@ pub in-key-spec : {M : Type 1} → statement M
 in-key-spec =
     tie.close
     (tie.spec
-    key-byte-requires
-    stop-requires
+    (λ c κs. search needs)
+    (λ c κs. search needs)
     returns
-    open-line-requires
-    next-key-requires
+    (λ c κs. search needs)
+    (λ c κs. search needs)
     returns-2
     returns-3)

@@ -6,18 +6,6 @@ use borrow.Author.Tests.{eq-eqb, ne-eqb}
 use Rattle.text.proofs.step.list_end.Statement.{statement}
 use Rattle.text.proofs.step.list_end.Tie as tie
 
-list-of-requires : tie.Need-list-of-requires
-list-of-requires c κs = search needs
-
-await-number-requires : tie.Need-await-number-requires
-await-number-requires c κs = search needs
-
-expect-requires : tie.Need-expect-requires
-expect-requires c κs = search needs
-
-end-line-requires : tie.Need-end-line-requires
-end-line-requires c κs = search needs
-
 returns : tie.Need-returns
 unfolding listEnd pick
 returns c = simp (← c .before .before .before .list-of .ensures, eq-eqb _ _ (c .before .before .if1 .taken), ← c .before .await-number .ensures) (c .expect .ensures)
@@ -30,9 +18,9 @@ pub list-end-spec : {M : Type 1} → statement M
 list-end-spec =
     tie.close
     (tie.spec
-    list-of-requires
-    await-number-requires
-    expect-requires
-    end-line-requires
+    (λ c κs. search needs)
+    (λ c κs. search needs)
+    (λ c κs. search needs)
+    (λ c κs. search needs)
     returns
     returns-2)

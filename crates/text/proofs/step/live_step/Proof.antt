@@ -6,35 +6,17 @@ use borrow.Author.Tests.{eq-eqb, ne-eqb}
 use Rattle.text.proofs.step.live_step.Statement.{statement}
 use Rattle.text.proofs.step.live_step.Tie as tie
 
-in-key-requires : tie.Need-in-key-requires
-in-key-requires c κs = search needs
-
 returns : tie.Need-returns
 unfolding live pick
 returns c = simp (eq-eqb _ _ (c .before .if1 .taken), c .in-key .ensures)
-
-at-number-requires : tie.Need-at-number-requires
-at-number-requires c κs = search needs
-
-same-length : tie.Need-same-length
-same-length c = search needs
 
 returns-2 : tie.Need-returns-2
 unfolding live pick
 returns-2 c = simp (ne-eqb _ _ (c .before .before .before .before .before .before .if1 .left), eq-eqb _ _ (c .before .before .before .before .if2 .taken)) (c .before .before .at-number .ensures)
 
-list-end-requires : tie.Need-list-end-requires
-list-end-requires c κs = search needs
-
 returns-3 : tie.Need-returns-3
 unfolding live pick
 returns-3 c = simp (ne-eqb _ _ (c .before .before .before .before .before .if1 .left), ne-eqb _ _ (c .before .before .before .if2 .left), eq-eqb _ _ (c .before .if3 .taken), c .list-end .ensures)
-
-take-dash-requires : tie.Need-take-dash-requires
-take-dash-requires c κs = search needs
-
-expect-requires : tie.Need-expect-requires
-expect-requires c κs = search needs
 
 returns-4 : tie.Need-returns-4
 unfolding live pick
@@ -44,13 +26,13 @@ pub live-step-spec : {M : Type 1} → statement M
 live-step-spec =
     tie.close
     (tie.spec
-    in-key-requires
+    (λ c κs. search needs)
     returns
-    at-number-requires
-    same-length
+    (λ c κs. search needs)
+    (λ c. search needs)
     returns-2
-    list-end-requires
+    (λ c κs. search needs)
     returns-3
-    take-dash-requires
-    expect-requires
+    (λ c κs. search needs)
+    (λ c κs. search needs)
     returns-4)

@@ -13,4 +13,6 @@ unfolding pick
 returns-2 c = simp (ne-eqb _ _ (c .if1 .left))
 
 pub nothing-read-spec : {M : Type 1} → statement M
-nothing-read-spec = tie.close (tie.spec returns returns-2)
+nothing-read-spec = tie.close (tie.spec
+    returns
+    returns-2)

@@ -19,4 +19,7 @@ unfolding pick
 returns-3 c = simp (ne-eqb (c .before .args .r + c .before .args .d) 0 (λ z. c .if1 .left (omega arith)))
 
 pub run-after-spec : {M : Type 1} → statement M
-run-after-spec = tie.close (tie.spec returns returns-2 returns-3)
+run-after-spec = tie.close (tie.spec
+    returns
+    returns-2
+    returns-3)

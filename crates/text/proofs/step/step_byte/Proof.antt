@@ -6,15 +6,6 @@ use borrow.Author.Tests.{eq-eqb, ne-eqb}
 use Rattle.text.proofs.step.step_byte.Statement.{statement}
 use Rattle.text.proofs.step.step_byte.Tie as tie
 
-word-requires : tie.Need-word-requires
-word-requires c κs = search needs
-
-live-step-requires : tie.Need-live-step-requires
-live-step-requires c κs = search needs
-
-same-length : tie.Need-same-length
-same-length c = search needs
-
 returns : tie.Need-returns
 unfolding step pick
 returns c = simp (eq-eqb _ _ (c .before .before .before .before .before .if1 .taken), ← c .before .before .before .before .word .ensures .0) (c .before .before .live-step .ensures)
@@ -25,4 +16,9 @@ returns-2 c = simp (ne-eqb _ _ (c .if1 .left))
 
 pub step-byte-spec : {M : Type 1} → statement M
 step-byte-spec =
-    tie.close (tie.spec word-requires live-step-requires same-length returns returns-2)
+    tie.close (tie.spec
+    (λ c κs. search needs)
+    (λ c κs. search needs)
+    (λ c. search needs)
+    returns
+    returns-2)

@@ -9,9 +9,6 @@ use Rattle.views.proofs.sums.joined.Tie as tie
 returns : tie.Need-returns
 returns c = (join-nothing (sumSaid (c .before .args .sum)) (c .before .args .distance) (c .if1 .taken), omega arith)
 
-add-t6 : tie.Need-add-t6
-add-t6 c = search needs
-
 returns-2 : tie.Need-returns-2
 returns-2 c =
     let a = c .before .before .before .args in
@@ -24,4 +21,8 @@ returns-3 c =
     (join-first (a .sum .any) (a .sum .total) (a .distance) (c .if2 .left) (c .before .if1 .left), omega arith)
 
 pub joined-spec : {M : Type 1} → statement M
-joined-spec = tie.close (tie.spec returns add-t6 returns-2 returns-3)
+joined-spec = tie.close (tie.spec
+    returns
+    (λ c. search needs)
+    returns-2
+    returns-3)

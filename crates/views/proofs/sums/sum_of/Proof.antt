@@ -32,12 +32,6 @@ joined-requires c κs =
     let loop = c .before .before .loop in
     omega (arith, loop .inv .1, c .before .loop-test .taken, pre .0 .maps .1)
 
-add-m : tie.Need-add-m Inv-loop μ-loop
-add-m c = search needs
-
-loop-less : tie.Need-loop-less Inv-loop μ-loop
-loop-less c = search needs
-
 loop-again : tie.Need-loop-again Inv-loop μ-loop
 loop-again c =
     let a = c .before .before .before .before .before .before .before .args in
@@ -65,7 +59,7 @@ sum-of-spec =
     loop-holds
     away-of-requires
     joined-requires
-    add-m
-    loop-less
+    (λ c. search needs)
+    (λ c. search needs)
     loop-again
     returns)

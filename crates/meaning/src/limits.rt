@@ -1,0 +1,21 @@
+// The limits of document 01, as specs/Limits.antt has them: the most bytes of a text, variables, values of a variable, operators, maps,
+// and steps of a sequence or a run.
+pub const BYTES_MOST: usize = 16384;
+
+pub const VARS_MOST: u32 = 8;
+
+pub const VALUES_MOST: u32 = 8;
+
+pub const OPS_MOST: u32 = 64;
+
+pub const MAPS_MOST: u32 = 8;
+
+pub const STEPS_MOST: usize = 256;
+
+// The most that an operator costs, or costs in a map, in seconds.
+pub const COST_MOST: u32 = 1000000;
+
+// The most abstract states of a map, and the room for their distances.
+pub const STATES_MOST: u32 = 4096;
+
+pub const STATES_ROOM: usize = 4096;
