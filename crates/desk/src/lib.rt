@@ -5,7 +5,7 @@
 // laid out as crates/tables/specs/Layout.antt says. A lent state has a byte for each variable. A list of operators holds their numbers.
 // A refusal is one of the paper's list: `refusals::number` and `refusals::place` tell its number and its place.
 ghost use mathlib.Core.Path.{_≡_};
-ghost use Rattle.tables.specs.Task.{tables};
+ghost use Rattle.tables.specs.Task.{tables, lent};
 ghost use Rattle.scan.specs.Scan.{tablesFault};
 ghost use Rattle.grammar.specs.Fields.{leaves};
 ghost use Rattle.grammar.specs.Grammar.{readText};
@@ -38,7 +38,7 @@ pub fn read(task: &[u8], facts: &mut [u8], costs: &mut [u32], shares: &mut [u32]
 // CHECKS handed-in tables by the text's rules: clean, or the first fault with the line that the same task's text would have.
 // `check-unique`.
 pub fn check(c: Counts, facts: &[u8], costs: &[u32], shares: &[u32]) -> Found
-    ensures { λ r. ⌜ r ≡ tablesFault (tables c (now (facts .entry)) (now (costs .entry)) (now (shares .entry))) ⌝ }
+    ensures { λ r. ⌜ r ≡ tablesFault (lent c (facts .entry) (costs .entry) (shares .entry)) ⌝ }
 {
     scan::tables_fault(c, facts, costs, shares)
 }
@@ -53,7 +53,7 @@ pub fn distances(
     map: u32,
     out: &mut [u32],
 ) -> DistancesAnswer
-    ensures { λ r. ⌜ DistancesGiven (tables c (now (facts .entry)) (now (costs .entry)) (now (shares .entry))) map (now (out .entry)) r (now (out .exit)) ⌝ }
+    ensures { λ r. ⌜ DistancesGiven (lent c (facts .entry) (costs .entry) (shares .entry)) map (now (out .entry)) r (now (out .exit)) ⌝ }
 {
     views::distances(c, facts, costs, shares, map, out)
 }
@@ -68,7 +68,7 @@ pub fn distance_at(
     map: u32,
     state: &[u8],
 ) -> DistanceAnswer
-    ensures { λ r. ⌜ DistanceGiven (tables c (now (facts .entry)) (now (costs .entry)) (now (shares .entry))) map (now (state .entry)) r ⌝ }
+    ensures { λ r. ⌜ DistanceGiven (lent c (facts .entry) (costs .entry) (shares .entry)) map (now (state .entry)) r ⌝ }
 {
     views::distance_at(c, facts, costs, shares, map, state)
 }
@@ -76,7 +76,7 @@ pub fn distance_at(
 // The summed BOUND of a state: at most the cost of every sequence from there to the goal, of any length; none only where there is no such sequence.
 // `bound-unique`.
 pub fn bound(c: Counts, facts: &[u8], costs: &[u32], shares: &[u32], state: &[u8]) -> BoundAnswer
-    ensures { λ r. ⌜ BoundGiven (tables c (now (facts .entry)) (now (costs .entry)) (now (shares .entry))) (now (state .entry)) r ⌝ }
+    ensures { λ r. ⌜ BoundGiven (lent c (facts .entry) (costs .entry) (shares .entry)) (now (state .entry)) r ⌝ }
 {
     views::bound(c, facts, costs, shares, state)
 }
@@ -91,7 +91,7 @@ pub fn judge(
     state: &[u8],
     ops: &[u32],
 ) -> Judged
-    ensures { λ r. ⌜ r ≡ judgedOf (tables c (now (facts .entry)) (now (costs .entry)) (now (shares .entry))) (now (state .entry)) (now (ops .entry)) ⌝ }
+    ensures { λ r. ⌜ r ≡ judgedOf (lent c (facts .entry) (costs .entry) (shares .entry)) (now (state .entry)) (now (ops .entry)) ⌝ }
 {
     sequences::judge(c, facts, costs, shares, state, ops)
 }
@@ -107,7 +107,7 @@ pub fn cheaper(
     a: &[u32],
     b: &[u32],
 ) -> Cheaper
-    ensures { λ r. ⌜ r ≡ cheaperOf (tables c (now (facts .entry)) (now (costs .entry)) (now (shares .entry))) (now (state .entry)) (now (a .entry)) (now (b .entry)) ⌝ }
+    ensures { λ r. ⌜ r ≡ cheaperOf (lent c (facts .entry) (costs .entry) (shares .entry)) (now (state .entry)) (now (a .entry)) (now (b .entry)) ⌝ }
 {
     sequences::cheaper(c, facts, costs, shares, state, a, b)
 }
@@ -123,7 +123,7 @@ pub fn opening<'a>(
     a: &'a [u32],
     b: &'a [u32],
 ) -> &'a [u32]
-    ensures { λ r. ⌜ OpeningOf (tables c (now (facts .entry)) (now (costs .entry)) (now (shares .entry))) (now (state .entry)) (a .entry) (b .entry) r ⌝ }
+    ensures { λ r. ⌜ OpeningOf (lent c (facts .entry) (costs .entry) (shares .entry)) (now (state .entry)) (a .entry) (b .entry) r ⌝ }
 {
     sequences::opening(c, facts, costs, shares, state, a, b)
 }
@@ -131,7 +131,7 @@ pub fn opening<'a>(
 // BEGINS a run from a state: a fresh run, or a run of zeros with the refusal.
 // `begin-unique`.
 pub fn begin(c: Counts, facts: &[u8], costs: &[u32], shares: &[u32], start: &[u8]) -> Offered
-    ensures { λ r. ⌜ r ≡ begun (tables c (now (facts .entry)) (now (costs .entry)) (now (shares .entry))) (now (start .entry)) ⌝ }
+    ensures { λ r. ⌜ r ≡ begun (lent c (facts .entry) (costs .entry) (shares .entry)) (now (start .entry)) ⌝ }
 {
     Run::begin(c, facts, costs, shares, start)
 }
@@ -147,7 +147,7 @@ pub fn offer(
     number: u32,
     op: OpNo,
 ) -> Offered
-    ensures { λ r. ⌜ r ≡ offered (tables c (now (facts .entry)) (now (costs .entry)) (now (shares .entry))) run number (op .0) ⌝ }
+    ensures { λ r. ⌜ r ≡ offered (lent c (facts .entry) (costs .entry) (shares .entry)) run number (op .0) ⌝ }
 {
     run.offer(c, facts, costs, shares, number, op)
 }

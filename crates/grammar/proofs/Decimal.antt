@@ -4,12 +4,12 @@ use Prim.Native.Nat.{ℕ, zero, suc, _+_, _-_, _*_, _/_, _%_, _≤_, _<_}
 use native.Mathlib.Omega.{arith}
 use mathlib.Core.Path.{_≡_, refl, sym, ap, _∙_}
 use mathlib.Core.List.{List, [], _∷_, _++_, append-assoc, append-nil}
-use mathlib.Core.Bool.{Bool, true, false}
+use mathlib.Core.Bool.{Bool, true, false, cond}
 use lib.Dec.{ltb, eqb}
 use lib.ListN.{take, drop, length, take-append-drop}
 use lib.Seq.{take-at, drop-at}
 use borrow.Author.Tests.{lt-ltb, le-ltb, ltb-true, ltb-false, ne-eqb, eqb-true, eqb-false}
-use Rattle.grammar.specs.Fields.{pick, isDigit}
+use Rattle.grammar.specs.Fields.{isDigit}
 use Rattle.grammar.specs.Grammar.{value, runLen, formed}
 use Rattle.grammar.specs.Spelling.{lastDigits, digits}
 use Rattle.grammar.proofs.Runs.{clash, is-digit, digit-both, run-hit, run-miss, Stop, nil, stop-none, formed-off, formed-zero, formed-lead}
@@ -17,11 +17,11 @@ use Rattle.grammar.proofs.Runs.{clash, is-digit, digit-both, run-hit, r
 -- ---- the digits of a number
 
 pub few : (n v : ℕ) → v < 10 → lastDigits (suc n) v ≡ (48 + v) ∷ []
-unfolding lastDigits pick
+unfolding lastDigits
 few n v h = simp (lt-ltb v 10 h)
 
 pub many : (n v : ℕ) → 10 ≤ v → lastDigits (suc n) v ≡ lastDigits n (v / 10) ++ ((48 + v % 10) ∷ [])
-unfolding lastDigits pick
+unfolding lastDigits
 many n v h = simp (le-ltb v 10 h)
 
 -- more room changes nothing
@@ -105,11 +105,11 @@ digits-snoc none p q = more p q none
 digits-snoc (more x y d) p q = more x y (digits-snoc d p q)
 
 last-are-digits : (n v : ℕ) → Digits (lastDigits n v)
-unfolding lastDigits pick
+unfolding lastDigits
 last-are-digits zero v = none
 last-are-digits (suc n) v = split (ltb v 10) refl (last-are-digits n (v / 10))
   where
-    split : (q : Bool) → ltb v 10 ≡ q → Digits (lastDigits n (v / 10)) → Digits (pick q ((48 + v) ∷ []) (lastDigits n (v / 10) ++ ((48 + v % 10) ∷ [])))
+    split : (q : Bool) → ltb v 10 ≡ q → Digits (lastDigits n (v / 10)) → Digits (cond q ((48 + v) ∷ []) (lastDigits n (v / 10) ++ ((48 + v % 10) ∷ [])))
     split true q d = let h = ltb-true v 10 q in more {b = 48 + v} (omega arith) (omega arith) none
     split false q d = digits-snoc d (omega arith) (omega arith)
 
@@ -142,7 +142,7 @@ lead-digits (suc n) v a h = split (ltb v 10) refl (lead-digits n (v / 10))
         rw (many n v g) (lead-append ((48 + v % 10) ∷ []) (i (omega arith) (omega arith)))
 
 formed-led : {t : List ℕ} → Lead t → (runLen t ≡ 0 → ⊥) → formed t ≡ true
-unfolding formed pick
+unfolding formed
 formed-led (lead {b = b} {t = t} z) h = simp (ne-eqb (runLen (b ∷ t)) 0 h, ne-eqb b 48 z)
 
 lead-length : {t : List ℕ} → Lead t → length t ≡ 0 → ⊥
@@ -182,7 +182,7 @@ pub data Head : List ℕ → Type 0 where
   head : {b : ℕ} {t : List ℕ} → 48 ≤ b → b ≤ 57 → Head (b ∷ t)
 
 head-of : {t : List ℕ} → Digits t → formed (t ++ []) ≡ true → Head t
-unfolding formed runLen pick
+unfolding formed runLen
 head-of none e = clash e refl
 head-of (more p q d) e = head p q
 
@@ -214,7 +214,7 @@ lone-text b x =
     ap (λ (k : ℕ). k ∷ []) x ∙ sym (ap (λ (k : ℕ). digits k) y ∙ one-digit 0 (omega arith))
 
 run-text : (t : List ℕ) → formed t ≡ true → take (runLen t) t ≡ digits (value 0 (take (runLen t) t))
-unfolding formed runLen pick
+unfolding formed runLen
 run-text [] e = clash e refl
 run-text (b ∷ t) e = split (isDigit b) (eqb b 48) refl refl e
   where

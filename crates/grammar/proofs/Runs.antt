@@ -3,25 +3,24 @@ use Prim.Native.Nat.{ℕ, suc, _≤_, _<_}
 use native.Mathlib.Omega.{arith}
 use mathlib.Core.Path.{_≡_, refl}
 use mathlib.Core.List.{List, [], _∷_}
-use mathlib.Core.Bool.{Bool, true, false}
+use mathlib.Core.Bool.{Bool, true, false, cond}
 use lib.Dec.{ltb, leb}
 use lib.ListN.{drop}
 use borrow.Author.Tests.{ltb-true, le-leb, leb-true, eq-eqb, ne-eqb}
-use Rattle.grammar.specs.Fields.{pick, isDigit}
-use Rattle.grammar.specs.Grammar.{runLen, formed, within}
+use Rattle.grammar.specs.Fields.{isDigit}
+use Rattle.grammar.specs.Grammar.{runLen, formed, fits}
 
 -- two answers of one test
 pub clash : {A : Type 0} {b : Bool} → b ≡ true → b ≡ false → A
 clash p q = let z : _≡_ {A = ℕ} 0 1 = cc in absurd (let n : ⊥ = omega arith in n)
 
 -- two tests, one after the other
-pub both-true : (p q : Bool) → pick p q false ≡ true → (p ≡ true) × (q ≡ true)
-unfolding pick
+pub both-true : (p q : Bool) → cond p q false ≡ true → (p ≡ true) × (q ≡ true)
 both-true true q e = (refl, e)
 both-true false q e = clash e refl
 
-pub within-both : (v lo lim : ℕ) → within v lo lim ≡ true → (lo ≤ v) × (v < lim)
-unfolding within
+pub within-both : (v lo lim : ℕ) → fits v lo lim ≡ true → (lo ≤ v) × (v < lim)
+unfolding fits
 within-both v lo lim e =
     let p = both-true (leb lo v) (ltb v lim) e in
     (leb-true lo v (p .0), ltb-true v lim (p .1))
@@ -29,7 +28,7 @@ within-both v lo lim e =
 -- ---- digits
 
 pub is-digit : (b : ℕ) → 48 ≤ b → b ≤ 57 → isDigit b ≡ true
-unfolding isDigit pick
+unfolding isDigit
 is-digit b p q = simp (le-leb 48 b p, le-leb b 57 q)
 
 pub digit-both : (b : ℕ) → isDigit b ≡ true → (48 ≤ b) × (b ≤ 57)
@@ -41,11 +40,11 @@ digit-both b e =
 -- ---- the run's length
 
 pub run-hit : (b : ℕ) (t : List ℕ) → isDigit b ≡ true → runLen (b ∷ t) ≡ suc (runLen t)
-unfolding runLen pick
+unfolding runLen
 run-hit b t e = simp e
 
 pub run-miss : (b : ℕ) (t : List ℕ) → isDigit b ≡ false → runLen (b ∷ t) ≡ 0
-unfolding runLen pick
+unfolding runLen
 run-miss b t e = simp e
 
 -- a text that does not begin with a digit
@@ -70,23 +69,23 @@ stop-run (b ∷ t) = split (isDigit b) refl (stop-run t)
 -- ---- the run's form
 
 pub formed-nil : formed [] ≡ false
-unfolding formed runLen pick
+unfolding formed runLen
 formed-nil = refl
 
 pub formed-off : (b : ℕ) (t : List ℕ) → isDigit b ≡ false → formed (b ∷ t) ≡ false
-unfolding formed pick
+unfolding formed
 formed-off b t q = rw (run-miss b t q) refl
 
 -- a lone zero, a needless leading zero, any other first digit
 pub formed-zero : (b : ℕ) (t : List ℕ) → isDigit b ≡ true → b ≡ 48 → runLen t ≡ 0 → formed (b ∷ t) ≡ true
-unfolding formed pick
+unfolding formed
 formed-zero b t q z r = rw (run-hit b t q, r) (simp (eq-eqb b 48 z))
 
 pub formed-lead : (b : ℕ) (t : List ℕ) (n : ℕ) → isDigit b ≡ true → b ≡ 48 → runLen t ≡ suc n → formed (b ∷ t) ≡ false
-unfolding formed pick
+unfolding formed
 formed-lead b t n q x r =
     rw (run-hit b t q, r) (simp (ne-eqb (suc (suc n)) 0 (λ z. omega arith), eq-eqb b 48 x, ne-eqb (suc (suc n)) 1 (λ z. omega arith)))
 
 pub formed-other : (b : ℕ) (t : List ℕ) → isDigit b ≡ true → (b ≡ 48 → ⊥) → formed (b ∷ t) ≡ true
-unfolding formed pick
+unfolding formed
 formed-other b t q z = rw (run-hit b t q) (simp (ne-eqb b 48 z, ne-eqb (suc (runLen t)) 0 (λ o. omega arith)))

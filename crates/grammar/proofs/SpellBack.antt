@@ -5,15 +5,15 @@ use native.Mathlib.Omega.{arith}
 use native.Mathlib.Numerals.{add-one}
 use mathlib.Core.Path.{_≡_, refl, sym, ap, ap₂, _∙_}
 use mathlib.Core.List.{List, [], _∷_, _++_, append-assoc}
-use mathlib.Core.Bool.{Bool, true, false}
+use mathlib.Core.Bool.{Bool, true, false, cond}
 use lib.Dec.{eqb}
 use lib.ListN.{take, drop}
 use borrow.Author.Tests.{eq-eqb, ne-eqb, eqb-true}
 use Rattle.refusals.specs.declared.Refusal.{Refusal}
 use Rattle.refusals.specs.declared.Refusal.the-variants.{OffForm, OutOfRange}
 use Rattle.tables.specs.Layout.{Tables}
-use Rattle.grammar.specs.Fields.{pick, bytes, lineEnd, comma}
-use Rattle.grammar.specs.Grammar.{accepted, refused, Next, Part, _▸_, keep, demand, lit, runLen, value, formed, within, number, parted, row, endOfLine, line, lines}
+use Rattle.grammar.specs.Fields.{bytes, lineEnd, comma}
+use Rattle.grammar.specs.Grammar.{accepted, refused, Rest, Part, _▸_, keep, demand, lit, runLen, value, formed, fits, numeral, parted, row, endOfLine, line, lines}
 use Rattle.grammar.specs.Spelling.{digits, gap, joined, keyed, stacked, changed}
 use Rattle.grammar.proofs.Decimal.{digits-back}
 use Rattle.grammar.proofs.SpellParts.{joined-none, joined-front}
@@ -30,9 +30,9 @@ pub record Back (A : Type 0) (text : A → List ℕ) (t : List ℕ) (go : A → 
 
 -- the part p in line l, with what follows in line m, spells what it reads
 abbrev pub BackOf : (A : Type 0) → Part → ℕ → ℕ → Tables → (A → List ℕ) → (A → Tables) → Type 0
-BackOf A p l m T text change = (t : List ℕ) (k : Next) (W : Tables) → p t l T k ≡ accepted W → Back A text t (λ a u. k u m (change a) ≡ accepted W)
+BackOf A p l m T text change = (t : List ℕ) (k : Rest) (W : Tables) → p t l T k ≡ accepted W → Back A text t (λ a u. k u m (change a) ≡ accepted W)
 
-pub demand-back : (b : Bool) (r : ℕ → Refusal) (t : List ℕ) (l : ℕ) (T : Tables) (k : Next) (W : Tables) → demand b r t l T k ≡ accepted W → (b ≡ true) × (k t l T ≡ accepted W)
+pub demand-back : (b : Bool) (r : ℕ → Refusal) (t : List ℕ) (l : ℕ) (T : Tables) (k : Rest) (W : Tables) → demand b r t l T k ≡ accepted W → (b ≡ true) × (k t l T ≡ accepted W)
 unfolding demand
 demand-back true r t l T k W h = (refl, h)
 demand-back false r t l T k W h = not-refused h
@@ -48,27 +48,27 @@ lit-back (b ∷ bs) l T (x ∷ t) k W h =
     record { what = tt; rest = r .rest; says = ap₂ (λ (y : ℕ) (z : List ℕ). y ∷ z) (eqb-true x b (d .0)) (r .says); then = r .then }
 
 -- A NUMBER: in its range
-pub number-back : (least limit : ℕ) (p : ℕ → Part) (t : List ℕ) (l : ℕ) (T : Tables) (k : Next) (W : Tables) → number least limit p t l T k ≡ accepted W
-    → Back ℕ digits t (λ v u. (within v least limit ≡ true) × (p v u l T k ≡ accepted W))
-unfolding number _▸_
+pub number-back : (least limit : ℕ) (p : ℕ → Part) (t : List ℕ) (l : ℕ) (T : Tables) (k : Rest) (W : Tables) → numeral least limit p t l T k ≡ accepted W
+    → Back ℕ digits t (λ v u. (fits v least limit ≡ true) × (p v u l T k ≡ accepted W))
+unfolding numeral _▸_
 number-back least limit p t l T k W h =
     let v = value 0 (take (runLen t) t) in
     let u = drop (runLen t) t in
     let d = demand-back (formed t) OffForm u l T _ W h in
-    let e = demand-back (within v least limit) OutOfRange u l T _ W (d .1) in
+    let e = demand-back (fits v least limit) OutOfRange u l T _ W (d .1) in
     record { what = v; rest = u; says = digits-back t (d .0); then = e }
 
 -- ---- functions put together place by place
 
 unfoldable pub at : {A : Type 0} → ℕ → A → (ℕ → A) → ℕ → A
-at i a g j = pick (eqb j i) a (g j)
+at i a g j = cond (eqb j i) a (g j)
 
 pub at-here : {A : Type 0} (i : ℕ) (a : A) (g : ℕ → A) → at i a g i ≡ a
-unfolding at pick
+unfolding at
 at-here i a g = rw (eq-eqb i i refl) refl
 
 pub at-later : {A : Type 0} (i : ℕ) (a : A) (g : ℕ → A) (j : ℕ) → i < j → at i a g j ≡ g j
-unfolding at pick
+unfolding at
 at-later i a g j h = rw (ne-eqb j i (λ z. omega arith)) refl
 
 pub joined-same : (mark : ℕ) (f g : ℕ → List ℕ) (n i : ℕ) → ((j : ℕ) → i ≤ j → j < i + n → f j ≡ g j) → joined mark f n i ≡ joined mark g n i

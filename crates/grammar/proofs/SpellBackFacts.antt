@@ -4,16 +4,16 @@ use native.Mathlib.Omega.{arith}
 use native.Mathlib.Numerals.{add-one}
 use mathlib.Core.Path.{_≡_, refl, sym, ap, ap₂, _∙_}
 use mathlib.Core.List.{List, [], _∷_, _++_, append-assoc}
-use mathlib.Core.Bool.{true, false}
+use mathlib.Core.Bool.{true, false, cond}
 use lib.Dec.{eqb, leb, ltb}
 use borrow.Author.Tests.{eq-eqb, ne-eqb, eqb-true, leb-true, ltb-true, lt-ltb, le-ltb}
 use Rattle.refusals.specs.declared.Refusal.the-variants.{NotRising}
 use Rattle.meaning.specs.Sas.{Facts}
 use Rattle.tables.specs.Layout.{Tables, domAt}
 use Rattle.tables.proofs.Laws.{by-cases}
-use Rattle.grammar.specs.Fields.{pick, comma, dash, colon}
-use Rattle.grammar.specs.Grammar.{accepted, Next, Part, _▸_, nothing, ask, keep, choice, within, putFact, facts, factList}
-use Rattle.grammar.specs.Spelling.{digits, fact, another, moreFacts, first, someFacts, changed, said, factRow}
+use Rattle.grammar.specs.Fields.{comma, dash, colon}
+use Rattle.grammar.specs.Grammar.{accepted, Rest, Part, _▸_, nothing, ask, keep, choice, fits, putFact, facts, factList}
+use Rattle.grammar.specs.Spelling.{digits, fact, another, moreFacts, first, someFacts, changed, factPut, factRow}
 use Rattle.grammar.proofs.Runs.{clash}
 use Rattle.grammar.proofs.SpellFacts.{within-below, on}
 use Rattle.grammar.proofs.SpellBack.{Back, BackOf, demand-back, lit-back, number-back, changed-same}
@@ -21,18 +21,18 @@ use Rattle.grammar.proofs.SpellBack.{Back, BackOf, demand-back, lit-bac
 -- ---- rows of facts: nothing said up to a variable, that variable, and then another row
 
 unfoldable from : ℕ → ℕ → Facts → Facts
-from v x F j = pick (ltb j v) 0 (pick (eqb j v) (suc x) (F j))
+from v x F j = cond (ltb j v) 0 (cond (eqb j v) (suc x) (F j))
 
 from-low : (v x : ℕ) (F : Facts) (j : ℕ) → j < v → from v x F j ≡ 0
-unfolding from pick
+unfolding from
 from-low v x F j h = rw (lt-ltb j v h) refl
 
 from-here : (v x : ℕ) (F : Facts) → from v x F v ≡ suc x
-unfolding from pick
+unfolding from
 from-here v x F = rw (le-ltb v v (omega arith), eq-eqb v v refl) refl
 
 from-high : (v x : ℕ) (F : Facts) (j : ℕ) → v < j → from v x F j ≡ F j
-unfolding from pick
+unfolding from
 from-high v x F j h = rw (le-ltb j v (omega arith), ne-eqb j v (λ z. omega arith)) refl
 
 pub more-same : (F G : Facts) (n i : ℕ) → ((j : ℕ) → i ≤ j → j < i + n → F j ≡ G j) → moreFacts F n i ≡ moreFacts G n i
@@ -73,16 +73,16 @@ some-skip F (suc d) n i h =
 
 module _ (place : ℕ → ℕ) where
   abbrev put : Facts → ℕ → List ℕ → List ℕ
-  put F v = said (F v) (place v)
+  put F v = factPut (F v) (place v)
 
   put-skip : (F : Facts) (d n i : ℕ) (w : List ℕ) → ((j : ℕ) → i ≤ j → j < i + d → F j ≡ 0) → changed (put F) (d + n) i w ≡ changed (put F) n (i + d) w
-  unfolding changed said
+  unfolding changed factPut
   put-skip F zero n i w h = let a : 0 + n ≡ n = omega arith in let b : i ≡ i + 0 = omega arith in ap₂ (λ (x y : ℕ). changed (put F) x y w) a b
   put-skip F (suc d) n i w h =
       let a : suc d + n ≡ suc (d + n) = omega arith in
       let b : suc i + d ≡ i + suc d = omega arith in
       ap (λ (m : ℕ). changed (put F) m i w) a
-      ∙ ap (λ (x : ℕ). changed (put F) (d + n) (suc i) (said x (place i) w)) (h i (omega arith) (omega arith))
+      ∙ ap (λ (x : ℕ). changed (put F) (d + n) (suc i) (factPut x (place i) w)) (h i (omega arith) (omega arith))
       ∙ put-skip F d n (suc i) w (λ j p q. h j (omega arith) (omega arith))
       ∙ ap (λ (x : ℕ). changed (put F) n x w) b
 
@@ -103,12 +103,12 @@ module _ (place : ℕ → ℕ) where
         some-skip whole d (suc n) i (λ j a b. from-low (i + d) x F j b)
         ∙ ap₂ (λ (y : ℕ) (z : List ℕ). first y (i + d) z (someFacts whole n (suc (i + d)))) (from-here (i + d) x F) (more-same whole F n (suc (i + d)) (λ j a b. from-high (i + d) x F j (omega arith)))
 
-    whole-put : (w : List ℕ) → changed (put whole) (d + suc n) i w ≡ changed (put F) n (suc (i + d)) (said (suc x) (place (i + d)) w)
+    whole-put : (w : List ℕ) → changed (put whole) (d + suc n) i w ≡ changed (put F) n (suc (i + d)) (factPut (suc x) (place (i + d)) w)
     unfolding changed
     whole-put w =
         put-skip whole d (suc n) i w (λ j a b. from-low (i + d) x F j b)
-        ∙ ap (λ (y : ℕ). changed (put whole) n (suc (i + d)) (said y (place (i + d)) w)) (from-here (i + d) x F)
-        ∙ changed-same (put whole) (put F) n (suc (i + d)) _ (λ j a b z. ap (λ (y : ℕ). said y (place j) z) (from-high (i + d) x F j (omega arith)))
+        ∙ ap (λ (y : ℕ). changed (put whole) n (suc (i + d)) (factPut y (place (i + d)) w)) (from-here (i + d) x F)
+        ∙ changed-same (put whole) (put F) n (suc (i + d)) _ (λ j a b z. ap (λ (y : ℕ). factPut y (place j) z) (from-high (i + d) x F j (omega arith)))
 
   -- the same, where v is that variable and r the number of variables
   module _ (i d x n v r : ℕ) (F : Facts) (e : v ≡ i + d) (f : r ≡ d + suc n) where
@@ -118,31 +118,31 @@ module _ (place : ℕ → ℕ) where
     some-from : someFacts (from v x F) r i ≡ fact v x ++ moreFacts F n (suc v)
     some-from = rw (e, f) (whole-some i d x n F)
 
-    put-from : (w : List ℕ) → changed (put (from v x F)) r i w ≡ changed (put F) n (suc v) (said (suc x) (place v) w)
+    put-from : (w : List ℕ) → changed (put (from v x F)) r i w ≡ changed (put F) n (suc v) (factPut (suc x) (place v) w)
     put-from w = rw (e, f) (whole-put i d x n F w)
 
 -- ---- what is read
 
 -- a byte chosen on: it stood there, or the other part read the same text
-choice-back : {R : Type 0} (b : ℕ) (p q : Part) (t : List ℕ) (l : ℕ) (T : Tables) (k : Next) (W : Tables) → choice b p q t l T k ≡ accepted W
+choice-back : {R : Type 0} (b : ℕ) (p q : Part) (t : List ℕ) (l : ℕ) (T : Tables) (k : Rest) (W : Tables) → choice b p q t l T k ≡ accepted W
     → ((u : List ℕ) → t ≡ b ∷ u → p u l T k ≡ accepted W → R) → (q t l T k ≡ accepted W → R) → R
-unfolding choice pick
+unfolding choice
 choice-back b p q [] l T k W h yes′ no′ = no′ h
 choice-back b p q (x ∷ t) l T k W h yes′ no′ =
     by-cases (eqb x b) (λ e. yes′ t (ap (λ (y : ℕ). y ∷ t) (eqb-true x b e)) (rw e at h)) (λ e. no′ (rw e at h))
 
 -- one fact of a list
-record OneFact (place : ℕ → ℕ) (n least N : ℕ) (t : List ℕ) (l : ℕ) (T : Tables) (k : Next) (W : Tables) : Type 0 where
+record OneFact (place : ℕ → ℕ) (n least N : ℕ) (t : List ℕ) (l : ℕ) (T : Tables) (k : Rest) (W : Tables) : Type 0 where
   var : ℕ
   val : ℕ
   rest : List ℕ
   low : least ≤ var
   high : var < N
   says : t ≡ fact var val ++ rest
-  then : choice comma (facts place n (suc var)) nothing rest l (on (said (suc val) (place var)) T) k ≡ accepted W
+  then : choice comma (facts place n (suc var)) nothing rest l (on (factPut (suc val) (place var)) T) k ≡ accepted W
 
-module _ (place : ℕ → ℕ) (N l : ℕ) (k : Next) (W : Tables) where
-  below : (v : ℕ) (T : Tables) → T .counts .vars ≡ N → within v 0 (T .counts .vars) ≡ true → v < N
+module _ (place : ℕ → ℕ) (N l : ℕ) (k : Rest) (W : Tables) where
+  below : (v : ℕ) (T : Tables) → T .counts .vars ≡ N → fits v 0 (T .counts .vars) ≡ true → v < N
   below v T e p = let h = ltb-true v (T .counts .vars) (sym (within-below v (T .counts .vars)) ∙ p) in omega arith
 
   none-left : {R : Type 0} (least : ℕ) (t : List ℕ) (T : Tables) → facts place 0 least t l T k ≡ accepted W → R
@@ -153,7 +153,7 @@ module _ (place : ℕ → ℕ) (N l : ℕ) (k : Next) (W : Tables) where
       clash (d .0) refl
 
   fact-back : (n least : ℕ) (t : List ℕ) (T : Tables) → T .counts .vars ≡ N → facts place (suc n) least t l T k ≡ accepted W → OneFact place n least N t l T k W
-  unfolding facts fact said _▸_ keep
+  unfolding facts fact factPut _▸_ keep
   fact-back n least t T e h =
       let a = number-back 0 (T .counts .vars) _ t l T k W h in
       let v = a .what in
@@ -191,7 +191,7 @@ module _ (place : ℕ → ℕ) (N l : ℕ) (k : Next) (W : Tables) where
   some-none (suc r) i = some-none r (suc i)
 
   put-none : (r i : ℕ) (w : List ℕ) → changed (put place (λ j. 0)) r i w ≡ w
-  unfolding changed said
+  unfolding changed factPut
   put-none zero i w = refl
   put-none (suc r) i w = put-none r (suc i) w
 
@@ -201,7 +201,7 @@ module _ (place : ℕ → ℕ) (N l : ℕ) (k : Next) (W : Tables) where
     left = N - suc (o .var)
 
     abbrev Later : Type 0
-    Later = Read left (suc (o .var)) (λ F. moreFacts F left (suc (o .var))) (o .rest) (on (said (suc (o .val)) (place (o .var))) T)
+    Later = Read left (suc (o .var)) (λ F. moreFacts F left (suc (o .var))) (o .rest) (on (factPut (suc (o .val)) (place (o .var))) T)
 
     skipped : o .var ≡ i + (o .var - i)
     skipped = omega (arith, o .low)
@@ -261,14 +261,14 @@ module _ (place : ℕ → ℕ) (N l : ℕ) (k : Next) (W : Tables) where
       choice-back comma (facts place (suc n) least) nothing t l T k W h
       (λ u p q.
       let o = fact-back n least u T c q in
-      more-joined least r e n u T o (more-back n (suc (o .var)) (N - suc (o .var)) (omega (arith, o .high)) (o .rest) (on (said (suc (o .val)) (place (o .var))) T) c (o .then)) t p)
+      more-joined least r e n u T o (more-back n (suc (o .var)) (N - suc (o .var)) (omega (arith, o .high)) (o .rest) (on (factPut (suc (o .val)) (place (o .var))) T) c (o .then)) t p)
       (λ q. more-nothing least r t T q)
 
   some-back : (n : ℕ) (t : List ℕ) (T : Tables) → T .counts .vars ≡ N → facts place n 0 t l T k ≡ accepted W → Read N 0 (λ F. someFacts F N 0) t T
   some-back zero t T c h = none-left 0 t T h
   some-back (suc n) t T c h =
       let o = fact-back n 0 t T c h in
-      some-joined 0 N (omega arith) n t T o (more-back n (suc (o .var)) (N - suc (o .var)) (omega (arith, o .high)) (o .rest) (on (said (suc (o .val)) (place (o .var))) T) c (o .then))
+      some-joined 0 N (omega arith) n t T o (more-back n (suc (o .var)) (N - suc (o .var)) (omega (arith, o .high)) (o .rest) (on (factPut (suc (o .val)) (place (o .var))) T) c (o .then))
 
 -- A LIST OF FACTS
 pub facts-back : (place : ℕ → ℕ) (N l : ℕ) (T : Tables) → T .counts .vars ≡ N → BackOf Facts (factList place) l l T (λ F. someFacts F N 0) (λ F. on (factRow place F N) T)

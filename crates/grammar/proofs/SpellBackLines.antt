@@ -11,8 +11,8 @@ use Rattle.meaning.specs.Sas.{Facts}
 use Rattle.tables.specs.Layout.{Tables, domAt, prePlace, effPlace, classPlace, sharePlace}
 use Rattle.grammar.specs.Fields.{comma, dash, slash, semicolon}
 use Rattle.meaning.specs.Limits.{mostCost, mostStates}
-use Rattle.grammar.specs.Grammar.{accepted, Next, Part, _▸_, ask, keep, parted, row as numberRow, putFact, putCost, putShare, operator, classCount, noneMissing, classes, variables, amounts}
-use Rattle.grammar.specs.Spelling.{digits, joined, numbers, someFacts, shareText, changed, row, factRow}
+use Rattle.grammar.specs.Grammar.{accepted, Rest, Part, _▸_, ask, keep, parted, row as numberRow, putFact, putCost, putShare, operator, classCount, noneMissing, classes, variables, amounts}
+use Rattle.grammar.specs.Spelling.{digits, joined, numbers, someFacts, shareText, changed, rowPut, factRow}
 use Rattle.grammar.proofs.SpellParts.{joined-none}
 use Rattle.grammar.proofs.SpellFacts.{on, on-changed, Knows, knows-row}
 use Rattle.grammar.proofs.SpellLines.{onShares, shares-changed}
@@ -25,7 +25,7 @@ module _ (m : ℕ) where
   abbrev classPut : ℕ → ℕ → ℕ → List ℕ → List ℕ
   classPut v y c w = set w (classPlace m v y) c
 
-  classes-back : (v : ℕ) (p : List ℕ → Part) (n x : ℕ) (cs t : List ℕ) (l : ℕ) (T : Tables) (k : Next) (W : Tables) → classes m v p n x cs t l T k ≡ accepted W
+  classes-back : (v : ℕ) (p : List ℕ → Part) (n x : ℕ) (cs t : List ℕ) (l : ℕ) (T : Tables) (k : Rest) (W : Tables) → classes m v p n x cs t l T k ≡ accepted W
       → Back (ℕ → ℕ) (λ c. joined comma (λ y. digits (c y)) n x) t (λ c u. (ds : List ℕ) × (p ds u l (on (changed (λ y. classPut v y (c y)) n x) T) k ≡ accepted W))
   unfolding classes changed _▸_ keep
   classes-back v p zero x cs t l T k W h =
@@ -45,12 +45,12 @@ module _ (m : ℕ) where
       }
 
   module _ (N : ℕ) (dom : ℕ → ℕ) where
-    abbrev rowPut : ℕ → (ℕ → ℕ) → List ℕ → List ℕ
-    rowPut v c = row (classPlace m v) c (dom v)
+    abbrev classesPut : ℕ → (ℕ → ℕ) → List ℕ → List ℕ
+    classesPut v c = rowPut (classPlace m v) c (dom v)
 
     pub variables-back : (n v states : ℕ) → v + n ≡ N → (l : ℕ) (T : Tables) → Knows N dom T
-        → BackOf (ℕ → ℕ → ℕ) (variables m n v states) l l T (λ c. joined slash (λ u. numbers (c u) (dom u)) n v) (λ c. on (changed (λ u. rowPut u (c u)) n v) T)
-    unfolding variables changed _▸_ numbers row
+        → BackOf (ℕ → ℕ → ℕ) (variables m n v states) l l T (λ c. joined slash (λ u. numbers (c u) (dom u)) n v) (λ c. on (changed (λ u. classesPut u (c u)) n v) T)
+    unfolding variables changed _▸_ numbers rowPut
     variables-back zero v states e l T w t k W h =
         let d = demand-back (leb states mostStates) TooManyStates t l T k W h in
         record { what = λ u j. 0; rest = t; says = ap (λ (y : List ℕ). y ++ t) (sym (joined-none slash _ 0 v refl)); then = d .1 }
@@ -67,7 +67,7 @@ module _ (m : ℕ) where
           what = at v c (r .what);
           rest = r .rest;
           says = joined-at v c (r .what) n slash (λ u c. numbers c (dom u)) t (a .rest) (b .rest) (r .rest) (a .says) (b .says) (r .says);
-          then = ap (λ (x : List ℕ). k (r .rest) l (on (λ y. x) T)) (sym (changed-at v c (r .what) n rowPut (T .facts))) ∙ r .then;
+          then = ap (λ (x : List ℕ). k (r .rest) l (on (λ y. x) T)) (sym (changed-at v c (r .what) n classesPut (T .facts))) ∙ r .then;
         }
 
 -- ---- an operator
@@ -110,8 +110,8 @@ operator-back N o l T e t k W h =
 
 -- ---- shares
 
-pub amounts-back : (m n l : ℕ) (T : Tables) → BackOf (ℕ → ℕ) (amounts m n) l l T (λ f. shareText f n) (λ f. onShares (row (sharePlace m) f n) T)
-unfolding amounts shareText row numbers changed
+pub amounts-back : (m n l : ℕ) (T : Tables) → BackOf (ℕ → ℕ) (amounts m n) l l T (λ f. shareText f n) (λ f. onShares (rowPut (sharePlace m) f n) T)
+unfolding amounts shareText rowPut numbers changed
 amounts-back m zero l T t k W h =
     let a = lit-back (dash ∷ []) l T t k W h in
     record { what = λ j. 0; rest = a .rest; says = a .says; then = a .then }
@@ -127,8 +127,8 @@ amounts-back m (suc n) l T t k W h =
 -- ---- a row over the variables
 
 pub varRow-back : (least : ℕ) (limit : ℕ → Tables → ℕ) (place : ℕ → ℕ) (N l : ℕ) (T : Tables) → T .counts .vars ≡ N
-    → BackOf (ℕ → ℕ) (ask (λ U. numberRow least limit (λ v x. putFact (place v) x) (U .counts .vars) 0)) l l T (λ f. numbers f N) (λ f. on (row place f N) T)
-unfolding ask numbers row
+    → BackOf (ℕ → ℕ) (ask (λ U. numberRow least limit (λ v x. putFact (place v) x) (U .counts .vars) 0)) l l T (λ f. numbers f N) (λ f. on (rowPut place f N) T)
+unfolding ask numbers rowPut
 varRow-back least limit place N l T e t k W h =
     let a = row-back least limit (λ v x. putFact (place v) x) N 0 l T t k W (ap (λ (n : ℕ). numberRow least limit (λ v x. putFact (place v) x) n 0 t l T k) (sym e) ∙ h) in
     record {

@@ -10,8 +10,8 @@ use Rattle.meaning.specs.Split.{Task}
 use Rattle.tables.specs.Layout.{Tables, factsRoom, domAt, domPlace, initPlace, goalPlace, prePlace, effPlace, classPlace, sharePlace}
 use Rattle.grammar.specs.Fields.{slash}
 use Rattle.meaning.specs.Limits.{mostVars, mostValues, mostOps, mostMaps}
-use Rattle.grammar.specs.Grammar.{accepted, Next, Part, _▸_, nothing, ask, keep, within, number, line, lines, factList, withCounts, putCost, editionLine, varsLine, domLine, initLine, goalLine, operator, opsLine, opLines, variables, mapsLine, mapLines, amounts, shareLines, taskLines, theEnd, noTask, verdict}
-use Rattle.grammar.specs.Spelling.{digits, joined, numbers, someFacts, keyed, stacked, opText, mapText, shareText, spelled, changed, row, factRow}
+use Rattle.grammar.specs.Grammar.{accepted, Rest, Part, _▸_, nothing, ask, keep, fits, numeral, line, lines, factList, withCounts, putCost, editionLine, varsLine, domLine, initLine, goalLine, operator, opsLine, opLines, variables, mapsLine, mapLines, amounts, shareLines, taskLines, theEnd, noTask, verdict}
+use Rattle.grammar.specs.Spelling.{digits, joined, numbers, someFacts, keyed, stacked, opText, mapText, shareText, spelled, changed, rowPut, factRow}
 use Rattle.grammar.proofs.Runs.{within-both}
 use Rattle.grammar.proofs.SpellFacts.{on, Knows, knows-row, knows-facts, knows-changed}
 use Rattle.grammar.proofs.SpellLines.{onShares}
@@ -23,10 +23,10 @@ use Rattle.grammar.proofs.SpellBackLines.{Op, opSpelled, opStored, oper
 -- ---- a line with one number, in its range
 
 abbrev Ranged : ℕ → ℕ → Type 0
-Ranged least limit = (v : ℕ) × (within v least limit ≡ true)
+Ranged least limit = (v : ℕ) × (fits v least limit ≡ true)
 
-counted-back : (least limit : ℕ) (p : ℕ → Part) (l : ℕ) (T : Tables) (change : ℕ → Tables) → ((v : ℕ) (u : List ℕ) (k : Next) → p v u l T k ≡ k u l (change v))
-    → BackOf (Ranged least limit) (number least limit p) l l T (λ a. digits (a .0)) (λ a. change (a .0))
+counted-back : (least limit : ℕ) (p : ℕ → Part) (l : ℕ) (T : Tables) (change : ℕ → Tables) → ((v : ℕ) (u : List ℕ) (k : Rest) → p v u l T k ≡ k u l (change v))
+    → BackOf (Ranged least limit) (numeral least limit p) l l T (λ a. digits (a .0)) (λ a. change (a .0))
 counted-back least limit p l T change e t k W h =
     let a = number-back least limit p t l T k W h in
     record { what = (a .what, a .then .0); rest = a .rest; says = a .says; then = sym (e (a .what) (a .rest) k) ∙ a .then .1 }
@@ -64,23 +64,23 @@ shares-back : (O M l : ℕ) (T W : Tables) (t : List ℕ) → T .counts .ops ≡
 unfolding shareLines ask
 shares-back O M l T W t a b h =
     let p : ℕ → Part = λ m. line "share=" (amounts m O) in
-    let r = lines-back (ℕ → ℕ) (λ o. 0) p (λ m f. keyed "share=" (shareText f O)) (λ m f. onShares (row (sharePlace m) f O)) (λ U. Unit {0}) (λ i f U u. tt)
-    (λ m i U u. line-back (ℕ → ℕ) "share=" (amounts m O) i U (λ f. shareText f O) (λ f. onShares (row (sharePlace m) f O) U) (amounts-back m O i U)) M 0 l T tt t theEnd W
+    let r = lines-back (ℕ → ℕ) (λ o. 0) p (λ m f. keyed "share=" (shareText f O)) (λ m f. onShares (rowPut (sharePlace m) f O)) (λ U. Unit {0}) (λ i f U u. tt)
+    (λ m i U u. line-back (ℕ → ℕ) "share=" (amounts m O) i U (λ f. shareText f O) (λ f. onShares (rowPut (sharePlace m) f O) U) (amounts-back m O i U)) M 0 l T tt t theEnd W
     (ap₂ (λ (x y : ℕ). lines (λ m. line "share=" (amounts m x)) y 0 t l T theEnd) (sym a) (sym b) ∙ h) in
     (r .what, r .says ∙ ap (λ (u : List ℕ). sharesSpelled O M (r .what) ++ u) (end-back (r .rest) _ _ W (r .then)) ∙ append-nil _)
 
 module _ (N : ℕ) (dom : ℕ → ℕ) (O : ℕ) where
   mapStored : ℕ → (ℕ → ℕ → ℕ) → Tables → Tables
-  mapStored m f = on (changed (λ v. row (classPlace m v) (f v) (dom v)) N 0)
+  mapStored m f = on (changed (λ v. rowPut (classPlace m v) (f v) (dom v)) N 0)
 
   mapRows-back : (M l : ℕ) (T W : Tables) (t : List ℕ) → Knows N dom T → T .counts .ops ≡ O → T .counts .maps ≡ M → (mapLines ▸ shareLines) t l T theEnd ≡ accepted W
       → (class : ℕ → ℕ → ℕ → ℕ) × (share : ℕ → ℕ → ℕ) × (t ≡ mapsSpelled N dom M class ++ sharesSpelled O M share)
   unfolding mapLines ask _▸_ mapStored
   mapRows-back M l T W t w a b h =
-      let k : Next = λ u i U. shareLines u i U theEnd in
+      let k : Rest = λ u i U. shareLines u i U theEnd in
       let P : Tables → Type 0 = λ U. Knows N dom U × (U .counts .ops ≡ O) × (U .counts .maps ≡ M) in
       let keeps : (m : ℕ) (f : ℕ → ℕ → ℕ) (U : Tables) → P U → P (mapStored m f U) =
-      λ m f U u. (knows-changed (λ v. row (classPlace m v) (f v) (dom v)) (λ v X. knows-row (classPlace m v) (f v) (λ j. omega arith) (dom v) X) N 0 U (u .0), u .1, u .2) in
+      λ m f U u. (knows-changed (λ v. rowPut (classPlace m v) (f v) (dom v)) (λ v X. knows-row (classPlace m v) (f v) (λ j. omega arith) (dom v) X) N 0 U (u .0), u .1, u .2) in
       let c = lines-back (ℕ → ℕ → ℕ) (λ v x. 0) (λ m. line "map=" (variables m N 0 1)) (λ m f. keyed "map=" (mapSpelled N dom f)) mapStored P keeps
       (λ m i U u. line-back (ℕ → ℕ → ℕ) "map=" (variables m N 0 1) i U (mapSpelled N dom) (λ f. mapStored m f U) (variables-back m N dom N 0 1 (omega arith) i U (u .0))) M 0 l T
       (w, a, b) t k W (ap₂ (λ (x y : ℕ). lines (λ m. line "map=" (variables m x 0 1)) y 0 t l T k) (sym (w .vars)) (sym b) ∙ h) in
@@ -119,7 +119,7 @@ module _ (N : ℕ) (dom : ℕ → ℕ) where
       → (op : ℕ → Op) × (u : List ℕ) × MapsBack N dom O u × (t ≡ opsSpelled N O op ++ u)
   unfolding opLines ask _▸_
   opRows-back O l T W t w a h =
-      let k : Next = λ u i U. (mapsLine ▸ mapLines ▸ shareLines) u i U theEnd in
+      let k : Rest = λ u i U. (mapsLine ▸ mapLines ▸ shareLines) u i U theEnd in
       let P : Tables → Type 0 = λ U. Knows N dom U × (U .counts .ops ≡ O) in
       let keeps : (o : ℕ) (b : Op) (U : Tables) → P U → P (opStored N o b U) = λ o b U u. (knows-stored o b U (u .0), u .1) in
       let c = lines-back Op (record { cost = 0; pre = λ v. 0; eff = λ v. 0 }) (λ o. line "op=" (operator o)) (λ o b. keyed "op=" (opSpelled N b)) (opStored N) P keeps
@@ -149,12 +149,12 @@ chain a b c d e f g h i j x u₁ u₂ u₃ u₄ u₅ u₆ p₁ p₂ p₃ p₄ p�
     ∙ simp append-assoc
 
 module _ (f : List ℕ) (lf : length f ≡ 1624) (zf : (p : ℕ) → getD f p 0 ≡ 0) where
-  known-doms : (N : ℕ) (dom : ℕ → ℕ) (T : Tables) → T .facts ≡ f → T .counts .vars ≡ N → N ≤ 8 → Knows N dom (on (row domPlace dom N) T)
+  known-doms : (N : ℕ) (dom : ℕ → ℕ) (T : Tables) → T .facts ≡ f → T .counts .vars ≡ N → N ≤ 8 → Knows N dom (on (rowPut domPlace dom N) T)
   known-doms N dom T e c h =
       record {
         vars = c;
         few = h;
-        doms = λ v l. ap (λ (w : List ℕ). getD (row domPlace dom N w) (domPlace v) 0) e ∙ writes-row domPlace dom N v l (λ k q. omega arith) f (omega arith) (zf (domPlace v));
+        doms = λ v l. ap (λ (w : List ℕ). getD (rowPut domPlace dom N w) (domPlace v) 0) e ∙ writes-row domPlace dom N v l (λ k q. omega arith) f (omega arith) (zf (domPlace v));
       }
 
   -- from goal= on, and from dom= on
@@ -189,10 +189,10 @@ module _ (f : List ℕ) (lf : length f ≡ 1624) (zf : (p : ℕ) → getD f p 0 
       → (domLine ▸ initLine ▸ goalLine ▸ opsLine ▸ opLines ▸ mapsLine ▸ mapLines ▸ shareLines) t l T theEnd ≡ accepted W → DomBack N t
   unfolding domLine initLine _▸_
   dom-back N l T W t e c n h =
-      let a = line-back (ℕ → ℕ) "dom=" _ l T (λ d. numbers d N) (λ d. on (row domPlace d N) T) (varRow-back 1 (λ v U. mostValues + 1) domPlace N l T c) t _ W h in
-      let T₁ = on (row domPlace (a .what) N) T in
+      let a = line-back (ℕ → ℕ) "dom=" _ l T (λ d. numbers d N) (λ d. on (rowPut domPlace d N) T) (varRow-back 1 (λ v U. mostValues + 1) domPlace N l T c) t _ W h in
+      let T₁ = on (rowPut domPlace (a .what) N) T in
       let w = known-doms N (a .what) T e c n in
-      let b = line-back (ℕ → ℕ) "init=" _ (l + 1) T₁ (λ d. numbers d N) (λ d. on (row initPlace d N) T₁) (varRow-back 0 (λ v U. domAt (U .facts) v) initPlace N (l + 1) T₁ c) (a .rest) _ W (a .then) in
+      let b = line-back (ℕ → ℕ) "init=" _ (l + 1) T₁ (λ d. numbers d N) (λ d. on (rowPut initPlace d N) T₁) (varRow-back 0 (λ v U. domAt (U .facts) v) initPlace N (l + 1) T₁ c) (a .rest) _ W (a .then) in
       record {
         dom = a .what;
         init = b .what;
@@ -224,13 +224,13 @@ module _ (f : List ℕ) (lf : length f ≡ 1624) (zf : (p : ℕ) → getD f p 0 
         share = o .later .share;
       }
 
-  one : (v : ℕ) → within v 1 2 ≡ true → v ≡ 1
+  one : (v : ℕ) → fits v 1 2 ≡ true → v ≡ 1
   one v p = let r = within-both v 1 2 p in omega arith
 
   lines-back-all : (T W : Tables) (x : List ℕ) → T .facts ≡ f → taskLines x 1 T theEnd ≡ accepted W → (τ : Task) × (x ≡ spelled τ)
   unfolding taskLines editionLine varsLine _▸_ nothing keep task spelled opText mapText
   lines-back-all T W x e h =
-      let a = line-back (Ranged 1 2) "edition=" (number 1 2 (λ v. nothing)) 1 T (λ y. digits (y .0)) (λ y. T) (counted-back 1 2 (λ v. nothing) 1 T (λ v. T) (λ v u k. refl)) x _ W h in
+      let a = line-back (Ranged 1 2) "edition=" (numeral 1 2 (λ v. nothing)) 1 T (λ y. digits (y .0)) (λ y. T) (counted-back 1 2 (λ v. nothing) 1 T (λ v. T) (λ v u k. refl)) x _ W h in
       let b = line-back (Ranged 1 (mostVars + 1)) "vars=" _ 2 T (λ y. digits (y .0)) _
       (counted-back 1 (mostVars + 1) (λ n. keep (λ U. withCounts n (U .counts .ops) (U .counts .maps) U)) 2 T (λ n. withCounts n (T .counts .ops) (T .counts .maps) T) (λ v u k. refl)) (a .rest) _ W (a .then) in
       let N = b .what .0 in

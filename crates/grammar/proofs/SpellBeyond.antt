@@ -5,7 +5,7 @@ use mathlib.Core.Path.{_≡_, _∙_}
 use lib.ListN.{getD}
 use Rattle.meaning.specs.Split.{Task}
 use Rattle.tables.specs.Layout.{factsRoom, costsRoom, sharesRoom, domPlace, initPlace, goalPlace, prePlace, effPlace, classPlace, sharePlace}
-use Rattle.grammar.specs.Spelling.{row, opRows, mapRows, headRows, tablesOf}
+use Rattle.grammar.specs.Spelling.{rowPut, opRows, mapRows, headRows, tablesOf}
 use Rattle.grammar.proofs.SpellTables.{Spares, spares-changed, spares-row, spares-facts, zeros}
 
 -- a place of the facts that is none of the task's
@@ -33,7 +33,7 @@ module _ (τ : Task) (p : ℕ) (n : NotOwn τ p) where
   map-spared : (m : ℕ) → m < τ .maps → Spares (mapRows τ m) p
   unfolding mapRows
   map-spared m h =
-      spares-changed (λ v. row (classPlace m v) (τ .class m v) (τ .sas .dom v)) p (τ .sas .vars) 0
+      spares-changed (λ v. rowPut (classPlace m v) (τ .class m v) (τ .sas .dom v)) p (τ .sas .vars) 0
       (λ v a b. spares-row (classPlace m v) (τ .class m v) p (τ .sas .dom v) (λ x. n .class m v x h (omega arith)))
 
   pub facts-beyond : getD (tablesOf τ .facts) p 0 ≡ 0
@@ -51,6 +51,6 @@ costs-beyond τ o h = spares-row (λ i. i) (τ .sas .cost) o (τ .sas .ops) (λ 
 pub shares-beyond : (τ : Task) (p : ℕ) → ((m o : ℕ) → m < τ .maps → o < τ .sas .ops → p ≡ sharePlace m o → ⊥) → getD (tablesOf τ .shares) p 0 ≡ 0
 unfolding tablesOf
 shares-beyond τ p h =
-    spares-changed (λ m. row (sharePlace m) (τ .share m) (τ .sas .ops)) p (τ .maps) 0
+    spares-changed (λ m. rowPut (sharePlace m) (τ .share m) (τ .sas .ops)) p (τ .maps) 0
     (λ m a b. spares-row (sharePlace m) (τ .share m) p (τ .sas .ops) (λ o. h m o (omega arith))) _
     ∙ zeros sharesRoom p

@@ -3,7 +3,7 @@ use Prim.Native.Nat.{ℕ, zero, suc, _+_, _≤_, _<_}
 use native.Mathlib.Omega.{arith}
 use mathlib.Core.Path.{_≡_, refl, sym, ap, ap₂, _∙_}
 use mathlib.Core.List.{List, [], _∷_}
-use mathlib.Core.Bool.{Bool, true, false, _&&_, _||_}
+use mathlib.Core.Bool.{Bool, true, false, _&&_, _||_, cond}
 use lib.Dec.{eqb}
 use borrow.Author.Tests.{eq-eqb, ne-eqb, eqb-true, eqb-false}
 use Rattle.refusals.specs.declared.Refusal.{Refusal}
@@ -12,7 +12,6 @@ use Rattle.meaning.specs.Split.{countOf}
 use Rattle.scan.specs.declared.Found.the-variants.{Clean, Fault}
 use Rattle.tables.specs.Classes.{someHas, noneMissing as scanNoneMissing}
 use Rattle.tables.proofs.Laws.{by-cases}
-use Rattle.grammar.specs.Fields.{pick}
 use Rattle.meaning.specs.Limits.{mostValues}
 use Rattle.grammar.specs.Grammar.{has, topOf, allOf, classCount, noneMissing}
 
@@ -43,8 +42,7 @@ listed-all c n = let z : 0 + n ≡ n = omega arith in listed-down c n 0 ∙ ap (
 eqb-turn : (a b : ℕ) → eqb a b ≡ eqb b a
 eqb-turn a b = by-cases (eqb a b) (λ p. p ∙ sym (eq-eqb b a (sym (eqb-true a b p)))) (λ p. p ∙ sym (ne-eqb b a (λ q. eqb-false a b p (sym q))))
 
-pick-or : (a b : Bool) → pick a true b ≡ b || a
-unfolding pick
+pick-or : (a b : Bool) → cond a true b ≡ b || a
 pick-or true true = refl
 pick-or true false = refl
 pick-or false true = refl
@@ -55,8 +53,7 @@ unfolding has down
 has-some c zero d = refl
 has-some c (suc n) d = pick-or (eqb d (c n)) (has (down c n) d) ∙ ap₂ _||_ (has-some c n d) (eqb-turn d (c n))
 
-pick-and : (a b : Bool) → pick a b false ≡ b && a
-unfolding pick
+pick-and : (a b : Bool) → cond a b false ≡ b && a
 pick-and true true = refl
 pick-and true false = refl
 pick-and false true = refl
@@ -71,7 +68,7 @@ all-every f g (suc n) h = pick-and (f n) (allOf n f) ∙ ap₂ _&&_ (all-every f
 
 -- t is the top of the numbers below K that pass
 top-is : (K t : ℕ) (f : ℕ → Bool) → t ≤ K → ((d : ℕ) → t ≤ d → d < K → f d ≡ false) → ((s : ℕ) → t ≡ suc s → f s ≡ true) → topOf K f ≡ t
-unfolding topOf pick
+unfolding topOf
 top-is zero t f h above at = omega arith
 top-is (suc K) t f h above at =
     by-cases (eqb t (suc K)) (λ q. let e : t ≡ suc K = eqb-true t (suc K) q in rw (at K e) (sym e))
@@ -103,7 +100,7 @@ top-has c (suc n) s e =
     or-true′ false = refl
 
 top-same : (f g : ℕ → Bool) (n : ℕ) → ((d : ℕ) → f d ≡ g d) → topOf n f ≡ topOf n g
-unfolding topOf pick
+unfolding topOf
 top-same f g zero h = refl
 top-same f g (suc n) h = rw (h n, top-same f g n h) refl
 

@@ -15,9 +15,9 @@ use Rattle.meaning.specs.Sas.{Facts}
 use Rattle.scan.specs.declared.Found.{Found}
 use Rattle.tables.specs.Layout.{Tables, domPlace, domAt}
 use Rattle.scan.specs.Scan.{unless, _then_, each}
-use Rattle.grammar.specs.Fields.{pick, isDigit, comma, dash, colon}
-use Rattle.grammar.specs.Grammar.{Verdict, Next, Part, _▸_, nothing, ask, keep, demand, lit, choice, within, number, putFact, facts, factList}
-use Rattle.grammar.specs.Spelling.{digits, fact, another, moreFacts, first, someFacts, changed, row, said, factRow}
+use Rattle.grammar.specs.Fields.{isDigit, comma, dash, colon}
+use Rattle.grammar.specs.Grammar.{Verdict, Rest, Part, _▸_, nothing, ask, keep, demand, lit, choice, fits, numeral, putFact, facts, factList}
+use Rattle.grammar.specs.Spelling.{digits, fact, another, moreFacts, first, someFacts, changed, rowPut, factPut, factRow}
 use Rattle.grammar.proofs.Runs.{Stop, other}
 use Rattle.grammar.proofs.Decimal.{Head, head, digits-head}
 use Rattle.grammar.proofs.SpellParts.{judged, next, Told, demand-told, lit-told, number-told}
@@ -28,12 +28,12 @@ same-test true b p q = sym (p refl)
 same-test false true p q = q refl
 same-test false false p q = refl
 
-pub within-below : (v n : ℕ) → within v 0 n ≡ ltb v n
-unfolding within pick
+pub within-below : (v n : ℕ) → fits v 0 n ≡ ltb v n
+unfolding fits
 within-below v n = simp (le-leb 0 v (omega arith))
 
 colon-no-digit : isDigit colon ≡ false
-unfolding isDigit pick
+unfolding isDigit
 colon-no-digit = refl
 
 -- a rule that holds
@@ -63,8 +63,8 @@ knows-set T i x h q =
     let f = q .few in
     record { vars = q .vars; few = q .few; doms = λ v l. getD-set-other (T .facts) i (domPlace v) x 0 (λ z. omega arith) ∙ q .doms v l }
 
-pub knows-said : {n : ℕ} {dom : ℕ → ℕ} (T : Tables) (k i : ℕ) → 8 ≤ i → Knows n dom T → Knows n dom (on (said k i) T)
-unfolding said
+pub knows-said : {n : ℕ} {dom : ℕ → ℕ} (T : Tables) (k i : ℕ) → 8 ≤ i → Knows n dom T → Knows n dom (on (factPut k i) T)
+unfolding factPut
 knows-said T zero i h q = q
 knows-said T (suc k) i h q = knows-set T i (suc k) h q
 
@@ -75,13 +75,13 @@ module _ {n : ℕ} {dom : ℕ → ℕ} where
   knows-changed g h zero i T w = w
   knows-changed g h (suc k) i T w = knows-changed g h k (suc i) (on (g i) T) (h i T w)
 
-  pub knows-row : (place f : ℕ → ℕ) → ((j : ℕ) → 8 ≤ place j) → (k : ℕ) (T : Tables) → Knows n dom T → Knows n dom (on (row place f k) T)
-  unfolding row
+  pub knows-row : (place f : ℕ → ℕ) → ((j : ℕ) → 8 ≤ place j) → (k : ℕ) (T : Tables) → Knows n dom T → Knows n dom (on (rowPut place f k) T)
+  unfolding rowPut
   knows-row place f high k T w = knows-changed (λ i x. set x (place i) (f i)) (λ j U. knows-set U (place j) (f j) (high j)) k 0 T w
 
   pub knows-facts : (place : ℕ → ℕ) (F : Facts) → ((j : ℕ) → 8 ≤ place j) → (k : ℕ) (T : Tables) → Knows n dom T → Knows n dom (on (factRow place F k) T)
   unfolding factRow
-  knows-facts place F high k T w = knows-changed (λ v. said (F v) (place v)) (λ j U. knows-said U (F j) (place j) (high j)) k 0 T w
+  knows-facts place F high k T w = knows-changed (λ v. factPut (F v) (place v)) (λ j U. knows-said U (F j) (place j) (high j)) k 0 T w
 
 -- what may follow a list of facts
 pub record Ends (b : ℕ) : Type 0 where
@@ -94,14 +94,14 @@ factRule dom F l v = unless (leb (F v) (dom v)) (OutOfRange l)
 
 module _ (place : ℕ → ℕ) (high : (v : ℕ) → 8 ≤ place v) (F : Facts) (dom : ℕ → ℕ) (N : ℕ) (b : ℕ) (t : List ℕ) (e : Ends b) (l : ℕ) where
   -- one fact
-  fact-told : (m least v k : ℕ) (u : List ℕ) (T : Tables) (go : Next) → Stop u → least ≤ v → v < N → Knows N dom T
+  fact-told : (m least v k : ℕ) (u : List ℕ) (T : Tables) (go : Rest) → Stop u → least ≤ v → v < N → Knows N dom T
       → facts place (suc m) least (fact v k ++ u) l T go
-      ≡ judged (unless (leb (suc k) (dom v)) (OutOfRange l)) (choice comma (facts place m (suc v)) nothing u l (on (said (suc k) (place v)) T) go)
-  unfolding facts fact said _▸_ keep
+      ≡ judged (unless (leb (suc k) (dom v)) (OutOfRange l)) (choice comma (facts place m (suc v)) nothing u l (on (factPut (suc k) (place v)) T) go)
+  unfolding facts fact factPut _▸_ keep
   fact-told m least v k u T go s p q w =
       let inner : (x : ℕ) → Part = λ x. keep (putFact (place v) (x + 1)) ▸ choice comma (facts place m (v + 1)) nothing in
       let outer : (x : ℕ) → Part = λ x. demand (leb least x) NotRising ▸ lit (colon ∷ [])
-      ▸ number 0 (domAt (T .facts) x) (λ y. keep (putFact (place x) (y + 1)) ▸ choice comma (facts place m (x + 1)) nothing) in
+      ▸ numeral 0 (domAt (T .facts) x) (λ y. keep (putFact (place x) (y + 1)) ▸ choice comma (facts place m (x + 1)) nothing) in
       ap (λ (xs : List ℕ). facts place (suc m) least xs l T go) (append-assoc (digits v) (colon ∷ digits k) u)
       ∙ number-told 0 (T .counts .vars) v outer (colon ∷ (digits k ++ u)) l T go (other colon-no-digit)
       ∙ passed _ _ (within-below v (T .counts .vars) ∙ lt-ltb v (T .counts .vars) (omega (arith, w .vars)))
@@ -116,10 +116,10 @@ module _ (place : ℕ → ℕ) (high : (v : ℕ) → 8 ≤ place v) (F : Facts) 
   -- the facts after the first
   abbrev MoreTold : ℕ → ℕ → Type 0
   MoreTold n v = (m least : ℕ) → n ≤ m → least ≤ v → (T : Tables) → Knows N dom T
-      → Told (choice comma (facts place m least) nothing) (moreFacts F n v) (b ∷ t) l T (each (factRule dom F l) n v) (on (changed (λ v. said (F v) (place v)) n v) T)
+      → Told (choice comma (facts place m least) nothing) (moreFacts F n v) (b ∷ t) l T (each (factRule dom F l) n v) (on (changed (λ v. factPut (F v) (place v)) n v) T)
 
   stop-another : (x v : ℕ) (u : List ℕ) → Stop u → Stop (another x v ++ u)
-  unfolding another isDigit pick
+  unfolding another isDigit
   stop-another zero v u s = s
   stop-another (suc k) v u s = other refl
 
@@ -128,10 +128,10 @@ module _ (place : ℕ → ℕ) (high : (v : ℕ) → 8 ≤ place v) (F : Facts) 
   stop-more zero v = other (e .no-digit)
   stop-more (suc n) v = rw (append-assoc (another (F v) v) (moreFacts F n (suc v)) (b ∷ t)) (stop-another (F v) v _ (stop-more n (suc v)))
 
-  more-next : (n v : ℕ) → MoreTold n (suc v) → v + suc n ≡ N → (x m least : ℕ) → suc n ≤ m → least ≤ v → (T : Tables) → Knows N dom T → (k : Next)
+  more-next : (n v : ℕ) → MoreTold n (suc v) → v + suc n ≡ N → (x m least : ℕ) → suc n ≤ m → least ≤ v → (T : Tables) → Knows N dom T → (k : Rest)
       → choice comma (facts place m least) nothing ((another x v ++ moreFacts F n (suc v)) ++ b ∷ t) l T k
-      ≡ judged (unless (leb x (dom v)) (OutOfRange l) then each (factRule dom F l) n (suc v)) (k (b ∷ t) l (on (changed (λ v. said (F v) (place v)) n (suc v)) (on (said x (place v)) T)))
-  unfolding choice another pick said
+      ≡ judged (unless (leb x (dom v)) (OutOfRange l) then each (factRule dom F l) n (suc v)) (k (b ∷ t) l (on (changed (λ v. factPut (F v) (place v)) n (suc v)) (on (factPut x (place v)) T)))
+  unfolding choice another factPut
   more-next n v ih r zero m least p q T w k =
       ih m least (omega arith) (omega arith) T w k
       ∙ sym (unsaid (OutOfRange l) _ _ (dom v))
@@ -140,30 +140,30 @@ module _ (place : ℕ → ℕ) (high : (v : ℕ) → 8 ≤ place v) (F : Facts) 
       next (unless (leb (suc x) (dom v)) (OutOfRange l)) (each (factRule dom F l) n (suc v)) _
       (ap (λ (xs : List ℕ). facts place (suc m) least xs l T k) (append-assoc (fact v x) (moreFacts F n (suc v)) (b ∷ t))
       ∙ fact-told m least v x (moreFacts F n (suc v) ++ b ∷ t) T k (stop-more n (suc v)) q (omega arith) w)
-      (λ c. ih m (suc v) (omega arith) (omega arith) (on (said (suc x) (place v)) T) (knows-said T (suc x) (place v) (high v) w) k)
+      (λ c. ih m (suc v) (omega arith) (omega arith) (on (factPut (suc x) (place v)) T) (knows-said T (suc x) (place v) (high v) w) k)
 
   more-told : (n v : ℕ) → v + n ≡ N → MoreTold n v
-  unfolding choice nothing moreFacts each changed pick
+  unfolding choice nothing moreFacts each changed
   more-told zero v r m least p q T w k = rw (e .no-comma) refl
   more-told (suc n) v r m least p q T w k = more-next n v (more-told n (suc v) (omega arith)) r (F v) m least p q T w k
 
   -- a digit is no dash
-  not-dash : {xs : List ℕ} (p q : Part) → Head xs → (u : List ℕ) (T : Tables) (k : Next) → choice dash p q (xs ++ u) l T k ≡ q (xs ++ u) l T k
-  unfolding choice pick
+  not-dash : {xs : List ℕ} (p q : Part) → Head xs → (u : List ℕ) (T : Tables) (k : Rest) → choice dash p q (xs ++ u) l T k ≡ q (xs ++ u) l T k
+  unfolding choice
   not-dash p q (head {b = c} x y) u T k = rw (ne-eqb c dash (λ z. omega arith)) refl
 
-  begun : (v x : ℕ) (u : List ℕ) (T : Tables) (k : Next) → factList place (fact v x ++ u) l T k ≡ facts place (T .counts .vars) 0 (fact v x ++ u) l T k
+  begun : (v x : ℕ) (u : List ℕ) (T : Tables) (k : Rest) → factList place (fact v x ++ u) l T k ≡ facts place (T .counts .vars) 0 (fact v x ++ u) l T k
   unfolding factList ask fact
   begun v x u T k = rw (append-assoc (digits v) (colon ∷ digits x) u) (not-dash nothing _ (digits-head v) (colon ∷ digits x ++ u) T k)
 
   abbrev SomeTold : ℕ → ℕ → Type 0
   SomeTold n v = (T : Tables) → Knows N dom T
-      → Told (factList place) (someFacts F n v) (b ∷ t) l T (each (factRule dom F l) n v) (on (changed (λ v. said (F v) (place v)) n v) T)
+      → Told (factList place) (someFacts F n v) (b ∷ t) l T (each (factRule dom F l) n v) (on (changed (λ v. factPut (F v) (place v)) n v) T)
 
-  some-next : (n v : ℕ) → SomeTold n (suc v) → v + suc n ≡ N → (x : ℕ) (T : Tables) → Knows N dom T → (k : Next)
+  some-next : (n v : ℕ) → SomeTold n (suc v) → v + suc n ≡ N → (x : ℕ) (T : Tables) → Knows N dom T → (k : Rest)
       → factList place (first x v (moreFacts F n (suc v)) (someFacts F n (suc v)) ++ b ∷ t) l T k
-      ≡ judged (unless (leb x (dom v)) (OutOfRange l) then each (factRule dom F l) n (suc v)) (k (b ∷ t) l (on (changed (λ v. said (F v) (place v)) n (suc v)) (on (said x (place v)) T)))
-  unfolding first said
+      ≡ judged (unless (leb x (dom v)) (OutOfRange l) then each (factRule dom F l) n (suc v)) (k (b ∷ t) l (on (changed (λ v. factPut (F v) (place v)) n (suc v)) (on (factPut x (place v)) T)))
+  unfolding first factPut
   some-next n v ih r zero T w k =
       ih T w k
       ∙ sym (unsaid (OutOfRange l) _ _ (dom v))
@@ -173,14 +173,14 @@ module _ (place : ℕ → ℕ) (high : (v : ℕ) → 8 ≤ place v) (F : Facts) 
       ∙ begun v x (moreFacts F n (suc v) ++ b ∷ t) T k
       ∙ ap (λ (m : ℕ). facts place m 0 (fact v x ++ (moreFacts F n (suc v) ++ b ∷ t)) l T k) (w .vars ∙ size)
       ∙ fact-told (v + n) 0 v x (moreFacts F n (suc v) ++ b ∷ t) T k (stop-more n (suc v)) (omega arith) (omega arith) w)
-      (λ c. more-told n (suc v) (omega arith) (v + n) (suc v) (omega arith) (omega arith) (on (said (suc x) (place v)) T) (knows-said T (suc x) (place v) (high v) w) k)
+      (λ c. more-told n (suc v) (omega arith) (v + n) (suc v) (omega arith) (omega arith) (on (factPut (suc x) (place v)) T) (knows-said T (suc x) (place v) (high v) w) k)
     where
       size : N ≡ suc (v + n)
       size = omega arith
 
   -- A LIST OF FACTS
   some-told : (n v : ℕ) → v + n ≡ N → SomeTold n v
-  unfolding factList choice nothing someFacts each changed pick
+  unfolding factList choice nothing someFacts each changed
   some-told zero v r T w k = refl
   some-told (suc n) v r T w k = some-next n v (some-told n (suc v) (omega arith)) r (F v) T w k
 

@@ -4,7 +4,7 @@ use Prim.Native.Nat.{ℕ, zero, suc, _+_, _≤_, _<_}
 use native.Mathlib.Omega.{arith}
 use mathlib.Core.Path.{_≡_, refl, ap, _∙_}
 use mathlib.Core.List.{List, [], _∷_, _++_, append-assoc}
-use mathlib.Core.Bool.{Bool, true, false, _&&_}
+use mathlib.Core.Bool.{Bool, true, false, _&&_, cond}
 use lib.Dec.{leb, ltb, leb·suc-suc}
 use lib.ListN.{set}
 use Rattle.refusals.specs.declared.Refusal.the-variants.{OutOfRange}
@@ -12,10 +12,10 @@ use Rattle.meaning.specs.Split.{Task}
 use Rattle.scan.specs.declared.Found.the-variants.{Clean}
 use Rattle.tables.specs.Layout.{Tables, domAt, domPlace, initPlace, goalPlace, prePlace, effPlace, sharePlace}
 use Rattle.scan.specs.Scan.{unless, _then_, each, factsFault, operatorFault, mapFault, sharesFault, within as scanWithin}
-use Rattle.grammar.specs.Fields.{pick, isDigit, lineEnd, comma, dash, semicolon}
+use Rattle.grammar.specs.Fields.{isDigit, lineEnd, comma, dash, semicolon}
 use Rattle.meaning.specs.Limits.{mostValues, mostCost}
-use Rattle.grammar.specs.Grammar.{Next, Part, _▸_, nothing, ask, keep, lit, within, number, row as numberRow, line, factList, withCounts, putFact, putCost, putShare, editionLine, varsLine, domLine, initLine, goalLine, opsLine, operator, mapsLine, variables, amounts}
-use Rattle.grammar.specs.Spelling.{digits, joined, numbers, someFacts, keyed, opText, mapText, shareText, changed, row, factRow, opRows, mapRows}
+use Rattle.grammar.specs.Grammar.{Rest, Part, _▸_, nothing, ask, keep, lit, fits, numeral, row as numberRow, line, factList, withCounts, putFact, putCost, putShare, editionLine, varsLine, domLine, initLine, goalLine, opsLine, operator, mapsLine, variables, amounts}
+use Rattle.grammar.specs.Spelling.{digits, joined, numbers, someFacts, keyed, opText, mapText, shareText, changed, rowPut, factRow, opRows, mapRows}
 use Rattle.grammar.proofs.Runs.{other}
 use Rattle.grammar.proofs.SpellParts.{judged, next, Told, ToldLine, lit-told, number-told, row-told, line-told}
 use Rattle.grammar.proofs.SpellFacts.{within-below, on, on-changed, Knows, knows-set, knows-facts, Ends, facts-told}
@@ -24,46 +24,46 @@ use Rattle.tables.specs.Lines.{lineOfOp, lineOfMap, lineOfShares}
 
 -- ---- ranges as the grammar and as the scan have them
 
-within-range : (v least most : ℕ) → within v least (suc most) ≡ scanWithin least most v
-unfolding within pick
+within-range : (v least most : ℕ) → fits v least (suc most) ≡ scanWithin least most v
+unfolding fits
 within-range v least most = go (leb least v)
   where
-    go : (p : Bool) → pick p (ltb v (suc most)) false ≡ p && leb v most
+    go : (p : Bool) → cond p (ltb v (suc most)) false ≡ p && leb v most
     go true = leb·suc-suc v most
     go false = refl
 
-within-most : (v most : ℕ) → within v 0 (suc most) ≡ leb v most
+within-most : (v most : ℕ) → fits v 0 (suc most) ≡ leb v most
 within-most v most = within-below v (suc most) ∙ leb·suc-suc v most
 
 -- ---- what may follow
 
 line-ends : Ends lineEnd
-unfolding isDigit pick
+unfolding isDigit
 line-ends = record { no-digit = refl; no-comma = refl }
 
 semicolon-ends : Ends semicolon
-unfolding isDigit pick
+unfolding isDigit
 semicolon-ends = record { no-digit = refl; no-comma = refl }
 
 -- ---- a line with one number
 
-count-told : (least most v : ℕ) (p : ℕ → Part) (rest : List ℕ) (l : ℕ) (T U : Tables) (test : Bool) → within v least (suc most) ≡ test
-    → ((k : Next) → p v (lineEnd ∷ rest) l T k ≡ k (lineEnd ∷ rest) l U) → Told (number least (suc most) p) (digits v) (lineEnd ∷ rest) l T (unless test (OutOfRange l)) U
+count-told : (least most v : ℕ) (p : ℕ → Part) (rest : List ℕ) (l : ℕ) (T U : Tables) (test : Bool) → fits v least (suc most) ≡ test
+    → ((k : Rest) → p v (lineEnd ∷ rest) l T k ≡ k (lineEnd ∷ rest) l U) → Told (numeral least (suc most) p) (digits v) (lineEnd ∷ rest) l T (unless test (OutOfRange l)) U
 count-told least most v p rest l T U test e h k =
     number-told least (suc most) v p (lineEnd ∷ rest) l T k (other (line-ends .no-digit))
-    ∙ ap (judged (unless (within v least (suc most)) (OutOfRange l))) (h k)
+    ∙ ap (judged (unless (fits v least (suc most)) (OutOfRange l))) (h k)
     ∙ ap (λ (b : Bool). judged (unless b (OutOfRange l)) (k (lineEnd ∷ rest) l U)) e
 
 module _ (rest : List ℕ) (l : ℕ) (T : Tables) where
   pub edition-told : ToldLine editionLine (keyed "edition=" (digits 1)) rest l T Clean T
-  unfolding editionLine nothing within pick
+  unfolding editionLine nothing fits
   edition-told = line-told "edition=" _ (digits 1) rest l T T Clean (count-told 1 1 1 (λ e. nothing) rest l T T true refl (λ k. refl))
 
-  count-line : (key : String) (least most v : ℕ) (f : ℕ → Tables → Tables) (test : Bool) → within v least (suc most) ≡ test
-      → ToldLine (line key (number least (suc most) (λ n. keep (f n)))) (keyed key (digits v)) rest l T (unless test (OutOfRange l)) (f v T)
+  count-line : (key : String) (least most v : ℕ) (f : ℕ → Tables → Tables) (test : Bool) → fits v least (suc most) ≡ test
+      → ToldLine (line key (numeral least (suc most) (λ n. keep (f n)))) (keyed key (digits v)) rest l T (unless test (OutOfRange l)) (f v T)
   unfolding keep
   count-line key least most v f test e =
-      line-told key (number least (suc most) (λ n. keep (f n))) (digits v) rest l T (f v T) (unless test (OutOfRange l))
+      line-told key (numeral least (suc most) (λ n. keep (f n))) (digits v) rest l T (f v T) (unless test (OutOfRange l))
       (count-told least most v (λ n. keep (f n)) rest l T (f v T) test e (λ k. refl))
 
   pub vars-told : (n : ℕ) → ToldLine varsLine (keyed "vars=" (digits n)) rest l T (unless (scanWithin 1 8 n) (OutOfRange l)) (withCounts n (T .counts .ops) (T .counts .maps) T)
@@ -82,13 +82,13 @@ module _ (rest : List ℕ) (l : ℕ) (T : Tables) where
 
 module _ (key : String) (least : ℕ) (limit : ℕ → Tables → ℕ) (place f : ℕ → ℕ) (test : ℕ → Bool) (P : Tables → Type 0) (N : ℕ)
     (keeps : (i : ℕ) (T : Tables) → i < N → P T → P (putFact (place i) (f i) T))
-    (tests : (i : ℕ) (T : Tables) → i < N → P T → within (f i) least (limit i T) ≡ test i) where
+    (tests : (i : ℕ) (T : Tables) → i < N → P T → fits (f i) least (limit i T) ≡ test i) where
   abbrev rowPart : ℕ → Part
   rowPart n = numberRow least limit (λ v x. putFact (place v) x) n 0
 
   row-line : (rest : List ℕ) (l : ℕ) (T : Tables) → T .counts .vars ≡ N → P T
-      → ToldLine (line key (ask (λ U. rowPart (U .counts .vars)))) (keyed key (numbers f N)) rest l T (each (λ v. unless (test v) (OutOfRange l)) N 0) (on (row place f N) T)
-  unfolding ask numbers row
+      → ToldLine (line key (ask (λ U. rowPart (U .counts .vars)))) (keyed key (numbers f N)) rest l T (each (λ v. unless (test v) (OutOfRange l)) N 0) (on (rowPut place f N) T)
+  unfolding ask numbers rowPut
   row-line rest l T e p =
       line-told key (ask (λ U. rowPart (U .counts .vars))) (joined comma (λ v. digits (f v)) N 0) rest l T
       (on (changed (λ v w. set w (place v) (f v)) N 0) T) (each (λ v. unless (test v) (OutOfRange l)) N 0)
@@ -99,7 +99,7 @@ module _ (key : String) (least : ℕ) (limit : ℕ → Tables → ℕ) (place f 
 module _ (τ : Task) (rest : List ℕ) (l : ℕ) (T : Tables) where
   pub dom-told : T .counts .vars ≡ τ .sas .vars
       → ToldLine domLine (keyed "dom=" (numbers (τ .sas .dom) (τ .sas .vars))) rest l T (each (λ v. unless (scanWithin 1 8 (τ .sas .dom v)) (OutOfRange l)) (τ .sas .vars) 0)
-      (on (row domPlace (τ .sas .dom) (τ .sas .vars)) T)
+      (on (rowPut domPlace (τ .sas .dom) (τ .sas .vars)) T)
   unfolding domLine
   dom-told e =
       row-line "dom=" 1 (λ v U. mostValues + 1) domPlace (τ .sas .dom) (λ v. scanWithin 1 8 (τ .sas .dom v)) (λ U. Unit {0}) (τ .sas .vars)
@@ -107,7 +107,7 @@ module _ (τ : Task) (rest : List ℕ) (l : ℕ) (T : Tables) where
 
   pub init-told : Knows (τ .sas .vars) (τ .sas .dom) T
       → ToldLine initLine (keyed "init=" (numbers (τ .sas .init) (τ .sas .vars))) rest l T (each (λ v. unless (ltb (τ .sas .init v) (τ .sas .dom v)) (OutOfRange l)) (τ .sas .vars) 0)
-      (on (row initPlace (τ .sas .init) (τ .sas .vars)) T)
+      (on (rowPut initPlace (τ .sas .init) (τ .sas .vars)) T)
   unfolding initLine
   init-told w =
       row-line "init=" 0 (λ v U. domAt (U .facts) v) initPlace (τ .sas .init) (λ v. ltb (τ .sas .init v) (τ .sas .dom v)) (Knows (τ .sas .vars) (τ .sas .dom)) (τ .sas .vars)
@@ -137,7 +137,7 @@ module _ (τ : Task) (o : ℕ) (T : Tables) (w : Knows (τ .sas .vars) (τ .sas 
   abbrev preDone : Tables
   preDone = on (factRow (prePlace o) (τ .sas .pre o) (τ .sas .vars)) (putCost o (τ .sas .cost o) T)
 
-  eff-told : (k : Next) → (lit (semicolon ∷ []) ▸ factList (effPlace o)) (semicolon ∷ effPart) (lineOfOp o) preDone k
+  eff-told : (k : Rest) → (lit (semicolon ∷ []) ▸ factList (effPlace o)) (semicolon ∷ effPart) (lineOfOp o) preDone k
       ≡ judged (factsFault τ (τ .sas .eff o) (lineOfOp o)) (k (lineEnd ∷ rest) (lineOfOp o) (opChange τ o T))
   unfolding _▸_ factsFault opRows
   eff-told k =
@@ -145,7 +145,7 @@ module _ (τ : Task) (o : ℕ) (T : Tables) (w : Knows (τ .sas .vars) (τ .sas 
       ∙ facts-told (effPlace o) (λ v. omega arith) (τ .sas .eff o) (τ .sas .dom) (τ .sas .vars) lineEnd rest line-ends (lineOfOp o) preDone
       (knows-facts (prePlace o) (τ .sas .pre o) (λ v. omega arith) (τ .sas .vars) (putCost o (τ .sas .cost o) T) (record { vars = w .vars; few = w .few; doms = w .doms })) k
 
-  pre-told : (k : Next) → (lit (semicolon ∷ []) ▸ factList (prePlace o) ▸ lit (semicolon ∷ []) ▸ factList (effPlace o)) (semicolon ∷ prePart) (lineOfOp o) (putCost o (τ .sas .cost o) T) k
+  pre-told : (k : Rest) → (lit (semicolon ∷ []) ▸ factList (prePlace o) ▸ lit (semicolon ∷ []) ▸ factList (effPlace o)) (semicolon ∷ prePart) (lineOfOp o) (putCost o (τ .sas .cost o) T) k
       ≡ judged (factsFault τ (τ .sas .pre o) (lineOfOp o) then factsFault τ (τ .sas .eff o) (lineOfOp o)) (k (lineEnd ∷ rest) (lineOfOp o) (opChange τ o T))
   unfolding _▸_ factsFault
   pre-told k =
@@ -188,8 +188,8 @@ shares-changed g zero i T = refl
 shares-changed g (suc n) i T = shares-changed g n (suc i) (onShares (g i) T)
 
 amounts-told : (share : ℕ → ℕ) (m n : ℕ) (rest : List ℕ) (l : ℕ) (T : Tables)
-    → Told (amounts m n) (shareText share n) (lineEnd ∷ rest) l T (each (λ o. unless (leb (share o) 1000000) (OutOfRange l)) n 0) (onShares (row (sharePlace m) share n) T)
-unfolding amounts shareText row numbers each changed
+    → Told (amounts m n) (shareText share n) (lineEnd ∷ rest) l T (each (λ o. unless (leb (share o) 1000000) (OutOfRange l)) n 0) (onShares (rowPut (sharePlace m) share n) T)
+unfolding amounts shareText rowPut numbers each changed
 amounts-told share m zero rest l T k = lit-told (dash ∷ []) (lineEnd ∷ rest) l T k
 amounts-told share m (suc n) rest l T k =
     row-told 0 (λ o U. mostCost + 1) (λ o x. putShare (sharePlace m o) x) share (λ o. leb (share o) 1000000) (λ U. Unit {0}) (suc n)
@@ -197,7 +197,7 @@ amounts-told share m (suc n) rest l T k =
     ∙ ap (λ (U : Tables). judged (each (λ o. unless (leb (share o) 1000000) (OutOfRange l)) (suc n) 0) (k (lineEnd ∷ rest) l U)) (shares-changed (λ o x. set x (sharePlace m o) (share o)) (suc n) 0 T)
 
 pub share-told : (τ : Task) (m : ℕ) (T : Tables) (rest : List ℕ)
-    → ToldLine (line "share=" (amounts m (τ .sas .ops))) (keyed "share=" (shareText (τ .share m) (τ .sas .ops))) rest (lineOfShares (τ .sas .ops) (τ .maps) m) T (sharesFault τ m) (onShares (row (sharePlace m) (τ .share m) (τ .sas .ops)) T)
+    → ToldLine (line "share=" (amounts m (τ .sas .ops))) (keyed "share=" (shareText (τ .share m) (τ .sas .ops))) rest (lineOfShares (τ .sas .ops) (τ .maps) m) T (sharesFault τ m) (onShares (rowPut (sharePlace m) (τ .share m) (τ .sas .ops)) T)
 unfolding sharesFault
 share-told τ m T rest =
     line-told "share=" (amounts m (τ .sas .ops)) (shareText (τ .share m) (τ .sas .ops)) rest (lineOfShares (τ .sas .ops) (τ .maps) m) T _ (sharesFault τ m)

@@ -20,17 +20,17 @@ use Rattle.tables.specs.Layout.{Tables, domAt, classPlace}
 use Rattle.scan.specs.Scan.{unless, _then_, each, classesFault}
 use Rattle.tables.specs.Classes.{noneMissing as scanNoneMissing}
 use Rattle.scan.proofs.Walks.{then-then, clean-first, rule-held, walk-clean}
-use Rattle.grammar.specs.Fields.{pick, isDigit, comma, slash}
+use Rattle.grammar.specs.Fields.{isDigit, comma, slash}
 use Rattle.meaning.specs.Limits.{mostValues, mostStates}
-use Rattle.grammar.specs.Grammar.{Verdict, Next, Part, _▸_, keep, parted, putFact, classCount, noneMissing, classes, variables}
-use Rattle.grammar.specs.Spelling.{digits, gap, joined, numbers, changed, row}
+use Rattle.grammar.specs.Grammar.{Verdict, Rest, Part, _▸_, keep, parted, putFact, classCount, noneMissing, classes, variables}
+use Rattle.grammar.specs.Spelling.{digits, gap, joined, numbers, changed, rowPut}
 use Rattle.grammar.proofs.Runs.{Stop, other}
 use Rattle.grammar.proofs.SpellParts.{judged, next, Told, demand-told, number-told, parted-told, stop-gap, joined-none, joined-front}
 use Rattle.grammar.proofs.SpellFacts.{within-below, on, Knows, knows-set, knows-row}
 use Rattle.grammar.proofs.SpellClasses.{listed, count-is, missing-is}
 
 slash-no-digit : isDigit slash ≡ false
-unfolding isDigit pick
+unfolding isDigit
 slash-no-digit = refl
 
 -- what stands after a variable's classes
@@ -51,7 +51,7 @@ module _ (τ : Task) (m l : ℕ) where
   classSet v y w = set w (classPlace m v y) (τ .class m v y)
 
   classes-told : (v : ℕ) (p : List ℕ → Part) (rest : List ℕ) → Stop rest → v < τ .sas .vars → (n x : ℕ) (cs : List ℕ) (T : Tables) → Knows (τ .sas .vars) (τ .sas .dom) T
-      → (k : Next)
+      → (k : Rest)
       → classes m v p n x cs (joined comma (λ y. digits (τ .class m v y)) n x ++ rest) l T k
       ≡ judged (each (classRule v) n x) (classes m v p 0 0 (listed (τ .class m v) n x cs) rest l (on (changed (classSet v) n x) T) k)
   unfolding classes each listed changed _▸_ keep
@@ -81,10 +81,10 @@ module _ (τ : Task) (m l : ℕ) where
 
   -- a variable's classes, each in its range, and at their end none missing
   variable-told : (v : ℕ) (p : List ℕ → Part) (rest : List ℕ) → Stop rest → v < τ .sas .vars → τ .sas .dom v ≤ 8 → (T : Tables) → Knows (τ .sas .vars) (τ .sas .dom) T
-      → (k : Next)
+      → (k : Rest)
       → classes m v p (domAt (T .facts) v) 0 [] (numbers (τ .class m v) (τ .sas .dom v) ++ rest) l T k
-      ≡ judged (classesFault τ m l v) (p (listed (τ .class m v) (τ .sas .dom v) 0 []) rest l (on (row (classPlace m v) (τ .class m v) (τ .sas .dom v)) T) k)
-  unfolding numbers classesFault row classes _▸_
+      ≡ judged (classesFault τ m l v) (p (listed (τ .class m v) (τ .sas .dom v) 0 []) rest l (on (rowPut (classPlace m v) (τ .class m v) (τ .sas .dom v)) T) k)
+  unfolding numbers classesFault rowPut classes _▸_
   variable-told v p rest s a b T w k =
       let c = τ .class m v in
       let d = τ .sas .dom v in
@@ -100,7 +100,7 @@ module _ (τ : Task) (m l : ℕ) where
   statesRule = unless (leb (abstractStates (τ .sas) (view τ m)) 4096) (TooManyStates l)
 
   abbrev mapSet : ℕ → List ℕ → List ℕ
-  mapSet v = row (classPlace m v) (τ .class m v) (τ .sas .dom v)
+  mapSet v = rowPut (classPlace m v) (τ .class m v) (τ .sas .dom v)
 
   module _ (rest : List ℕ) (s : Stop rest) (small : (v : ℕ) → v < τ .sas .vars → τ .sas .dom v ≤ 8) where
     pub variables-told : (n v states : ℕ) → v + n ≡ τ .sas .vars → states ≡ size (view τ m .classes) v → (T : Tables) → Knows (τ .sas .vars) (τ .sas .dom) T

@@ -6,7 +6,7 @@ use mathlib.Core.List.{List}
 use lib.ListN.{length, getD}
 use Rattle.meaning.specs.Split.{Task}
 use Rattle.tables.specs.Layout.{domPlace, initPlace, goalPlace, prePlace, effPlace, classPlace, sharePlace}
-use Rattle.grammar.specs.Spelling.{changed, row, opRows, mapRows, headRows}
+use Rattle.grammar.specs.Spelling.{changed, rowPut, opRows, mapRows, headRows}
 use Rattle.grammar.proofs.SpellTables.{Spares, Long, long-changed, spares-changed, writes-changed, long-row, spares-row, writes-row, long-facts, spares-facts, writes-facts}
 
 -- a task within the limits that the tables have room for
@@ -30,13 +30,13 @@ module _ (τ : Task) where
 
   pub long-map : (m : ℕ) → Long (mapRows τ m)
   unfolding mapRows
-  long-map m = long-changed (λ v. row (classPlace m v) (τ .class m v) (τ .sas .dom v)) (λ v. long-row (classPlace m v) (τ .class m v) (τ .sas .dom v)) (τ .sas .vars) 0
+  long-map m = long-changed (λ v. rowPut (classPlace m v) (τ .class m v) (τ .sas .dom v)) (λ v. long-row (classPlace m v) (τ .class m v) (τ .sas .dom v)) (τ .sas .vars) 0
 
   pub long-facts-of : (w : List ℕ) → length (changed (mapRows τ) (τ .maps) 0 (changed (opRows τ) (τ .sas .ops) 0 (headRows τ w))) ≡ length w
   long-facts-of w = long-changed (mapRows τ) long-map (τ .maps) 0 _ ∙ long-changed (opRows τ) long-op (τ .sas .ops) 0 _ ∙ long-head w
 
-  pub long-shares-of : Long (changed (λ m. row (sharePlace m) (τ .share m) (τ .sas .ops)) (τ .maps) 0)
-  long-shares-of = long-changed (λ m. row (sharePlace m) (τ .share m) (τ .sas .ops)) (λ m. long-row (sharePlace m) (τ .share m) (τ .sas .ops)) (τ .maps) 0
+  pub long-shares-of : Long (changed (λ m. rowPut (sharePlace m) (τ .share m) (τ .sas .ops)) (τ .maps) 0)
+  long-shares-of = long-changed (λ m. rowPut (sharePlace m) (τ .share m) (τ .sas .ops)) (λ m. long-row (sharePlace m) (τ .share m) (τ .sas .ops)) (τ .maps) 0
 
 module _ (τ : Task) (s : Small τ) where
   -- ---- the head
@@ -50,7 +50,7 @@ module _ (τ : Task) (s : Small τ) where
       ∙ spares-row domPlace (τ .sas .dom) p (τ .sas .vars) (λ j b e. omega arith) w
 
   module _ (w : List ℕ) (l : length w ≡ 1624) (z : (p : ℕ) → getD w p 0 ≡ 0) (v : ℕ) (h : v < τ .sas .vars) where
-    pub row-dom : getD (row domPlace (τ .sas .dom) (τ .sas .vars) w) (domPlace v) 0 ≡ τ .sas .dom v
+    pub row-dom : getD (rowPut domPlace (τ .sas .dom) (τ .sas .vars) w) (domPlace v) 0 ≡ τ .sas .dom v
     row-dom = let a = s .vars in writes-row domPlace (τ .sas .dom) (τ .sas .vars) v h (λ k e. omega arith) w (omega arith) (z (domPlace v))
 
     pub head-dom : getD (headRows τ w) (domPlace v) 0 ≡ τ .sas .dom v
@@ -74,7 +74,7 @@ module _ (τ : Task) (s : Small τ) where
     head-goal =
         let a = s .vars in
         writes-facts goalPlace (τ .sas .goal) (τ .sas .vars) v h (λ k e. omega arith) _
-        (omega (arith, long-row domPlace (τ .sas .dom) (τ .sas .vars) w, long-row initPlace (τ .sas .init) (τ .sas .vars) (row domPlace (τ .sas .dom) (τ .sas .vars) w)))
+        (omega (arith, long-row domPlace (τ .sas .dom) (τ .sas .vars) w, long-row initPlace (τ .sas .init) (τ .sas .vars) (rowPut domPlace (τ .sas .dom) (τ .sas .vars) w)))
         (spares-row initPlace (τ .sas .init) (goalPlace v) (τ .sas .vars) (λ j b e. omega arith) _
         ∙ spares-row domPlace (τ .sas .dom) (goalPlace v) (τ .sas .vars) (λ j b e. omega arith) w
         ∙ z (goalPlace v))
@@ -135,7 +135,7 @@ module _ (τ : Task) (s : Small τ) where
   spares-map : (m p : ℕ) → ((v x : ℕ) → v < τ .sas .vars → x < 8 → p ≡ classPlace m v x → ⊥) → Spares (mapRows τ m) p
   unfolding mapRows
   spares-map m p f =
-      spares-changed (λ v. row (classPlace m v) (τ .class m v) (τ .sas .dom v)) p (τ .sas .vars) 0
+      spares-changed (λ v. rowPut (classPlace m v) (τ .class m v) (τ .sas .dom v)) p (τ .sas .vars) 0
       (λ v a b. spares-row (classPlace m v) (τ .class m v) p (τ .sas .dom v) (λ x c e. f v x (omega arith) (omega (arith, s .doms v (omega arith))) e))
 
   pub spares-maps : (p : ℕ) → p < 1048 → Spares (changed (mapRows τ) (τ .maps) 0) p
@@ -148,7 +148,7 @@ module _ (τ : Task) (s : Small τ) where
         let a = s .vars in
         let b = s .maps in
         let c = s .doms v h in
-        writes-changed (λ u. row (classPlace m u) (τ .class m u) (τ .sas .dom u)) (classPlace m v x) (τ .class m v x) v (τ .sas .vars) 0
+        writes-changed (λ u. rowPut (classPlace m u) (τ .class m u) (τ .sas .dom u)) (classPlace m v x) (τ .class m v x) v (τ .sas .vars) 0
         (λ u. long-row (classPlace m u) (τ .class m u) (τ .sas .dom u))
         (λ u i j d. spares-row (classPlace m u) (τ .class m u) (classPlace m v x) (τ .sas .dom u) (λ y f e. let n = s .doms u (omega arith) in d (omega arith)))
         1624 (λ w₁ l₁ z₁. writes-row (classPlace m v) (τ .class m v) (τ .sas .dom v) x g (λ y e. omega arith) w₁ (omega arith) z₁) (omega arith) (omega arith) w l z
@@ -163,15 +163,15 @@ module _ (τ : Task) (s : Small τ) where
 
   -- ---- costs and shares
 
-  pub costs-own : (w : List ℕ) → length w ≡ 64 → ((p : ℕ) → getD w p 0 ≡ 0) → (o : ℕ) → o < τ .sas .ops → getD (row (λ i. i) (τ .sas .cost) (τ .sas .ops) w) o 0 ≡ τ .sas .cost o
+  pub costs-own : (w : List ℕ) → length w ≡ 64 → ((p : ℕ) → getD w p 0 ≡ 0) → (o : ℕ) → o < τ .sas .ops → getD (rowPut (λ i. i) (τ .sas .cost) (τ .sas .ops) w) o 0 ≡ τ .sas .cost o
   costs-own w l z o h = let b = s .ops in writes-row (λ i. i) (τ .sas .cost) (τ .sas .ops) o h (λ k e. omega arith) w (omega arith) (z o)
 
   pub shares-own : (w : List ℕ) → length w ≡ 512 → ((p : ℕ) → getD w p 0 ≡ 0) → (m o : ℕ) → m < τ .maps → o < τ .sas .ops
-      → getD (changed (λ i. row (sharePlace i) (τ .share i) (τ .sas .ops)) (τ .maps) 0 w) (sharePlace m o) 0 ≡ τ .share m o
+      → getD (changed (λ i. rowPut (sharePlace i) (τ .share i) (τ .sas .ops)) (τ .maps) 0 w) (sharePlace m o) 0 ≡ τ .share m o
   shares-own w l z m o k h =
       let a = s .ops in
       let b = s .maps in
-      writes-changed (λ i. row (sharePlace i) (τ .share i) (τ .sas .ops)) (sharePlace m o) (τ .share m o) m (τ .maps) 0
+      writes-changed (λ i. rowPut (sharePlace i) (τ .share i) (τ .sas .ops)) (sharePlace m o) (τ .share m o) m (τ .maps) 0
       (λ i. long-row (sharePlace i) (τ .share i) (τ .sas .ops))
       (λ i x y d. spares-row (sharePlace i) (τ .share i) (sharePlace m o) (τ .sas .ops) (λ j f e. d (omega arith))) 512
       (λ w₁ l₁ z₁. writes-row (sharePlace m) (τ .share m) (τ .sas .ops) o h (λ j e. omega arith) w₁ (omega arith) z₁) (omega arith) (omega arith) w l (z (sharePlace m o))

@@ -14,8 +14,8 @@ use Rattle.scan.specs.declared.Found.{Found}
 use Rattle.scan.specs.declared.Found.the-variants.{Clean, Fault}
 use Rattle.tables.specs.Layout.{Tables}
 use Rattle.scan.specs.Scan.{unless, _then_, each}
-use Rattle.grammar.specs.Fields.{pick, isDigit, bytes, lineEnd, comma}
-use Rattle.grammar.specs.Grammar.{Verdict, refused, Next, Part, _▸_, keep, demand, lit, within, number, parted, row, endOfLine, line, lines}
+use Rattle.grammar.specs.Fields.{isDigit, bytes, lineEnd, comma}
+use Rattle.grammar.specs.Grammar.{Verdict, refused, Rest, Part, _▸_, keep, demand, lit, fits, numeral, parted, row, endOfLine, line, lines}
 use Rattle.grammar.specs.Spelling.{digits, gap, joined, keyed, stacked, changed}
 use Rattle.grammar.proofs.Runs.{Stop, other}
 use Rattle.grammar.proofs.Decimal.{digits-read}
@@ -40,37 +40,37 @@ next f g C p q = p ∙ judged-on f q ∙ sym (judged-then f g C)
 
 -- the part p on xs and what follows it: the rule f, and if it holds what follows goes on with the tables U
 abbrev pub Told : Part → List ℕ → List ℕ → ℕ → Tables → Found → Tables → Type 0
-Told p xs rest l T f U = (k : Next) → p (xs ++ rest) l T k ≡ judged f (k rest l U)
+Told p xs rest l T f U = (k : Rest) → p (xs ++ rest) l T k ≡ judged f (k rest l U)
 
 -- a whole line: what follows stands in the next
 abbrev pub ToldLine : Part → List ℕ → List ℕ → ℕ → Tables → Found → Tables → Type 0
-ToldLine p xs rest l T f U = (k : Next) → p (xs ++ rest) l T k ≡ judged f (k rest (l + 1) U)
+ToldLine p xs rest l T f U = (k : Rest) → p (xs ++ rest) l T k ≡ judged f (k rest (l + 1) U)
 
-pub demand-told : (b : Bool) (r : ℕ → Refusal) (t : List ℕ) (l : ℕ) (T : Tables) (k : Next) → demand b r t l T k ≡ judged (unless b (r l)) (k t l T)
+pub demand-told : (b : Bool) (r : ℕ → Refusal) (t : List ℕ) (l : ℕ) (T : Tables) (k : Rest) → demand b r t l T k ≡ judged (unless b (r l)) (k t l T)
 unfolding demand
 demand-told true r t l T k = refl
 demand-told false r t l T k = refl
 
-pub lit-told : (bs t : List ℕ) (l : ℕ) (T : Tables) (k : Next) → lit bs (bs ++ t) l T k ≡ k t l T
+pub lit-told : (bs t : List ℕ) (l : ℕ) (T : Tables) (k : Rest) → lit bs (bs ++ t) l T k ≡ k t l T
 unfolding lit _▸_ demand
 lit-told [] t l T k = refl
 lit-told (b ∷ bs) t l T k = rw (eq-eqb b b refl) (lit-told bs t l T k)
 
 -- A NUMBER, however large
-pub number-told : (least limit v : ℕ) (p : ℕ → Part) (u : List ℕ) (l : ℕ) (T : Tables) (k : Next) → Stop u
-    → number least limit p (digits v ++ u) l T k ≡ judged (unless (within v least limit) (OutOfRange l)) (p v u l T k)
-unfolding number _▸_ demand
+pub number-told : (least limit v : ℕ) (p : ℕ → Part) (u : List ℕ) (l : ℕ) (T : Tables) (k : Rest) → Stop u
+    → numeral least limit p (digits v ++ u) l T k ≡ judged (unless (fits v least limit) (OutOfRange l)) (p v u l T k)
+unfolding numeral _▸_ demand
 number-told least limit v p u l T k s =
     let r = digits-read v u s in
-    rw (r .form, r .says, r .rest) (demand-told (within v least limit) OutOfRange u l T (λ u₁ m U. p v u₁ m U k))
+    rw (r .form, r .says, r .rest) (demand-told (fits v least limit) OutOfRange u l T (λ u₁ m U. p v u₁ m U k))
 
-pub parted-told : (n mark : ℕ) (u : List ℕ) (l : ℕ) (T : Tables) (k : Next) → parted n mark (gap mark n ++ u) l T k ≡ k u l T
+pub parted-told : (n mark : ℕ) (u : List ℕ) (l : ℕ) (T : Tables) (k : Rest) → parted n mark (gap mark n ++ u) l T k ≡ k u l T
 unfolding parted gap
 parted-told zero mark u l T k = refl
 parted-told (suc n) mark u l T k = lit-told (mark ∷ []) u l T k
 
 comma-no-digit : isDigit comma ≡ false
-unfolding isDigit pick
+unfolding isDigit
 comma-no-digit = refl
 
 pub stop-gap : (n : ℕ) (xs u : List ℕ) → Stop u → (n ≡ 0 → xs ≡ []) → Stop (gap comma n ++ (xs ++ u))
@@ -91,7 +91,7 @@ joined-front mark f n i u = simp append-assoc
 -- A ROW of numbers, each with its test
 module _ (least : ℕ) (limit : ℕ → Tables → ℕ) (put : ℕ → ℕ → Tables → Tables) (f : ℕ → ℕ) (test : ℕ → Bool) (P : Tables → Type 0) (N : ℕ)
     (keeps : (i : ℕ) (T : Tables) → i < N → P T → P (put i (f i) T))
-    (tests : (i : ℕ) (T : Tables) → i < N → P T → within (f i) least (limit i T) ≡ test i) where
+    (tests : (i : ℕ) (T : Tables) → i < N → P T → fits (f i) least (limit i T) ≡ test i) where
   pub row-told : (n i : ℕ) → i + n ≡ N → (rest : List ℕ) → Stop rest → (l : ℕ) (T : Tables) → P T
       → Told (row least limit put n i) (joined comma (λ j. digits (f j)) n i) rest l T (each (λ j. unless (test j) (OutOfRange l)) n i) (changed (λ j. put j (f j)) n i T)
   unfolding row each changed _▸_ keep
@@ -109,7 +109,7 @@ module _ (least : ℕ) (limit : ℕ → Tables → ℕ) (put : ℕ → ℕ → T
       ∙ row-told n (suc i) (omega arith) rest s l U (keeps i T (omega arith) p) k)
 
 -- A LINE
-pub end-told : (rest : List ℕ) (l : ℕ) (T : Tables) (k : Next) → endOfLine (lineEnd ∷ rest) l T k ≡ k rest (l + 1) T
+pub end-told : (rest : List ℕ) (l : ℕ) (T : Tables) (k : Rest) → endOfLine (lineEnd ∷ rest) l T k ≡ k rest (l + 1) T
 unfolding endOfLine _▸_
 end-told rest l T k = lit-told (lineEnd ∷ []) rest l T _
 
@@ -127,7 +127,7 @@ line-told key p xs rest l T U f h k =
 module _ (p : ℕ → Part) (text : ℕ → List ℕ) (rule : ℕ → Found) (change : ℕ → Tables → Tables) (P : Tables → Type 0) (N base : ℕ)
     (keeps : (i : ℕ) (T : Tables) → i < N → P T → P (change i T))
     (told : (i : ℕ) (T : Tables) (rest : List ℕ) → i < N → P T → ToldLine (p i) (text i) rest (base + i) T (rule i) (change i T)) where
-  pub lines-told : (n i : ℕ) → i + n ≡ N → (rest : List ℕ) (T : Tables) → P T → (k : Next)
+  pub lines-told : (n i : ℕ) → i + n ≡ N → (rest : List ℕ) (T : Tables) → P T → (k : Rest)
       → lines p n i (stacked text n i ++ rest) (base + i) T k ≡ judged (each rule n i) (k rest (base + i + n) (changed change n i T))
   unfolding lines stacked each changed _▸_
   lines-told zero i e rest T pT k = let z : base + i + 0 ≡ base + i = omega arith in rw z refl

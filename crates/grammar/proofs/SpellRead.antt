@@ -3,7 +3,7 @@ use Prim.Native.Nat.{ℕ, _≤_}
 use native.Mathlib.Omega.{arith}
 use mathlib.Core.Path.{_≡_, refl, sym, ap, _∙_}
 use mathlib.Core.List.{List}
-use mathlib.Core.Bool.{Bool, true, false}
+use mathlib.Core.Bool.{Bool, true, false, cond}
 use lib.Dec.{ltb}
 use lib.ListN.{length}
 use borrow.Author.Tests.{le-ltb}
@@ -17,7 +17,7 @@ use Rattle.scan.proofs.Walks.{clean-next}
 use Rattle.scan.proofs.Validity.{clean-valid}
 use Rattle.refusals.specs.declared.Refusal.the-variants.{TextTooLong, TableTooShort}
 use Rattle.grammar.specs.declared.Reading.the-variants.{Accepted, Refused}
-use Rattle.grammar.specs.Fields.{pick, Outcome, leaves, admitted}
+use Rattle.grammar.specs.Fields.{Outcome, leaves, admitted}
 use Rattle.meaning.specs.Limits.{mostBytes}
 use Rattle.grammar.specs.Grammar.{Verdict, accepted, refused, verdict, outcome, readText}
 use Rattle.grammar.specs.Spelling.{textOf, canon}
@@ -29,8 +29,7 @@ not-accepted : {A : Type 0} {r : Refusal} {n : Counts} → Refused r ≡ Accepte
 not-accepted p = let z : _≡_ {A = ℕ} 0 1 = cc in absurd (let n : ⊥ = omega arith in n)
 
 -- an outcome that refuses was not the answer
-through : (b : Bool) (R o : Outcome) (r : Refusal) (n : Counts) → R .answer ≡ Refused r → pick b R o .answer ≡ Accepted n → pick b R o ≡ o
-unfolding pick
+through : (b : Bool) (R o : Outcome) (r : Refusal) (n : Counts) → R .answer ≡ Refused r → cond b R o .answer ≡ Accepted n → cond b R o ≡ o
 through true R o r n p h = not-accepted (sym p ∙ h)
 through false R o r n p h = refl
 
@@ -39,9 +38,9 @@ unfolding admitted
 admitted-whole f c s x o n h =
     let short = leaves (Refused TableTooShort) f c s in
     let long = leaves (Refused TextTooLong) f c s in
-    let o₃ = pick (ltb mostBytes (length x)) long o in
-    let o₂ = pick (ltb (length s) sharesRoom) short o₃ in
-    let o₁ = pick (ltb (length c) costsRoom) short o₂ in
+    let o₃ = cond (ltb mostBytes (length x)) long o in
+    let o₂ = cond (ltb (length s) sharesRoom) short o₃ in
+    let o₁ = cond (ltb (length c) costsRoom) short o₂ in
     let p₁ = through (ltb (length f) factsRoom) short o₁ TableTooShort n refl h in
     let p₂ = through (ltb (length c) costsRoom) short o₂ TableTooShort n refl (ap (λ (y : Outcome). y .answer) (sym p₁) ∙ h) in
     let p₃ = through (ltb (length s) sharesRoom) short o₃ TableTooShort n refl (ap (λ (y : Outcome). y .answer) (sym (p₁ ∙ p₂)) ∙ h) in
@@ -52,7 +51,7 @@ module _ (f c s : List ℕ) where
   -- THE ROUND TRIP: lent tables of enough room get a clean task's tables from its text
   pub read-spelled : (t : Tables) → tablesFault t ≡ Clean → factsRoom ≤ length f → costsRoom ≤ length c → sharesRoom ≤ length s
       → readText (textOf t) f c s ≡ outcome (accepted (canon t)) f c s
-  unfolding readText admitted pick tablesFault
+  unfolding readText admitted tablesFault
   read-spelled t p a b d =
       let q = spelled-short (taskOf t) (clean-valid t p) in
       rw (le-ltb (length f) factsRoom a, le-ltb (length c) costsRoom b, le-ltb (length s) sharesRoom d, le-ltb mostBytes (length (textOf t)) q)

@@ -9,7 +9,7 @@ use lib.Seq.{getD-set-same, getD-set-other}
 use borrow.Author.Tests.{eqb-true, eqb-false}
 use Rattle.meaning.specs.Sas.{Facts}
 use Rattle.tables.proofs.Laws.{by-cases}
-use Rattle.grammar.specs.Spelling.{changed, row, said, factRow}
+use Rattle.grammar.specs.Spelling.{changed, rowPut, factPut, factRow}
 
 -- ---- changes one after another
 
@@ -53,16 +53,16 @@ module _ (g : ℕ → List ℕ → List ℕ) where
 -- ---- a row of numbers
 
 module _ (place f : ℕ → ℕ) where
-  pub long-row : (n : ℕ) → Long (row place f n)
-  unfolding row
+  pub long-row : (n : ℕ) → Long (rowPut place f n)
+  unfolding rowPut
   long-row n = long-changed (λ i w. set w (place i) (f i)) (λ j w. length-set w (place j) (f j)) n 0
 
-  pub spares-row : (p n : ℕ) → ((j : ℕ) → j < n → p ≡ place j → ⊥) → Spares (row place f n) p
-  unfolding row
+  pub spares-row : (p n : ℕ) → ((j : ℕ) → j < n → p ≡ place j → ⊥) → Spares (rowPut place f n) p
+  unfolding rowPut
   spares-row p n h = spares-changed (λ i w. set w (place i) (f i)) p n 0 (λ j a b w. getD-set-other w (place j) p (f j) 0 (h j (omega arith)))
 
-  pub writes-row : (n j : ℕ) → j < n → ((k : ℕ) → place j ≡ place k → k ≡ j) → (w : List ℕ) → place j < length w → getD w (place j) 0 ≡ 0 → getD (row place f n w) (place j) 0 ≡ f j
-  unfolding row
+  pub writes-row : (n j : ℕ) → j < n → ((k : ℕ) → place j ≡ place k → k ≡ j) → (w : List ℕ) → place j < length w → getD w (place j) 0 ≡ 0 → getD (rowPut place f n w) (place j) 0 ≡ f j
+  unfolding rowPut
   writes-row n j h one w l z =
       writes-changed (λ i x. set x (place i) (f i)) (place j) (f j) j n 0 (λ k x. length-set x (place k) (f k))
       (λ k a b c x. getD-set-other x (place k) (place j) (f k) 0 (λ e. c (one k e)))
@@ -70,34 +70,34 @@ module _ (place f : ℕ → ℕ) where
 
 -- ---- a row of facts
 
-long-said : (k p : ℕ) → Long (said k p)
-unfolding said
+long-said : (k p : ℕ) → Long (factPut k p)
+unfolding factPut
 long-said zero p w = refl
 long-said (suc k) p w = length-set w p (suc k)
 
-spares-said : (k p q : ℕ) → (q ≡ p → ⊥) → Spares (said k p) q
-unfolding said
+spares-said : (k p q : ℕ) → (q ≡ p → ⊥) → Spares (factPut k p) q
+unfolding factPut
 spares-said zero p q h w = refl
 spares-said (suc k) p q h w = getD-set-other w p q (suc k) 0 h
 
-writes-said : (k p : ℕ) (w : List ℕ) → p < length w → getD w p 0 ≡ 0 → getD (said k p w) p 0 ≡ k
-unfolding said
+writes-said : (k p : ℕ) (w : List ℕ) → p < length w → getD w p 0 ≡ 0 → getD (factPut k p w) p 0 ≡ k
+unfolding factPut
 writes-said zero p w l z = z
 writes-said (suc k) p w l z = getD-set-same w p (suc k) 0 l
 
 module _ (place : ℕ → ℕ) (F : Facts) where
   pub long-facts : (n : ℕ) → Long (factRow place F n)
   unfolding factRow
-  long-facts n = long-changed (λ v. said (F v) (place v)) (λ j. long-said (F j) (place j)) n 0
+  long-facts n = long-changed (λ v. factPut (F v) (place v)) (λ j. long-said (F j) (place j)) n 0
 
   pub spares-facts : (p n : ℕ) → ((j : ℕ) → j < n → p ≡ place j → ⊥) → Spares (factRow place F n) p
   unfolding factRow
-  spares-facts p n h = spares-changed (λ v. said (F v) (place v)) p n 0 (λ j a b. spares-said (F j) (place j) p (h j (omega arith)))
+  spares-facts p n h = spares-changed (λ v. factPut (F v) (place v)) p n 0 (λ j a b. spares-said (F j) (place j) p (h j (omega arith)))
 
   pub writes-facts : (n j : ℕ) → j < n → ((k : ℕ) → place j ≡ place k → k ≡ j) → (w : List ℕ) → place j < length w → getD w (place j) 0 ≡ 0 → getD (factRow place F n w) (place j) 0 ≡ F j
   unfolding factRow
   writes-facts n j h one w l z =
-      writes-changed (λ v. said (F v) (place v)) (place j) (F j) j n 0 (λ k. long-said (F k) (place k))
+      writes-changed (λ v. factPut (F v) (place v)) (place j) (F j) j n 0 (λ k. long-said (F k) (place k))
       (λ k a b c. spares-said (F k) (place k) (place j) (λ e. c (one k e)))
       (length w) (λ x m y. writes-said (F j) (place j) x (omega arith) y) (omega arith) (omega arith) w refl z
 

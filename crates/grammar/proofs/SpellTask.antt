@@ -5,7 +5,7 @@ use native.Mathlib.Omega.{arith}
 use native.Mathlib.Numerals.{add-one}
 use mathlib.Core.Path.{_≡_, refl, sym, ap, ap₂, _∙_}
 use mathlib.Core.List.{List, [], _++_, append-assoc, append-nil}
-use mathlib.Core.Bool.{Bool, true, false, _&&_}
+use mathlib.Core.Bool.{Bool, true, false, _&&_, cond}
 use lib.Dec.{leb, ltb}
 use lib.ListN.{length, getD, set, replicate, length-replicate}
 use borrow.Author.Tests.{leb-true}
@@ -18,9 +18,9 @@ use Rattle.tables.specs.Layout.{Tables, factsRoom, costsRoom, sharesRoom, domPl
 use Rattle.tables.specs.Task.{taskOf}
 use Rattle.scan.specs.Scan.{unless, _then_, each, factsFault, operatorFault, mapFault, sharesFault, splitFault, taskFault, roomy, tablesFault, within as scanWithin}
 use Rattle.scan.proofs.Walks.{rule-held, walk-clean}
-use Rattle.grammar.specs.Fields.{pick, shareTotal, opLine, overLine}
-use Rattle.grammar.specs.Grammar.{accepted, refused, Next, Part, _▸_, ask, line, lines, initLine, goalLine, operator, opsLine, opLines, mapsLine, variables, mapLines, amounts, shareLines, taskLines, settled, theEnd, noTask, verdict, putCost}
-use Rattle.grammar.specs.Spelling.{digits, numbers, someFacts, keyed, stacked, opText, mapText, shareText, spelled, textOf, changed, row, opRows, mapRows, headRows, tablesOf, canon}
+use Rattle.grammar.specs.Fields.{shareTotal, opLine, overLine}
+use Rattle.grammar.specs.Grammar.{accepted, refused, Rest, Part, _▸_, ask, line, lines, initLine, goalLine, operator, opsLine, opLines, mapsLine, variables, mapLines, amounts, shareLines, taskLines, settled, theEnd, noTask, verdict, putCost}
+use Rattle.grammar.specs.Spelling.{digits, numbers, someFacts, keyed, stacked, opText, mapText, shareText, spelled, textOf, changed, rowPut, opRows, mapRows, headRows, tablesOf, canon}
 use Rattle.grammar.proofs.Runs.{clash}
 use Rattle.grammar.proofs.SpellParts.{judged, next, lines-told}
 use Rattle.grammar.proofs.SpellFacts.{on, on-changed, Knows, knows-row, knows-facts, knows-changed}
@@ -45,16 +45,16 @@ settled-over o T =
 module _ (τ : Task) (T : Tables) (cost : ℕ → ℕ) (share : ℕ → ℕ → ℕ) (costs : (o : ℕ) → o < τ .sas .ops → cost o ≡ τ .sas .cost o)
     (shares : (m o : ℕ) → m < τ .maps → o < τ .sas .ops → share m o ≡ τ .share m o) where
   over-told : (n o : ℕ) → o + n ≡ τ .sas .ops → settled (overLine cost share (τ .maps) n o) T ≡ judged (each (splitFault τ) n o) (accepted T)
-  unfolding overLine each splitFault settled pick
+  unfolding overLine each splitFault settled
   over-told zero o e = refl
   over-told (suc n) o e =
       let h : o < τ .sas .ops = omega arith in
       let a : shareTotal share (τ .maps) o ≡ sum (λ m. τ .share m o) (τ .maps) = totals τ share o (τ .maps) (λ m l. shares m o l h) in
-      ap₂ (λ (x y : ℕ). settled (pick (leb x y) (overLine cost share (τ .maps) n (o + 1)) (opLine o)) T) a (costs o h)
+      ap₂ (λ (x y : ℕ). settled (cond (leb x y) (overLine cost share (τ .maps) n (o + 1)) (opLine o)) T) a (costs o h)
       ∙ go (leb (sum (λ m. τ .share m o) (τ .maps)) (τ .sas .cost o)) (ap (λ (x : ℕ). settled (overLine cost share (τ .maps) n x) T) (add-one o) ∙ over-told n (suc o) (omega arith))
     where
       go : (b : Bool) → settled (overLine cost share (τ .maps) n (o + 1)) T ≡ judged (each (splitFault τ) n (suc o)) (accepted T)
-          → settled (pick b (overLine cost share (τ .maps) n (o + 1)) (opLine o)) T
+          → settled (cond b (overLine cost share (τ .maps) n (o + 1)) (opLine o)) T
           ≡ judged (unless b (SharesAboveCost (lineOfOp o)) then each (splitFault τ) n (suc o)) (accepted T)
       go true h = h
       go false h = settled-over o T
@@ -84,10 +84,10 @@ module _ (τ : Task) where
   mapsDone = changed (mapRows τ) (τ .maps) 0
 
   abbrev costsDone : List ℕ → List ℕ
-  costsDone = row (λ o. o) (τ .sas .cost) (τ .sas .ops)
+  costsDone = rowPut (λ o. o) (τ .sas .cost) (τ .sas .ops)
 
   abbrev sharesDone : List ℕ → List ℕ
-  sharesDone = changed (λ m. row (sharePlace m) (τ .share m) (τ .sas .ops)) (τ .maps) 0
+  sharesDone = changed (λ m. rowPut (sharePlace m) (τ .share m) (τ .sas .ops)) (τ .maps) 0
 
   ops-changed : (n i : ℕ) (T : Tables)
       → changed (opChange τ) n i T
@@ -107,19 +107,19 @@ module _ (τ : Task) where
   knows-map : (m : ℕ) (T : Tables) → Known T → Known (on (mapRows τ m) T)
   unfolding mapRows
   knows-map m T w =
-      knows-changed (λ v. row (classPlace m v) (τ .class m v) (τ .sas .dom v)) (λ v U. knows-row (classPlace m v) (τ .class m v) (λ j. omega arith) (τ .sas .dom v) U) (τ .sas .vars) 0 T w
+      knows-changed (λ v. rowPut (classPlace m v) (τ .class m v) (τ .sas .dom v)) (λ v U. knows-row (classPlace m v) (τ .class m v) (λ j. omega arith) (τ .sas .dom v) U) (τ .sas .vars) 0 T w
 
-  all-ops : (m : ℕ) (f c h rest : List ℕ) (k : Next) → Known (made (τ .sas .vars) (τ .sas .ops) m f c h)
+  all-ops : (m : ℕ) (f c h rest : List ℕ) (k : Rest) → Known (made (τ .sas .vars) (τ .sas .ops) m f c h)
       → opLines (opsText ++ rest) 7 (made (τ .sas .vars) (τ .sas .ops) m f c h) k
       ≡ judged (each (operatorFault τ) (τ .sas .ops) 0) (k rest (lineOfMaps (τ .sas .ops)) (made (τ .sas .vars) (τ .sas .ops) m (opsDone f) (costsDone c) h))
-  unfolding opLines ask row
+  unfolding opLines ask rowPut
   all-ops m f c h rest k w =
       let T = made (τ .sas .vars) (τ .sas .ops) m f c h in
       lines-told (λ o. line "op=" (operator o)) (λ o. keyed "op=" (opText τ o)) (operatorFault τ) (opChange τ) Known (τ .sas .ops) 7
       (λ o U l. knows-op o U) (λ o U u l v. op-told τ o U v u) (τ .sas .ops) 0 (omega arith) rest T w k
       ∙ ap (λ (U : Tables). judged (each (operatorFault τ) (τ .sas .ops) 0) (k rest (lineOfMaps (τ .sas .ops)) U)) (ops-changed (τ .sas .ops) 0 T)
 
-  all-maps : (f c h rest : List ℕ) (k : Next) → ((v : ℕ) → v < τ .sas .vars → τ .sas .dom v ≤ 8) → Known (made (τ .sas .vars) (τ .sas .ops) (τ .maps) f c h)
+  all-maps : (f c h rest : List ℕ) (k : Rest) → ((v : ℕ) → v < τ .sas .vars → τ .sas .dom v ≤ 8) → Known (made (τ .sas .vars) (τ .sas .ops) (τ .maps) f c h)
       → mapLines (mapsText ++ rest) (8 + τ .sas .ops) (made (τ .sas .vars) (τ .sas .ops) (τ .maps) f c h) k
       ≡ judged (each (mapFault τ) (τ .maps) 0) (k rest (8 + τ .sas .ops + τ .maps) (made (τ .sas .vars) (τ .sas .ops) (τ .maps) (mapsDone f) c h))
   unfolding mapLines ask
@@ -133,7 +133,7 @@ module _ (τ : Task) where
       ∙ ap (λ (l : ℕ). judged (each (mapFault τ) (τ .maps) 0) (k rest (l + τ .maps) (changed (λ m. on (mapRows τ m)) (τ .maps) 0 T))) (sym z)
       ∙ ap (λ (U : Tables). judged (each (mapFault τ) (τ .maps) 0) (k rest (8 + τ .sas .ops + τ .maps) U)) (on-changed (mapRows τ) (τ .maps) 0 T)
 
-  all-shares : (f c h rest : List ℕ) (k : Next)
+  all-shares : (f c h rest : List ℕ) (k : Rest)
       → shareLines (sharesText ++ rest) (8 + τ .sas .ops + τ .maps) (made (τ .sas .vars) (τ .sas .ops) (τ .maps) f c h) k
       ≡ judged (each (sharesFault τ) (τ .maps) 0) (k rest (8 + τ .sas .ops + τ .maps + τ .maps) (made (τ .sas .vars) (τ .sas .ops) (τ .maps) f c (sharesDone h)))
   unfolding shareLines ask
@@ -141,7 +141,7 @@ module _ (τ : Task) where
       let T = made (τ .sas .vars) (τ .sas .ops) (τ .maps) f c h in
       let z : 8 + τ .sas .ops + τ .maps ≡ 8 + τ .sas .ops + τ .maps + 0 = omega arith in
       let p : ℕ → Part = λ m. line "share=" (amounts m (τ .sas .ops)) in
-      let g : ℕ → List ℕ → List ℕ = λ m. row (sharePlace m) (τ .share m) (τ .sas .ops) in
+      let g : ℕ → List ℕ → List ℕ = λ m. rowPut (sharePlace m) (τ .share m) (τ .sas .ops) in
       ap (λ (l : ℕ). lines p (τ .maps) 0 (sharesText ++ rest) l T k) z
       ∙ lines-told p (λ m. keyed "share=" (shareText (τ .share m) (τ .sas .ops))) (sharesFault τ) (λ m. onShares (g m)) (λ U. Unit {0}) (τ .maps) (8 + τ .sas .ops + τ .maps)
       (λ m U l u. tt) (λ m U u l v. share-told τ m U u) (τ .maps) 0 (omega arith) rest T tt k
@@ -219,10 +219,10 @@ module _ (τ : Task) (f c h : List ℕ) (lf : length f ≡ 1624) (zf : (p : ℕ)
 
   -- the facts once dom= is read
   abbrev domDone : List ℕ
-  domDone = row domPlace (τ .sas .dom) (τ .sas .vars) f
+  domDone = rowPut domPlace (τ .sas .dom) (τ .sas .vars) f
 
   abbrev initDone : List ℕ
-  initDone = row initPlace (τ .sas .init) (τ .sas .vars) domDone
+  initDone = rowPut initPlace (τ .sas .init) (τ .sas .vars) domDone
 
   abbrev goalFrom : List ℕ
   goalFrom = keyed "goal=" (someFacts (τ .sas .goal) (τ .sas .vars) 0) ++ (keyed "ops=" (digits (τ .sas .ops)) ++ opsFrom)

@@ -3,7 +3,7 @@ use Prim.Native.Nat.{ℕ, zero, suc, _+_, _-_}
 use Prim.Native.Char.{code}
 use Prim.Native.String.{String, [] as []ˢ, _∷_ as _∷ˢ_}
 use mathlib.Core.List.{List, [], _∷_, _++_}
-use mathlib.Core.Bool.{Bool, true, false}
+use mathlib.Core.Bool.{Bool, false, cond}
 use lib.ListN.{length, replicate}
 use lib.Dec.{ltb, leb}
 use Rattle.refusals.specs.declared.Refusal.the-variants.{TextTooLong, TableTooShort}
@@ -12,13 +12,9 @@ use Rattle.tables.specs.Layout.{factsRoom, costsRoom, sharesRoom}
 use Rattle.grammar.specs.declared.Reading.{Reading}
 use Rattle.grammar.specs.declared.Reading.the-variants.{Refused}
 
-unfoldable pub pick {ℓ} : {A : Type ℓ} → Bool → A → A → A
-pick true a b = a
-pick false a b = b
-
 -- the bytes 0 to 9
 unfoldable pub isDigit : ℕ → Bool
-isDigit b = pick (leb 48 b) (leb b 57) false
+isDigit b = cond (leb 48 b) (leb b 57) false
 
 -- the bytes of a text that is written out
 abbrev pub bytes : String → List ℕ
@@ -56,7 +52,7 @@ opLine o = 7 + o
 -- the line of the lowest operator, of the n from o on, whose shares in all maps total above its cost; 0 if there is none
 unfoldable pub overLine : (ℕ → ℕ) → (ℕ → ℕ → ℕ) → ℕ → ℕ → ℕ → ℕ
 overLine cost share maps zero o = 0
-overLine cost share maps (suc n) o = pick (leb (shareTotal share maps o) (cost o)) (overLine cost share maps n (o + 1)) (opLine o)
+overLine cost share maps (suc n) o = cond (leb (shareTotal share maps o) (cost o)) (overLine cost share maps n (o + 1)) (opLine o)
 
 -- what a reading leaves behind: the answer, and the three lent tables
 pub record Outcome : Type 0 where
@@ -75,10 +71,10 @@ filled room xs lent = xs ++ replicate (length lent - room) 0
 -- 8 for a lent table shorter than its room, then 1 for a text above the limit, then what the text itself gives
 unfoldable pub admitted : List ℕ → List ℕ → List ℕ → List ℕ → Outcome → Outcome
 admitted text f c s o =
-    pick (ltb (length f) factsRoom)
+    cond (ltb (length f) factsRoom)
     (leaves (Refused TableTooShort) f c s)
-    (pick (ltb (length c) costsRoom)
+    (cond (ltb (length c) costsRoom)
     (leaves (Refused TableTooShort) f c s)
-    (pick (ltb (length s) sharesRoom)
+    (cond (ltb (length s) sharesRoom)
     (leaves (Refused TableTooShort) f c s)
-    (pick (ltb mostBytes (length text)) (leaves (Refused TextTooLong) f c s) o)))
+    (cond (ltb mostBytes (length text)) (leaves (Refused TextTooLong) f c s) o)))

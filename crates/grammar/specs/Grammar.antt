@@ -2,7 +2,7 @@
 use Prim.Native.Nat.{ℕ, zero, suc, _+_, _-_, _*_}
 use Prim.Native.String.{String}
 use mathlib.Core.List.{List, [], _∷_}
-use mathlib.Core.Bool.{Bool, true, false}
+use mathlib.Core.Bool.{Bool, true, false, cond}
 use lib.ListN.{getD, set, take, drop, replicate}
 use lib.Dec.{ltb, leb, eqb}
 use Rattle.refusals.specs.declared.Refusal.{Refusal}
@@ -31,7 +31,7 @@ use Rattle.tables.specs.Layout.{
   shareAt,
 }
 use Rattle.grammar.specs.declared.Reading.the-variants.{Accepted, Refused}
-use Rattle.grammar.specs.Fields.{pick, isDigit, bytes, lineEnd, comma, dash, slash, colon, semicolon, overLine, Outcome, leaves, filled, admitted}
+use Rattle.grammar.specs.Fields.{isDigit, bytes, lineEnd, comma, dash, slash, colon, semicolon, overLine, Outcome, leaves, filled, admitted}
 use Rattle.meaning.specs.Limits.{mostVars, mostValues, mostOps, mostCost, mostMaps, mostStates}
 
 -- accepted with the task's tables, or refused
@@ -40,12 +40,12 @@ pub data Verdict : Type 0 where
   refused : Refusal → Verdict
 
 -- what follows: it gets the text that is left, the line it stands in, and the tables filled so far
-abbrev pub Next : Type 0
-Next = List ℕ → ℕ → Tables → Verdict
+abbrev pub Rest : Type 0
+Rest = List ℕ → ℕ → Tables → Verdict
 
 -- a part of the text: it gets the same, and what follows it
 abbrev pub Part : Type 0
-Part = List ℕ → ℕ → Tables → Next → Verdict
+Part = List ℕ → ℕ → Tables → Rest → Verdict
 
 -- one part after another
 infixr 20 _▸_
@@ -77,12 +77,12 @@ lit (b ∷ bs) (x ∷ t) l T k = (demand (eqb x b) OffForm ▸ lit bs) t l T k
 -- p after the byte b, or q where another byte or the end stands
 unfoldable pub choice : ℕ → Part → Part → Part
 choice b p q [] l T k = q [] l T k
-choice b p q (x ∷ t) l T k = pick {A = List ℕ → Verdict} (eqb x b) (λ u. p u l T k) (λ u. q (x ∷ u) l T k) t
+choice b p q (x ∷ t) l T k = cond {A = List ℕ → Verdict} (eqb x b) (λ u. p u l T k) (λ u. q (x ∷ u) l T k) t
 
 -- the digits that a text begins with: how many, and their value
 unfoldable pub runLen : List ℕ → ℕ
 runLen [] = 0
-runLen (b ∷ t) = pick (isDigit b) (suc (runLen t)) 0
+runLen (b ∷ t) = cond (isDigit b) (suc (runLen t)) 0
 
 unfoldable pub value : ℕ → List ℕ → ℕ
 value v [] = v
@@ -90,16 +90,16 @@ value v (b ∷ t) = value (10 * v + (b - 48)) t
 
 -- not empty, and without a needless leading zero
 unfoldable pub formed : List ℕ → Bool
-formed t = pick (eqb (runLen t) 0) false (pick (eqb (getD t 0 0) 48) (eqb (runLen t) 1) true)
+formed t = cond (eqb (runLen t) 0) false (cond (eqb (getD t 0 0) 48) (eqb (runLen t) 1) true)
 
-unfoldable pub within : ℕ → ℕ → ℕ → Bool
-within v least limit = pick (leb least v) (ltb v limit) false
+unfoldable pub fits : ℕ → ℕ → ℕ → Bool
+fits v least limit = cond (leb least v) (ltb v limit) false
 
 -- a number from least to below limit, and then what follows it; its form first, then its value, however long
-unfoldable pub number : ℕ → ℕ → (ℕ → Part) → Part
-number least limit p t l T k =
+unfoldable pub numeral : ℕ → ℕ → (ℕ → Part) → Part
+numeral least limit p t l T k =
     (demand (formed t) OffForm
-    ▸ demand (within (value 0 (take (runLen t) t)) least limit) OutOfRange
+    ▸ demand (fits (value 0 (take (runLen t) t)) least limit) OutOfRange
     ▸ p (value 0 (take (runLen t) t)))
     (drop (runLen t) t)
     l
@@ -115,7 +115,7 @@ parted (suc n) mark t l T k = lit (mark ∷ []) t l T k
 unfoldable pub row : ℕ → (ℕ → Tables → ℕ) → (ℕ → ℕ → Tables → Tables) → ℕ → ℕ → Part
 row least limit put zero i t l T k = k t l T
 row least limit put (suc n) i t l T k =
-    number least (limit i T) (λ v. keep (put i v) ▸ parted n comma ▸ row least limit put n (i + 1)) t l T k
+    numeral least (limit i T) (λ v. keep (put i v) ▸ parted n comma ▸ row least limit put n (i + 1)) t l T k
 
 unfoldable pub endOfLine : Part
 endOfLine = lit (lineEnd ∷ []) ▸ (λ t l T k. k t (l + 1) T)
@@ -143,11 +143,11 @@ putShare i v T = record { counts = T .counts; facts = T .facts; costs = T .costs
 
 -- edition=1
 unfoldable pub editionLine : Part
-editionLine = line "edition=" (number 1 2 (λ e. nothing))
+editionLine = line "edition=" (numeral 1 2 (λ e. nothing))
 
 -- vars=, dom= and init=
 unfoldable pub varsLine : Part
-varsLine = line "vars=" (number 1 (mostVars + 1) (λ n. keep (λ T. withCounts n (T .counts .ops) (T .counts .maps) T)))
+varsLine = line "vars=" (numeral 1 (mostVars + 1) (λ n. keep (λ T. withCounts n (T .counts .ops) (T .counts .maps) T)))
 
 unfoldable pub domLine : Part
 domLine = line "dom=" (ask (λ T. row 1 (λ v U. mostValues + 1) (λ v n. putFact (domPlace v) n) (T .counts .vars) 0))
@@ -158,15 +158,15 @@ initLine = line "init=" (ask (λ T. row 0 (λ v U. domAt (U .facts) v) (λ v x. 
 -- facts from the variable `least` on, of which at most n can still come: the variable's range and order before its colon, then the value's range;
 -- a comma means one more, anything else ends the list
 unfoldable pub facts : (ℕ → ℕ) → ℕ → ℕ → Part
-facts place zero least t l T k = number 0 (T .counts .vars) (λ v. demand false NotRising) t l T k
+facts place zero least t l T k = numeral 0 (T .counts .vars) (λ v. demand false NotRising) t l T k
 facts place (suc n) least t l T k =
-    number
+    numeral
     0
     (T .counts .vars)
     (λ v.
     demand (leb least v) NotRising
     ▸ lit (colon ∷ [])
-    ▸ number 0 (domAt (T .facts) v) (λ x. keep (putFact (place v) (x + 1)) ▸ choice comma (facts place n (v + 1)) nothing))
+    ▸ numeral 0 (domAt (T .facts) v) (λ x. keep (putFact (place v) (x + 1)) ▸ choice comma (facts place n (v + 1)) nothing))
     t
     l
     T
@@ -181,11 +181,11 @@ goalLine = line "goal=" (factList goalPlace)
 
 -- ops=, and one op=cost;preconditions;effects for each
 unfoldable pub opsLine : Part
-opsLine = line "ops=" (number 0 (mostOps + 1) (λ n. keep (λ T. withCounts (T .counts .vars) n (T .counts .maps) T)))
+opsLine = line "ops=" (numeral 0 (mostOps + 1) (λ n. keep (λ T. withCounts (T .counts .vars) n (T .counts .maps) T)))
 
 unfoldable pub operator : ℕ → Part
 operator o =
-    number 0 (mostCost + 1) (λ c. keep (putCost o c))
+    numeral 0 (mostCost + 1) (λ c. keep (putCost o c))
     ▸ lit (semicolon ∷ [])
     ▸ factList (prePlace o)
     ▸ lit (semicolon ∷ [])
@@ -197,16 +197,16 @@ opLines = ask (λ T. lines (λ o. line "op=" (operator o)) (T .counts .ops) 0)
 -- a class is among these
 unfoldable pub has : List ℕ → ℕ → Bool
 has [] d = false
-has (c ∷ cs) d = pick (eqb d c) true (has cs d)
+has (c ∷ cs) d = cond (eqb d c) true (has cs d)
 
 -- the largest number below n that passes the test, and one; whether all below n pass it
 unfoldable pub topOf : ℕ → (ℕ → Bool) → ℕ
 topOf zero f = 0
-topOf (suc n) f = pick (f n) (suc n) (topOf n f)
+topOf (suc n) f = cond (f n) (suc n) (topOf n f)
 
 unfoldable pub allOf : ℕ → (ℕ → Bool) → Bool
 allOf zero f = true
-allOf (suc n) f = pick (f n) (allOf n f) false
+allOf (suc n) f = cond (f n) (allOf n f) false
 
 -- a list of classes: the k of '0 to k-1', and that none of these is missing
 unfoldable pub classCount : List ℕ → ℕ
@@ -219,7 +219,7 @@ noneMissing cs = allOf (classCount cs) (has cs)
 unfoldable pub classes : ℕ → ℕ → (List ℕ → Part) → ℕ → ℕ → List ℕ → Part
 classes m v p zero x cs t l T k = (demand (noneMissing cs) ClassMissing ▸ p cs) t l T k
 classes m v p (suc n) x cs t l T k =
-    number
+    numeral
     0
     (domAt (T .facts) v)
     (λ c. keep (putFact (classPlace m v x) c) ▸ parted n comma ▸ classes m v p n (x + 1) (c ∷ cs))
@@ -236,7 +236,7 @@ variables m (suc n) v states t l T k =
 
 -- maps=, and one map= for each
 unfoldable pub mapsLine : Part
-mapsLine = line "maps=" (number 1 (mostMaps + 1) (λ n. keep (λ T. withCounts (T .counts .vars) (T .counts .ops) n T)))
+mapsLine = line "maps=" (numeral 1 (mostMaps + 1) (λ n. keep (λ T. withCounts (T .counts .vars) (T .counts .ops) n T)))
 
 unfoldable pub mapLines : Part
 mapLines = ask (λ T. lines (λ m. line "map=" (variables m (T .counts .vars) 0 1)) (T .counts .maps) 0)
@@ -269,7 +269,7 @@ settled zero T = accepted T
 settled (suc l) T = refused (SharesAboveCost (suc l))
 
 -- after the last line nothing stands
-unfoldable pub theEnd : Next
+unfoldable pub theEnd : Rest
 theEnd [] l T = settled (overLine (costAt (T .costs)) (shareAt (T .shares)) (T .counts .maps) (T .counts .ops) 0) T
 theEnd (b ∷ t) l T = refused (OffForm l)
 

@@ -1,4 +1,5 @@
 -- The text that spells a task, line by line as the paper has it; and the tables that hold a task, with 0 in every place that isn't its own.
+use mathlib.Core.Bool.{cond}
 use Prim.Native.Nat.{ℕ, zero, suc, _+_, _/_, _%_}
 use Prim.Native.String.{String}
 use mathlib.Core.List.{List, [], _∷_, _++_}
@@ -20,14 +21,14 @@ use Rattle.tables.specs.Layout.{
   sharePlace,
 }
 use Rattle.tables.specs.Task.{taskOf}
-use Rattle.grammar.specs.Fields.{pick, bytes, lineEnd, comma, dash, slash, colon, semicolon}
+use Rattle.grammar.specs.Fields.{bytes, lineEnd, comma, dash, slash, colon, semicolon}
 
 -- ---- THE TEXT
 
 -- the last digits of v, at most n of them
 unfoldable pub lastDigits : ℕ → ℕ → List ℕ
 lastDigits zero v = []
-lastDigits (suc n) v = pick (ltb v 10) ((48 + v) ∷ []) (lastDigits n (v / 10) ++ ((48 + v % 10) ∷ []))
+lastDigits (suc n) v = cond (ltb v 10) ((48 + v) ∷ []) (lastDigits n (v / 10) ++ ((48 + v % 10) ∷ []))
 
 -- a number in decimal, without a leading zero
 unfoldable pub digits : ℕ → List ℕ
@@ -121,28 +122,28 @@ changed f zero i w = w
 changed f (suc n) i w = changed f n (suc i) (f i w)
 
 -- n numbers, each in its place
-unfoldable pub row : (ℕ → ℕ) → (ℕ → ℕ) → ℕ → List ℕ → List ℕ
-row place f n = changed (λ i w. set w (place i) (f i)) n 0
+unfoldable pub rowPut : (ℕ → ℕ) → (ℕ → ℕ) → ℕ → List ℕ → List ℕ
+rowPut place f n = changed (λ i w. set w (place i) (f i)) n 0
 
 -- what is said of a variable; where nothing is, the place stays 0
-unfoldable pub said : ℕ → ℕ → List ℕ → List ℕ
-said zero place w = w
-said (suc k) place w = set w place (suc k)
+unfoldable pub factPut : ℕ → ℕ → List ℕ → List ℕ
+factPut zero place w = w
+factPut (suc k) place w = set w place (suc k)
 
 unfoldable pub factRow : (ℕ → ℕ) → Facts → ℕ → List ℕ → List ℕ
-factRow place F n = changed (λ v. said (F v) (place v)) n 0
+factRow place F n = changed (λ v. factPut (F v) (place v)) n 0
 
 -- the preconditions and effects of an operator, the classes of a map
 unfoldable pub opRows : Task → ℕ → List ℕ → List ℕ
 opRows T o w = factRow (effPlace o) (T .sas .eff o) (T .sas .vars) (factRow (prePlace o) (T .sas .pre o) (T .sas .vars) w)
 
 unfoldable pub mapRows : Task → ℕ → List ℕ → List ℕ
-mapRows T m = changed (λ v. row (classPlace m v) (T .class m v) (T .sas .dom v)) (T .sas .vars) 0
+mapRows T m = changed (λ v. rowPut (classPlace m v) (T .class m v) (T .sas .dom v)) (T .sas .vars) 0
 
 unfoldable pub headRows : Task → List ℕ → List ℕ
 headRows T w =
     factRow goalPlace (T .sas .goal) (T .sas .vars)
-    (row initPlace (T .sas .init) (T .sas .vars) (row domPlace (T .sas .dom) (T .sas .vars) w))
+    (rowPut initPlace (T .sas .init) (T .sas .vars) (rowPut domPlace (T .sas .dom) (T .sas .vars) w))
 
 -- the task's own numbers in tables of 0
 unfoldable pub tablesOf : Task → Tables
@@ -150,8 +151,8 @@ tablesOf T =
     record {
       counts = record { vars = T .sas .vars; ops = T .sas .ops; maps = T .maps };
       facts = changed (mapRows T) (T .maps) 0 (changed (opRows T) (T .sas .ops) 0 (headRows T (replicate factsRoom 0)));
-      costs = row (λ o. o) (T .sas .cost) (T .sas .ops) (replicate costsRoom 0);
-      shares = changed (λ m. row (sharePlace m) (T .share m) (T .sas .ops)) (T .maps) 0 (replicate sharesRoom 0);
+      costs = rowPut (λ o. o) (T .sas .cost) (T .sas .ops) (replicate costsRoom 0);
+      shares = changed (λ m. rowPut (sharePlace m) (T .share m) (T .sas .ops)) (T .maps) 0 (replicate sharesRoom 0);
     }
 
 -- the tables with the task's own places as they are, and 0 in every other

@@ -17,7 +17,7 @@ use Rattle.ledger.specs.declared.Run.{Run}
 use Rattle.ledger.specs.declared.Answer.{Answer}
 use Rattle.ledger.specs.declared.Answer.the-variants.{Accepted, Repeated, Refused}
 use Rattle.meaning.specs.Limits.{mostSteps}
-use Rattle.ledger.specs.Ledger.{canRun, isRun, oldStep, nextStep, judged, answered, advanced, moved, offered}
+use Rattle.ledger.specs.Ledger.{canRun, isRun, oldStep, nextStep, offerJudged, answered, advanced, moved, offered}
 use Rattle.ledger.proofs.Answers.{old-same, old-other, next-full, next-not, judged-none, judged-zero, judged-beyond, judged-old, judged-next}
 
 -- by cases on what a scan found, with the equation
@@ -40,7 +40,7 @@ module _ (t : Tables) (r : Run) (number o : ℕ) where
   unfolding answered
   answered-not-a-run p q = rw (p, q) refl
 
-  pub answered-judged : tablesFault t ≡ Clean → isRun t r ≡ true → judged (t .counts) (t .facts) r number o ≡ answered t r number o
+  pub answered-judged : tablesFault t ≡ Clean → isRun t r ≡ true → offerJudged (t .counts) (t .facts) r number o ≡ answered t r number o
   unfolding answered
   answered-judged p q = rw (p, q) refl
 
@@ -54,7 +54,7 @@ module _ (t : Tables) (r : Run) (number o : ℕ) where
     accepted-run =
         by-cases (isRun t r) (λ p. p) (λ p. absurd (not-refused NotARun (answered-not-a-run accepted-clean p ∙ e)))
 
-    accepted-judged : judged (t .counts) (t .facts) r number o ≡ Accepted
+    accepted-judged : offerJudged (t .counts) (t .facts) r number o ≡ Accepted
     accepted-judged = answered-judged accepted-clean accepted-run ∙ e
 
     pub accepted-exists : o < t .counts .ops

@@ -15,7 +15,7 @@ use Rattle.ledger.specs.declared.Run.{Run}
 use Rattle.ledger.specs.declared.Answer.{Answer}
 use Rattle.ledger.specs.declared.Answer.the-variants.{Accepted, Repeated, Refused}
 use Rattle.meaning.specs.Limits.{mostSteps}
-use Rattle.ledger.specs.Ledger.{canRun, startAt, oldStep, nextStep, judged}
+use Rattle.ledger.specs.Ledger.{canRun, startAt, oldStep, nextStep, offerJudged}
 
 -- ---- a value of a start
 
@@ -65,28 +65,28 @@ module _ (c : Counts) (facts : List ℕ) (r : Run) (number o : ℕ) where
 
   -- ---- the offer itself
 
-  pub judged-none : c .ops ≤ o → Refused (NoSuchOperator number) ≡ judged c facts r number o
-  unfolding judged
+  pub judged-none : c .ops ≤ o → Refused (NoSuchOperator number) ≡ offerJudged c facts r number o
+  unfolding offerJudged
   judged-none h = rw (le-leb (c .ops) o h) refl
 
   module _ (exists : o < c .ops) where
-    pub judged-zero : number ≡ 0 → Refused (NotTheNext number) ≡ judged c facts r number o
-    unfolding judged
+    pub judged-zero : number ≡ 0 → Refused (NotTheNext number) ≡ offerJudged c facts r number o
+    unfolding offerJudged
     judged-zero e = rw (lt-leb (c .ops) o exists, eq-eqb number 0 e) refl
 
     module _ (some : number ≡ 0 → ⊥) where
-      pub judged-beyond : r .len + 1 < number → Refused (NotTheNext number) ≡ judged c facts r number o
-      unfolding judged
+      pub judged-beyond : r .len + 1 < number → Refused (NotTheNext number) ≡ offerJudged c facts r number o
+      unfolding offerJudged
       judged-beyond h = rw (lt-leb (c .ops) o exists, ne-eqb number 0 some, lt-ltb (r .len + 1) number h) refl
 
-      pub judged-old : (x : Answer) → number ≤ r .len → x ≡ oldStep r number o → x ≡ judged c facts r number o
-      unfolding judged
+      pub judged-old : (x : Answer) → number ≤ r .len → x ≡ oldStep r number o → x ≡ offerJudged c facts r number o
+      unfolding offerJudged
       judged-old x h e =
           let g : number ≤ r .len + 1 = omega arith in
           rw (lt-leb (c .ops) o exists, ne-eqb number 0 some, le-ltb (r .len + 1) number g, le-leb number (r .len) h) e
 
       pub judged-next : (x : Answer) → number ≤ r .len + 1 → r .len < number → x ≡ nextStep c facts r number o
-          → x ≡ judged c facts r number o
-      unfolding judged
+          → x ≡ offerJudged c facts r number o
+      unfolding offerJudged
       judged-next x g h e =
           rw (lt-leb (c .ops) o exists, ne-eqb number 0 some, le-ltb (r .len + 1) number g, lt-leb number (r .len) h) e

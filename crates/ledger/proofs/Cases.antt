@@ -4,7 +4,7 @@ use mathlib.Core.Path.{_≡_, refl, ap, ap₂, _∙_}
 use mathlib.Core.List.{List, [], _∷_, _++_}
 use Rattle.refusals.specs.declared.Refusal.the-variants.{NoSuchOperator, MayNotRun, NotTheNext, OtherOperator, RunFull}
 use Rattle.tables.specs.Layout.{Tables}
-use Rattle.tables.specs.Steps.{rowHolds, mayRun, filled, stepped}
+use Rattle.tables.specs.Steps.{rowHolds, mayRun, overwritten, stepped}
 use Rattle.scan.specs.Scan.{each, factsFault, operatorFault, classesFault, mapFault, sharesFault, splitFault, taskFault, roomy, tablesFault, stateFault}
 use Rattle.ledger.specs.declared.Run.{Run}
 use Rattle.ledger.specs.declared.Answer.{Answer}
@@ -12,7 +12,7 @@ use Rattle.ledger.specs.declared.Answer.the-variants.{Accepted, Repeated
 use Rattle.meaning.specs.Limits.{mostSteps}
 use Rattle.ledger.specs.declared.Offered.{Offered}
 use Rattle.ledger.proofs.Full.{row, B, full, full-refused, full-repeated}
-use Rattle.ledger.specs.Ledger.{rest, gain, booked, fresh, advanced, canRun, replayed, given, startAt, startIn, sameTo, sameStates, sameSteps, sameRun, isRun, oldStep, nextStep, judged, answered, offered, startFrom, started, begun}
+use Rattle.ledger.specs.Ledger.{rest, gain, booked, fresh, advanced, canRun, replayed, given, startAt, startIn, sameTo, sameStates, sameSteps, sameRun, isRun, oldStep, nextStep, offerJudged, answered, offered, startFrom, started, begun}
 
 -- the facts of a task of 3 variables and 4 operators: 60 further rows of preconditions and of effects; the classes of 3 maps; spare rows
 abbrev factsA : List ℕ
@@ -81,12 +81,12 @@ stays t r x xs e c h =
 
 -- THE CASES HOLD: case A from its start, by one computation
 pub case-A-holds : outcome A (begun A (0 ∷ 0 ∷ 0 ∷ []) .run) rowsA ≡ rowsA
-unfolding A outcome rowsA rowHolds mayRun filled stepped each factsFault operatorFault classesFault mapFault sharesFault splitFault taskFault roomy tablesFault stateFault mostSteps rest gain booked fresh advanced canRun replayed given startAt startIn sameTo sameStates sameSteps sameRun isRun oldStep nextStep judged answered offered startFrom started begun
+unfolding A outcome rowsA rowHolds mayRun overwritten stepped each factsFault operatorFault classesFault mapFault sharesFault splitFault taskFault roomy tablesFault stateFault mostSteps rest gain booked fresh advanced canRun replayed given startAt startIn sameTo sameStates sameSteps sameRun isRun oldStep nextStep offerJudged answered offered startFrom started begun
 case-A-holds = refl
 
 -- and the full run, however many steps that is
 pub full-holds : outcome B full rowsFull ≡ rowsFull
-unfolding rowsFull outcome B full mostSteps judged oldStep nextStep
+unfolding rowsFull outcome B full mostSteps offerJudged oldStep nextStep
 full-holds =
     stays B full _ _ (full-refused (mostSteps + 1) 1 (RunFull (mostSteps + 1)) refl) refl
     (stays B full _ _ (full-refused (mostSteps + 1) 0 (RunFull (mostSteps + 1)) refl) refl

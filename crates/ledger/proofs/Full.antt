@@ -19,7 +19,7 @@ use Rattle.scan.specs.Scan.{each, factsFault, operatorFault, classesFault, mapF
 use Rattle.meaning.specs.Limits.{mostSteps}
 use Rattle.ledger.specs.declared.Run.{Run}
 use Rattle.ledger.specs.declared.Answer.the-variants.{Repeated, Refused}
-use Rattle.ledger.specs.Ledger.{allColumns, rest, gain, isRun, judged, offered}
+use Rattle.ledger.specs.Ledger.{allColumns, rest, gain, isRun, offerJudged, offered}
 use Rattle.ledger.specs.History.{Tells, Sized}
 use Rattle.ledger.proofs.Accepted.{answered-judged}
 use Rattle.ledger.proofs.Entries.{offered-repeated, offered-refused}
@@ -106,12 +106,12 @@ full-run : isRun B full ≡ true
 full-run = run-exactly B B-clean full full-sized .1 (full-state, (replicate mostSteps 1, full-tells))
 
 -- what it answers is what is judged, and it stays as it is
-pub full-refused : (number o : ℕ) (f : Refusal) → judged (B .counts) (B .facts) full number o ≡ Refused f
+pub full-refused : (number o : ℕ) (f : Refusal) → offerJudged (B .counts) (B .facts) full number o ≡ Refused f
     → offered B full number o ≡ record { run = full; answer = Refused f }
 full-refused number o f e =
     sym (offered-refused B full number o (Refused f) (sym e ∙ answered-judged B full number o B-clean full-run) f refl)
 
-pub full-repeated : (number o : ℕ) → judged (B .counts) (B .facts) full number o ≡ Repeated
+pub full-repeated : (number o : ℕ) → offerJudged (B .counts) (B .facts) full number o ≡ Repeated
     → offered B full number o ≡ record { run = full; answer = Repeated }
 full-repeated number o e =
     sym (offered-repeated B full number o Repeated (sym e ∙ answered-judged B full number o B-clean full-run) refl)

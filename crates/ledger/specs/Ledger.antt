@@ -12,7 +12,7 @@ use Rattle.scan.specs.declared.Found.{Found}
 use Rattle.scan.specs.declared.Found.the-variants.{Clean, Fault}
 use Rattle.tables.specs.Layout.{Tables, domAt}
 use Rattle.tables.specs.Task.{taskOf, stateOf}
-use Rattle.tables.specs.Steps.{mayRun, filled, stepped}
+use Rattle.tables.specs.Steps.{mayRun, overwritten, stepped}
 use Rattle.scan.specs.Scan.{tablesFault, inputFault}
 use Rattle.meaning.specs.Limits.{mostSteps}
 use Rattle.ledger.specs.declared.Run.{Run}
@@ -41,7 +41,7 @@ bookedAt T columns o column = getD columns column 0 + gain T column o
 
 -- the columns after operator o
 unfoldable pub booked : Task → List ℕ → ℕ → List ℕ
-booked T columns o = filled (bookedAt T columns o) columns allColumns
+booked T columns o = overwritten (bookedAt T columns o) columns allColumns
 
 -- a fresh run: an empty log, columns of 0 and its start as the state now
 unfoldable pub fresh : List ℕ → Run
@@ -114,8 +114,8 @@ nextStep c facts r number o =
     (cond (canRun c facts r o) Accepted (Refused (MayNotRun number)))
 
 -- an offer to a run: 10, then 13 at number 0 or beyond the next, then old or next
-unfoldable pub judged : Counts → List ℕ → Run → ℕ → ℕ → Answer
-judged c facts r number o =
+unfoldable pub offerJudged : Counts → List ℕ → Run → ℕ → ℕ → Answer
+offerJudged c facts r number o =
     cond (leb (c .ops) o) (Refused (NoSuchOperator number))
     (cond (eqb number 0 || ltb (r .len + 1) number) (Refused (NotTheNext number))
     (cond (leb number (r .len)) (oldStep r number o) (nextStep c facts r number o)))
@@ -128,7 +128,7 @@ unlessFault (Fault f) a = Refused f
 -- the answer to an offer: tables, then 17, then the offer itself
 unfoldable pub answered : Tables → Run → ℕ → ℕ → Answer
 answered t r number o =
-    unlessFault (tablesFault t) (cond (isRun t r) (judged (t .counts) (t .facts) r number o) (Refused NotARun))
+    unlessFault (tablesFault t) (cond (isRun t r) (offerJudged (t .counts) (t .facts) r number o) (Refused NotARun))
 
 -- only an accepted offer moves the run
 abbrev pub moved : Tables → Run → ℕ → Answer → Run
@@ -142,7 +142,7 @@ offered t r number o = record { run = moved t r o (answered t r number o); answe
 
 -- the start of a run from a lent state: its values, and 0 beyond the variables
 unfoldable pub startFrom : Counts → List ℕ → List ℕ
-startFrom c s = filled (stateOf s) (replicate 8 0) (c .vars)
+startFrom c s = overwritten (stateOf s) (replicate 8 0) (c .vars)
 
 -- a refused start hands back a run of zeros
 unfoldable pub started : Found → Run → Offered

@@ -3,7 +3,7 @@ ghost use mathlib.Core.Path.{_≡_};
 ghost use Prim.Native.Nat.{ℕ, _+_, _<_};
 ghost use lib.ListN.{getD};
 ghost use Rattle.meaning.specs.Split.{Valid};
-ghost use Rattle.tables.specs.Task.{taskOf, tables};
+ghost use Rattle.tables.specs.Task.{taskOf, tables, lent};
 ghost use Rattle.ledger.specs.Ledger.{rest, gain, booked, allColumns};
 use crate::COLUMNS;
 use crate::UNSHARED;
@@ -15,7 +15,7 @@ use tables::readers::share_at;
 // What an operator costs beyond its shares.
 pub fn rest_of(c: Counts, facts: &[u8], costs: &[u32], shares: &[u32], op: OpNo) -> u32
     requires { ⌜ Valid (taskOf (tables c (now facts) (now costs) (now shares))) × (op .0 < c .ops) ⌝ }
-    ensures { λ r. ⌜ r ≡ rest (taskOf (tables c (now (facts .entry)) (now (costs .entry)) (now (shares .entry)))) (op .0) ⌝ }
+    ensures { λ r. ⌜ r ≡ rest (taskOf (lent c (facts .entry) (costs .entry) (shares .entry))) (op .0) ⌝ }
 {
     let maps = c.maps;
     let mut shared: u32 = 0;
@@ -37,7 +37,7 @@ pub fn gain_of(
     op: OpNo,
 ) -> u32
     requires { ⌜ Valid (taskOf (tables c (now facts) (now costs) (now shares))) × (op .0 < c .ops) ⌝ }
-    ensures { λ r. ⌜ r ≡ gain (taskOf (tables c (now (facts .entry)) (now (costs .entry)) (now (shares .entry)))) column (op .0) ⌝ }
+    ensures { λ r. ⌜ r ≡ gain (taskOf (lent c (facts .entry) (costs .entry) (shares .entry))) column (op .0) ⌝ }
 {
     if column < c.maps as usize {
         return share_at(shares, column as u32, op);
@@ -58,7 +58,7 @@ pub fn columns_after(
     op: OpNo,
 ) -> [u32; COLUMNS]
     requires { ⌜ Valid (taskOf (tables c (now facts) (now costs) (now shares))) × (op .0 < c .ops) × ((k : ℕ) → k < allColumns → getD columns k 0 < 4293967296) ⌝ }
-    ensures { λ r. ⌜ r ≡ booked (taskOf (tables c (now (facts .entry)) (now (costs .entry)) (now (shares .entry)))) columns (op .0) ⌝ }
+    ensures { λ r. ⌜ r ≡ booked (taskOf (lent c (facts .entry) (costs .entry) (shares .entry))) columns (op .0) ⌝ }
 {
     let mut t = columns;
     let mut k: usize = 0;

@@ -3,9 +3,9 @@ ghost use mathlib.Core.Path.{_≡_};
 ghost use Prim.Native.Nat.{_≤_, _<_};
 ghost use lib.ListN.{take};
 ghost use Rattle.meaning.specs.Split.{Valid};
-ghost use Rattle.tables.specs.Task.{taskOf, tables};
+ghost use Rattle.tables.specs.Task.{taskOf, tables, lent};
 ghost use Rattle.meaning.specs.Limits.{mostSteps};
-ghost use Rattle.ledger.specs.Ledger.{fresh, advanced, canRun, replayed, sameStates, sameSteps, sameRun, isRun, oldStep, nextStep, judged, answered, offered, begun};
+ghost use Rattle.ledger.specs.Ledger.{fresh, advanced, canRun, replayed, sameStates, sameSteps, sameRun, isRun, oldStep, nextStep, offerJudged, answered, offered, begun};
 ghost use Rattle.ledger.specs.Inside.{Bounded};
 
 mod columns;
@@ -78,7 +78,7 @@ impl Run {
     // The run with the operator run once more.
     fn advance(mut self, c: Counts, facts: &[u8], costs: &[u32], shares: &[u32], op: OpNo) -> Run
         requires { ⌜ Valid (taskOf (tables c (now facts) (now costs) (now shares))) × (op .0 < c .ops) × (self .len < mostSteps) × Bounded self ⌝ }
-        ensures { λ r. ⌜ r ≡ advanced (tables c (now (facts .entry)) (now (costs .entry)) (now (shares .entry))) self (op .0) ⌝ }
+        ensures { λ r. ⌜ r ≡ advanced (lent c (facts .entry) (costs .entry) (shares .entry)) self (op .0) ⌝ }
     {
         let at = self.len as usize;
         let state = self.now;
@@ -145,7 +145,7 @@ impl Run {
         len: usize,
     ) -> Tried
         requires { ⌜ Valid (taskOf (tables c (now facts) (now costs) (now shares))) × (len ≤ mostSteps) ⌝ }
-        ensures { λ r. ⌜ r ≡ replayed (tables c (now (facts .entry)) (now (costs .entry)) (now (shares .entry))) (fresh start) (take len log) ⌝ }
+        ensures { λ r. ⌜ r ≡ replayed (lent c (facts .entry) (costs .entry) (shares .entry)) (fresh start) (take len log) ⌝ }
     {
         let mut run = Run::fresh(start);
         for i in 0..len {
@@ -161,7 +161,7 @@ impl Run {
     // The run is what its start and log give.
     fn is_run(self, c: Counts, facts: &[u8], costs: &[u32], shares: &[u32]) -> bool
         requires { ⌜ Valid (taskOf (tables c (now facts) (now costs) (now shares))) ⌝ }
-        ensures { λ r. ⌜ r ≡ isRun (tables c (now (facts .entry)) (now (costs .entry)) (now (shares .entry))) self ⌝ }
+        ensures { λ r. ⌜ r ≡ isRun (lent c (facts .entry) (costs .entry) (shares .entry)) self ⌝ }
     {
         let len = self.len as usize;
         if STEPS_MOST < len {
@@ -209,7 +209,7 @@ impl Run {
     // What an offer to a run is answered.
     fn judge(self, c: Counts, facts: &[u8], number: u32, op: OpNo) -> Answer
         requires { ⌜ (c .ops ≤ 64) × (self .len ≤ mostSteps) ⌝ }
-        ensures { λ r. ⌜ r ≡ judged c (now (facts .entry)) self number (op .0) ⌝ }
+        ensures { λ r. ⌜ r ≡ offerJudged c (now (facts .entry)) self number (op .0) ⌝ }
     {
         if c.ops <= op.0 {
             return Answer::Refused(Refusal::NoSuchOperator(number));
@@ -236,7 +236,7 @@ impl Run {
         number: u32,
         op: OpNo,
     ) -> Answer
-        ensures { λ r. ⌜ r ≡ answered (tables c (now (facts .entry)) (now (costs .entry)) (now (shares .entry))) self number (op .0) ⌝ }
+        ensures { λ r. ⌜ r ≡ answered (lent c (facts .entry) (costs .entry) (shares .entry)) self number (op .0) ⌝ }
     {
         let found = tables_fault(c, facts, costs, shares);
         match found {
@@ -260,7 +260,7 @@ impl Run {
         number: u32,
         op: OpNo,
     ) -> Offered
-        ensures { λ r. ⌜ r ≡ offered (tables c (now (facts .entry)) (now (costs .entry)) (now (shares .entry))) self number (op .0) ⌝ }
+        ensures { λ r. ⌜ r ≡ offered (lent c (facts .entry) (costs .entry) (shares .entry)) self number (op .0) ⌝ }
     {
         let a = self.answer(c, facts, costs, shares, number, op);
         match a {
@@ -284,7 +284,7 @@ impl Run {
 
     // A fresh run from a lent state; or a run of zeros beside the refusal.
     pub fn begin(c: Counts, facts: &[u8], costs: &[u32], shares: &[u32], start: &[u8]) -> Offered
-        ensures { λ r. ⌜ r ≡ begun (tables c (now (facts .entry)) (now (costs .entry)) (now (shares .entry))) (now (start .entry)) ⌝ }
+        ensures { λ r. ⌜ r ≡ begun (lent c (facts .entry) (costs .entry) (shares .entry)) (now (start .entry)) ⌝ }
     {
         let found = input_fault(c, facts, costs, shares, start);
         match found {

@@ -14,7 +14,7 @@ use Rattle.refusals.specs.declared.Refusal.the-variants.{TableTooShort}
 use Rattle.tables.specs.declared.Counts.{Counts}
 use Rattle.tables.specs.Layout.{preRow, effRow, factsRoom, costsRoom}
 use Rattle.tables.specs.Task.{stateOf, tables}
-use Rattle.tables.specs.Steps.{filled}
+use Rattle.tables.specs.Steps.{overwritten}
 use Rattle.scan.specs.Scan.{roomy, tablesFault, inputFault}
 use Rattle.tables.proofs.Laws.{by-cases, filled-end, filled-at, length-filled}
 use Rattle.sequences.specs.declared.judging.Judged.{Judged}
@@ -62,7 +62,7 @@ laid-next rows t u w o p q = rw (add-one, ← p, q) refl
 
 -- ---- the copy, and judging over it
 
-pub copied-whole : (facts l : List ℕ) (k : ℕ) → l ≡ filled (stateOf facts) (replicate 1624 0) k → k ≤ 1624 → 1624 ≤ k
+pub copied-whole : (facts l : List ℕ) (k : ℕ) → l ≡ overwritten (stateOf facts) (replicate 1624 0) k → k ≤ 1624 → 1624 ≤ k
     → record { facts = l; costs = replicate 64 0 } ≡ copyOf facts
 copied-whole facts l k p h g =
     ap (λ (x : List ℕ). record { facts = x; costs = replicate 64 0 }) (filled-end (stateOf facts) (replicate 1624 0) l 1624 k p h g)
@@ -102,10 +102,10 @@ length-laid-costs rows (suc o) t = length-set (laidOf rows o t .costs) o (record
 -- ---- the entry
 
 -- a copy of facts that have their room is what the row's tables start from
-copied-taken : (l : List ℕ) (n : ℕ) → n ≤ length l → filled (stateOf l) (replicate n 0) n ≡ take n l
+copied-taken : (l : List ℕ) (n : ℕ) → n ≤ length l → overwritten (stateOf l) (replicate n 0) n ≡ take n l
 copied-taken l n h =
-    let e : length (filled (stateOf l) (replicate n 0) n) ≡ n = length-filled (stateOf l) (replicate n 0) n ∙ length-replicate n 0 in
-    ext-getD 0 (filled (stateOf l) (replicate n 0) n) (take n l) (e ∙ sym (length-take-le n l h))
+    let e : length (overwritten (stateOf l) (replicate n 0) n) ≡ n = length-filled (stateOf l) (replicate n 0) n ∙ length-replicate n 0 in
+    ext-getD 0 (overwritten (stateOf l) (replicate n 0) n) (take n l) (e ∙ sym (length-take-le n l h))
     (λ i g. filled-at (stateOf l) (replicate n 0) n i (omega arith) (omega (arith, length-replicate {A = ℕ} n 0)) ∙ sym (getD-take n l i 0 (omega arith)))
 
 copied-blank : (facts : List ℕ) → factsRoom ≤ length facts → copyOf facts ≡ blank facts

@@ -8,7 +8,7 @@ use Rattle.refusals.specs.declared.Refusal.the-variants.{TableTooShort}
 use Rattle.tables.specs.declared.Counts.{Counts}
 use Rattle.tables.specs.Layout.{factsRoom, costsRoom}
 use Rattle.tables.specs.Task.{stateOf, tables}
-use Rattle.tables.specs.Steps.{filled}
+use Rattle.tables.specs.Steps.{overwritten}
 use Rattle.sequences.specs.declared.judging.Judged.{Judged}
 use Rattle.sequences.specs.declared.judging.Judged.the-variants.{Refused}
 use Rattle.sequences.specs.Judging.{judgedOf}
@@ -17,7 +17,7 @@ use Rattle.records.specs.Records.{counted}
 
 -- a copy of the lent facts that always has its room: places past their end are 0
 abbrev pub copyOf : List ℕ → Laid
-copyOf facts = record { facts = filled (stateOf facts) (replicate factsRoom 0) factsRoom; costs = replicate costsRoom 0 }
+copyOf facts = record { facts = overwritten (stateOf facts) (replicate factsRoom 0) factsRoom; costs = replicate costsRoom 0 }
 
 -- judging over such a copy: 8 where the lent facts did not have the room, else as over the tables
 unfoldable pub laidJudged : Counts → ℕ → ℕ → Laid → List ℕ → List ℕ → List ℕ → Judged

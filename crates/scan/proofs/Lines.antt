@@ -1,5 +1,5 @@
 -- The first fault of an operator's line, of the lines of operators and maps, and of the whole tables: which part decides; and that a part asks only the tables that it reads. Assumes nothing.
-use Prim.Native.Nat.{ℕ, _+_, _≤_, _<_}
+use Prim.Native.Nat.{ℕ, _≤_, _<_}
 use mathlib.Core.Path.{_≡_, refl, _∙_}
 use mathlib.Core.Bool.{true, false}
 use mathlib.Core.List.{List, []}

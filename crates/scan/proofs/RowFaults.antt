@@ -16,7 +16,7 @@ use Rattle.scan.specs.declared.Found.{Found}
 use Rattle.scan.specs.declared.Found.the-variants.{Clean, Fault}
 use Rattle.tables.specs.Layout.{rowAt}
 use Rattle.scan.specs.Scan.{unless, _then_, each}
-use Rattle.tables.specs.Classes.{noneMissing, allBelow, judged, classesOf}
+use Rattle.tables.specs.Classes.{noneMissing, allBelow, classesIf, classesOf}
 use Rattle.scan.proofs.Walks.{one-rule}
 use Rattle.tables.proofs.Laws.{never}
 
@@ -33,12 +33,12 @@ abbrev pub rowFault : (ℕ → ℕ) → ℕ → ℕ → Found
 rowFault class n line =
     each (λ x. unless (ltb (class x) n) (OutOfRange line)) n 0 then unless (noneMissing class n) (ClassMissing line)
 
-judged-fault : (a b : Bool) (k line : ℕ) → unless a (OutOfRange line) then unless b (ClassMissing line) ≡ faultIn (judged a b k) line
+judged-fault : (a b : Bool) (k line : ℕ) → unless a (OutOfRange line) then unless b (ClassMissing line) ≡ faultIn (classesIf a b k) line
 judged-fault true true k line = refl
 judged-fault true false k line = refl
 judged-fault false b k line = refl
 
-judged-count : (a b : Bool) (j k : ℕ) → judged a b j ≡ Count k → (a ≡ true) × (k ≡ j)
+judged-count : (a b : Bool) (j k : ℕ) → classesIf a b j ≡ Count k → (a ≡ true) × (k ≡ j)
 judged-count true true j k p = (refl, cc)
 judged-count true false j k p = never (cc)
 judged-count false b j k p = never (cc)

@@ -1,5 +1,5 @@
 -- The scan in the parts that the program walks it in: the lines before the operators, then those of the operators and of the maps.
-use Prim.Native.Nat.{ℕ, _+_}
+use Prim.Native.Nat.{ℕ}
 use mathlib.Core.Bool.{Bool, cond}
 use mathlib.Core.List.{List}
 use lib.Dec.{leb, ltb, eqb}

@@ -9,7 +9,7 @@ ghost use Rattle.meaning.specs.Split.{sum};
 ghost use Rattle.refusals.specs.declared.Refusal.the-variants.{OutOfRange};
 ghost use Rattle.scan.specs.declared.Found.the-variants.{Clean};
 ghost use Rattle.tables.specs.Layout.{rowAt, domAt, shareAt, factsRoom, costsRoom, sharesRoom};
-ghost use Rattle.tables.specs.Task.{tables, taskOf};
+ghost use Rattle.tables.specs.Task.{tables, taskOf, lent};
 ghost use Rattle.scan.specs.Scan.{unless, each, within, mapFault, sharesFault, splitFault, tablesFault, stateFault, inputFault};
 ghost use Rattle.scan.specs.Parts.{variableHolds, headFault, linesFault};
 use meaning::OpNo;
@@ -266,7 +266,7 @@ fn has_room(facts: &[u8], costs: &[u32], shares: &[u32]) -> bool
 
 // The first fault of handed-in tables, with the line that the same task's text would have.
 pub fn tables_fault(c: Counts, facts: &[u8], costs: &[u32], shares: &[u32]) -> Found
-    ensures { λ r. ⌜ r ≡ tablesFault (tables c (now (facts .entry)) (now (costs .entry)) (now (shares .entry))) ⌝ }
+    ensures { λ r. ⌜ r ≡ tablesFault (lent c (facts .entry) (costs .entry) (shares .entry)) ⌝ }
 {
     if !has_room(facts, costs, shares) {
         return Found::Fault(Refusal::TableTooShort);
@@ -306,7 +306,7 @@ pub fn state_fault(c: Counts, facts: &[u8], s: &[u8]) -> Found
 
 // The first fault of the tables, or else of the state.
 pub fn input_fault(c: Counts, facts: &[u8], costs: &[u32], shares: &[u32], s: &[u8]) -> Found
-    ensures { λ r. ⌜ r ≡ inputFault (tables c (now (facts .entry)) (now (costs .entry)) (now (shares .entry))) (now (s .entry)) ⌝ }
+    ensures { λ r. ⌜ r ≡ inputFault (lent c (facts .entry) (costs .entry) (shares .entry)) (now (s .entry)) ⌝ }
 {
     let f = tables_fault(c, facts, costs, shares);
     let Found::Clean = f else {

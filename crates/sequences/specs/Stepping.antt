@@ -8,7 +8,7 @@ use Rattle.meaning.specs.Sas.{State, Sas}
 use Rattle.meaning.specs.Views.{complies}
 use Rattle.tables.specs.declared.Counts.{Counts}
 use Rattle.tables.specs.Task.{sasOf, stateOf, tables}
-use Rattle.tables.specs.Steps.{filled}
+use Rattle.tables.specs.Steps.{overwritten}
 use Rattle.sequences.specs.declared.stepping.Stepped.{Stepped}
 use Rattle.sequences.specs.declared.stepping.Stepped.the-variants.{Ran, NoSuch, MayNot}
 
@@ -28,7 +28,7 @@ takenApart MayNot x y on = y
 
 -- the lent state by value: 8 places, those beyond the task's variables 0
 unfoldable pub copied : List ℕ → ℕ → List ℕ
-copied s vars = filled (stateOf s) (replicate 8 0) vars
+copied s vars = overwritten (stateOf s) (replicate 8 0) vars
 
 -- what accepted tables give the steps
 pub record Usable (S : Sas) : Type 0 where

@@ -2,7 +2,7 @@
 ghost use mathlib.Core.Path.{_≡_};
 ghost use Prim.Native.Nat.{_≤_};
 ghost use lib.ListN.{length};
-ghost use Rattle.tables.specs.Task.{stateOf, tables};
+ghost use Rattle.tables.specs.Task.{stateOf, tables, lent};
 ghost use Rattle.sequences.specs.Stepping.{Usable, sas};
 ghost use Rattle.meaning.specs.Limits.{mostSteps};
 ghost use Rattle.sequences.specs.Choosing.{reachedFrom, reachedOf, choiceOf, chosenOf, namedOf};
@@ -139,7 +139,7 @@ pub fn choice_of(
     a: &[u32],
     b: &[u32],
 ) -> Choice
-    ensures { λ r. ⌜ r ≡ chosenOf (tables c (now (facts .entry)) (now (costs .entry)) (now (shares .entry))) (now (s .entry)) (now (a .entry)) (now (b .entry)) ⌝ }
+    ensures { λ r. ⌜ r ≡ chosenOf (lent c (facts .entry) (costs .entry) (shares .entry)) (now (s .entry)) (now (a .entry)) (now (b .entry)) ⌝ }
 {
     let f = input_fault(c, facts, costs, shares, s);
     match f {

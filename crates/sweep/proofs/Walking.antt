@@ -23,7 +23,7 @@ use Rattle.tables.specs.Task.{sasOf, tables, stateOf}
 use Rattle.tables.specs.Steps.{mayRun, meetsGoal, valueAfter}
 use Rattle.tables.proofs.Meant.{may-run-is, meets-goal-is}
 use Rattle.sweep.specs.Said.{NONE, said, read}
-use Rattle.sweep.specs.Walks.{spaceOf, Walkable, Spells, numberAfter, stepOf}
+use Rattle.sweep.specs.Walks.{spaceOf, Walkable, Spells, numberAfter, nextFrom}
 use Rattle.sweep.specs.Sweeps.{Priced, Within}
 use Rattle.sweep.proofs.Saids.{beyond-within}
 
@@ -86,18 +86,18 @@ module _ (K D : ℕ → ℕ) (n : ℕ) where
 
 module _ (c : Counts) (facts s : List ℕ) (o : ℕ) (may : Bool) (is : may ≡ mayRun c facts s o) where
   -- it leads on where the operator may run, and only there
-  pub step-runs : (row b : ℕ) → may ≡ true → row ≡ effRow o → b ≡ numberAfter (c .vars) facts row s → to b ≡ stepOf c facts s o
-  unfolding stepOf
+  pub step-runs : (row b : ℕ) → may ≡ true → row ≡ effRow o → b ≡ numberAfter (c .vars) facts row s → to b ≡ nextFrom c facts s o
+  unfolding nextFrom
   step-runs row b e r n = rw (sym is ∙ e, n, r) refl
 
-  pub step-stops : may ≡ false → stop ≡ stepOf c facts s o
-  unfolding stepOf
+  pub step-stops : may ≡ false → stop ≡ nextFrom c facts s o
+  unfolding nextFrom
   step-stops e = rw (sym is ∙ e) refl
 
 module _ (c : Counts) (facts prices : List ℕ) where
   -- from the digits of a state, the computed step is the state space's; and so is the goal
-  pub step-is : (a o : ℕ) (s : List ℕ) → Spells (c .vars) facts a s → stepOf c facts s o ≡ spaceOf c facts prices .succ o a
-  unfolding stepOf
+  pub step-is : (a o : ℕ) (s : List ℕ) → Spells (c .vars) facts a s → nextFrom c facts s o ≡ spaceOf c facts prices .succ o a
+  unfolding nextFrom
   step-is a o s h =
       let t = tables c facts prices [] in
       ap₂ toIf (may-run-is t s o ∙ complies-same (sasOf t) (sasOf t .pre o) (stateOf s) (digit (domAt facts) a) h)
@@ -132,7 +132,7 @@ module _ (c : Counts) (facts prices : List ℕ) where
 
     -- a price more than what a table says of where the step leads still fits
     pub relax-fits : (old s : List ℕ) (a o k v : ℕ) (next : Next) → Priced c prices → a < size (domAt facts) (c .vars) → o < c .ops
-        → Within (size (domAt facts) (c .vars)) old → Spells (c .vars) facts a s → next ≡ stepOf c facts s o → k ≡ getD prices o 0
+        → Within (size (domAt facts) (c .vars)) old → Spells (c .vars) facts a s → next ≡ nextFrom c facts s o → k ≡ getD prices o 0
         → said v ≡ afterStep (read old) next → v < NONE → k + v < NONE
     relax-fits old s a o k v next P la lo h sp n e d l =
         let q : next ≡ spaceOf c facts prices .succ o a = n ∙ step-is a o s sp in

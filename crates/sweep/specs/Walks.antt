@@ -39,5 +39,5 @@ abbrev pub numberAfter : ℕ → List ℕ → ℕ → List ℕ → ℕ
 numberAfter vars facts row s = number (domAt facts) (valueAfter facts row s) vars
 
 -- the step of operator o from the values s
-unfoldable pub stepOf : Counts → List ℕ → List ℕ → ℕ → Next
-stepOf c facts s o = toIf (mayRun c facts s o) (numberAfter (c .vars) facts (effRow o) s)
+unfoldable pub nextFrom : Counts → List ℕ → List ℕ → ℕ → Next
+nextFrom c facts s o = toIf (mayRun c facts s o) (numberAfter (c .vars) facts (effRow o) s)

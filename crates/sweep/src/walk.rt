@@ -5,7 +5,7 @@ ghost use Rattle.meaning.specs.Numbering.{size, Positive, Digits};
 ghost use Rattle.tables.specs.Layout.{domAt};
 ghost use Rattle.tables.specs.Task.{stateOf};
 ghost use Rattle.tables.specs.Steps.{valueAfter};
-ghost use Rattle.sweep.specs.Walks.{Walkable, Spells, nextOf, numberAfter, stepOf};
+ghost use Rattle.sweep.specs.Walks.{Walkable, Spells, nextOf, numberAfter, nextFrom};
 use meaning::OpNo;
 use meaning::StateNo;
 use tables::Counts;
@@ -67,7 +67,7 @@ pub fn number_after(vars: u32, facts: &[u8], row: u32, s: &[u8]) -> u32
 // The step of an operator from a state's values.
 pub fn step_from(c: Counts, facts: &[u8], s: &[u8], o: OpNo) -> Step
     requires { ⌜ Walkable c (now facts) × (o .0 < c .ops) × Digits (domAt (now facts)) (stateOf (now s)) (c .vars) ⌝ }
-    ensures { λ r. ⌜ nextOf r ≡ stepOf c (now (facts .entry)) (now (s .entry)) (o .0) ⌝ }
+    ensures { λ r. ⌜ nextOf r ≡ nextFrom c (now (facts .entry)) (now (s .entry)) (o .0) ⌝ }
 {
     if may_run(c, facts, s, o) {
         Step::To(StateNo(number_after(c.vars, facts, eff_row(o), s)))

@@ -12,7 +12,7 @@ use lib.Seq.{getD-set-same, getD-set-other}
 use borrow.Author.Tests.{ltb-true, ltb-false, eqb-true, eqb-false}
 use Rattle.meaning.specs.Sas.{put}
 use Rattle.meaning.specs.Views.{holds, every}
-use Rattle.tables.specs.Steps.{filled}
+use Rattle.tables.specs.Steps.{overwritten}
 
 -- by cases on a test, with the equation
 pub by-cases : {A : Type 0} (b : Bool) → (b ≡ true → A) → (b ≡ false → A) → A
@@ -43,40 +43,40 @@ every-false f (suc n) k h p =
 
 -- ---- a list filled place by place
 
-pub filled-next : (f : ℕ → ℕ) (l t : List ℕ) (m x : ℕ) → t ≡ filled f l m → x ≡ f m → set t m x ≡ filled f l (m + 1)
-unfolding filled
+pub filled-next : (f : ℕ → ℕ) (l t : List ℕ) (m x : ℕ) → t ≡ overwritten f l m → x ≡ f m → set t m x ≡ overwritten f l (m + 1)
+unfolding overwritten
 filled-next f l t m x p q = rw (add-one, p, q) refl
 
-pub filled-end : (f : ℕ → ℕ) (l t : List ℕ) (n k : ℕ) → t ≡ filled f l k → k ≤ n → n ≤ k → t ≡ filled f l n
+pub filled-end : (f : ℕ → ℕ) (l t : List ℕ) (n k : ℕ) → t ≡ overwritten f l k → k ≤ n → n ≤ k → t ≡ overwritten f l n
 filled-end f l t n k p h g =
     let q : k ≡ n = omega arith in
-    p ∙ ap (filled f l) q
+    p ∙ ap (overwritten f l) q
 
-pub length-filled : (f : ℕ → ℕ) (l : List ℕ) (n : ℕ) → length (filled f l n) ≡ length l
-unfolding filled
+pub length-filled : (f : ℕ → ℕ) (l : List ℕ) (n : ℕ) → length (overwritten f l n) ≡ length l
+unfolding overwritten
 length-filled f l zero = refl
-length-filled f l (suc n) = length-set (filled f l n) n (f n) ∙ length-filled f l n
+length-filled f l (suc n) = length-set (overwritten f l n) n (f n) ∙ length-filled f l n
 
-pub filled-later : (f : ℕ → ℕ) (l : List ℕ) (n k : ℕ) → n ≤ k → getD (filled f l n) k 0 ≡ getD l k 0
-unfolding filled
+pub filled-later : (f : ℕ → ℕ) (l : List ℕ) (n k : ℕ) → n ≤ k → getD (overwritten f l n) k 0 ≡ getD l k 0
+unfolding overwritten
 filled-later f l zero k h = refl
 filled-later f l (suc n) k h =
-    getD-set-other (filled f l n) n k (f n) 0 (λ e. omega arith) ∙ filled-later f l n k (omega arith)
+    getD-set-other (overwritten f l n) n k (f n) 0 (λ e. omega arith) ∙ filled-later f l n k (omega arith)
 
 -- what stands at the place of the next turn is still the old value
-pub filled-still : (f : ℕ → ℕ) (l t : List ℕ) (m : ℕ) → t ≡ filled f l m → getD t m 0 ≡ getD l m 0
+pub filled-still : (f : ℕ → ℕ) (l t : List ℕ) (m : ℕ) → t ≡ overwritten f l m → getD t m 0 ≡ getD l m 0
 filled-still f l t m p = ap (λ (x : List ℕ). getD x m 0) p ∙ filled-later f l m m (omega arith)
 
-pub filled-at : (f : ℕ → ℕ) (l : List ℕ) (n k : ℕ) → k < n → k < length l → getD (filled f l n) k 0 ≡ f k
-unfolding filled
+pub filled-at : (f : ℕ → ℕ) (l : List ℕ) (n k : ℕ) → k < n → k < length l → getD (overwritten f l n) k 0 ≡ f k
+unfolding overwritten
 filled-at f l zero k h b = omega arith
 filled-at f l (suc n) k h b =
     by-cases (eqb k n)
     (λ e.
     let q : k ≡ n = eqb-true k n e in
-    rw q (getD-set-same (filled f l n) n (f n) 0 (omega (arith, length-filled f l n))))
+    rw q (getD-set-same (overwritten f l n) n (f n) 0 (omega (arith, length-filled f l n))))
     (λ e.
-    getD-set-other (filled f l n) n k (f n) 0 (eqb-false k n e)
+    getD-set-other (overwritten f l n) n k (f n) 0 (eqb-false k n e)
     ∙ filled-at f l n k (omega (arith, eqb-false k n e)) b)
 
 -- ---- a fact that says something: one more than its value

@@ -36,11 +36,11 @@ masked false m = Beyond
 unfoldable pub maskFound : (ℕ → ℕ) → ℕ → Mask
 maskFound class n = masked (allBelow class n) (maskOf class n)
 
-abbrev pub judged : Bool → Bool → ℕ → Classes
-judged true true k = Count k
-judged true false k = Missing
-judged false whole k = Outside
+abbrev pub classesIf : Bool → Bool → ℕ → Classes
+classesIf true true k = Count k
+classesIf true false k = Missing
+classesIf false whole k = Outside
 
 -- how many classes n values have; or that a class is not below n, or else that one is missing
 unfoldable pub classesOf : (ℕ → ℕ) → ℕ → Classes
-classesOf class n = judged (allBelow class n) (noneMissing class n) (countOf class n)
+classesOf class n = classesIf (allBelow class n) (noneMissing class n) (countOf class n)

@@ -24,9 +24,9 @@ unfoldable pub meetsGoal : Counts → List ℕ → List ℕ → Bool
 meetsGoal c facts s = rowHolds (c .vars) facts goalRow s
 
 -- the list with f k at each place k below n
-unfoldable pub filled : (ℕ → ℕ) → List ℕ → ℕ → List ℕ
-filled f l zero = l
-filled f l (suc n) = set (filled f l n) n (f n)
+unfoldable pub overwritten : (ℕ → ℕ) → List ℕ → ℕ → List ℕ
+overwritten f l zero = l
+overwritten f l (suc n) = set (overwritten f l n) n (f n)
 
 -- the value of variable v after what a row of facts says of it
 abbrev pub valueAfter : List ℕ → ℕ → List ℕ → ℕ → ℕ
@@ -34,4 +34,4 @@ valueAfter facts row s v = put (rowAt facts row v) (getD s v 0)
 
 -- the state after operator o: each effect holds and all else stays
 unfoldable pub stepped : Counts → List ℕ → List ℕ → ℕ → List ℕ
-stepped c facts s o = filled (valueAfter facts (effRow o) s) s (c .vars)
+stepped c facts s o = overwritten (valueAfter facts (effRow o) s) s (c .vars)

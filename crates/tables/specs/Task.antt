@@ -2,6 +2,7 @@
 use mathlib.Core.List.{List}
 use Prim.Native.Nat.{ℕ}
 use lib.ListN.{getD}
+use denote.Ref.{RefT, now}
 use Rattle.meaning.specs.Sas.{State, Sas}
 use Rattle.meaning.specs.Split.{Task}
 use Rattle.tables.specs.declared.Counts.{Counts}
@@ -25,6 +26,10 @@ taskOf t = record { sas = sasOf t; maps = t .counts .maps; class = classAt (t .f
 
 abbrev pub tables : Counts → List ℕ → List ℕ → List ℕ → Tables
 tables c facts costs shares = record { counts = c; facts = facts; costs = costs; shares = shares }
+
+-- the tables that are lent: what stands in the three slices beside the counts. Contracts name it so
+abbrev pub lent : Counts → RefT (List ℕ) → RefT (List ℕ) → RefT (List ℕ) → Tables
+lent c facts costs shares = tables c (now facts) (now costs) (now shares)
 
 -- a value for each variable, from place 0 on
 abbrev pub stateOf : List ℕ → State

@@ -3,7 +3,7 @@ use Prim.Native.Nat.{ℕ, zero, suc, _+_, _≤_, _<_, zero-le}
 use native.Mathlib.Omega.{arith}
 use mathlib.Core.Path.{_≡_, refl, sym, ap, _∙_}
 use mathlib.Core.List.{List, [], _∷_}
-use mathlib.Core.Bool.{Bool, true, false}
+use mathlib.Core.Bool.{Bool, true, false, cond}
 use lib.ListN.{getD}
 use lib.Dec.{leb, eqb}
 use borrow.Author.Tests.{ne-eqb, eqb-true, leb-true, leb-false, lt-leb}
@@ -11,8 +11,8 @@ use Rattle.refusals.specs.declared.Refusal.the-variants.{NotRising}
 use Rattle.tables.specs.declared.Counts.{Counts}
 use Rattle.tables.specs.Layout.{Tables, domAt}
 use Rattle.text.specs.declared.Ctrl.{Ctrl}
-use Rattle.grammar.specs.Fields.{pick, isDigit, comma, dash, colon}
-use Rattle.grammar.specs.Grammar.{Verdict, refused, Next, Part, _▸_, nothing, ask, keep, demand, lit, choice, within, number, putFact, facts, factList}
+use Rattle.grammar.specs.Fields.{isDigit, comma, dash, colon}
+use Rattle.grammar.specs.Grammar.{Verdict, refused, Rest, Part, _▸_, nothing, ask, keep, demand, lit, choice, fits, numeral, putFact, facts, factList}
 use Rattle.text.specs.Machine.{mk, up, put, dom, withDigit, leasts, limit, noted, fault, stored, mark, listEnd, after, dashHere, fresh, dashed, atNumber, live, step, refusalOf}
 use Rattle.text.proofs.BridgeReading.{tablesOf, reading, Bytes, byte, cut-short, moves, marked}
 use Rattle.grammar.proofs.Runs.{within-both, Stop, nil, other}
@@ -22,18 +22,18 @@ use Rattle.text.proofs.BridgeRows.{num, then-mark, fault-plain, no-faul
 
 -- a number, with its range named
 module _ (c : Ctrl) (w : List ℕ) (lo lim : ℕ) (e : getD leasts (c .field) 0 ≡ lo) (q : limit c w ≡ lim) (h : c .field ≡ 15 → ⊥) (low : lo ≤ 4294967295) (cap : lim ≤ 4294967295)
-    (p : ℕ → Part) (T : Tables) (k : Next)
-    (ok : (r v : ℕ) (t : List ℕ) → (r ≡ 0 → ⊥) → Stop t → Bytes t → within v (getD leasts (c .field) 0) (limit c w) ≡ true → within v lo lim ≡ true
+    (p : ℕ → Part) (T : Tables) (k : Rest)
+    (ok : (r v : ℕ) (t : List ℕ) → (r ≡ 0 → ⊥) → Stop t → Bytes t → fits v (getD leasts (c .field) 0) (limit c w) ≡ true → fits v lo lim ≡ true
     → reading (withDigit c r v) w t ≡ p v t (c .line) T k) where
-  pub number-at : (t : List ℕ) → Bytes t → beginsDash c t ≡ false → reading (withDigit c 0 0) w t ≡ number lo lim p t (c .line) T k
+  pub number-at : (t : List ℕ) → Bytes t → beginsDash c t ≡ false → reading (withDigit c 0 0) w t ≡ numeral lo lim p t (c .line) T k
   number-at t a d =
       number-ok c w h (rw e low) (rw q cap) p T k (λ r v u z o b s. ok r v u z o b s (rw (e, q) at s)) t a d
-      ∙ ap (λ (x : ℕ). number x (limit c w) p t (c .line) T k) e
-      ∙ ap (λ (x : ℕ). number lo x p t (c .line) T k) q
+      ∙ ap (λ (x : ℕ). numeral x (limit c w) p t (c .line) T k) e
+      ∙ ap (λ (x : ℕ). numeral lo x p t (c .line) T k) q
 
 -- after a first fact no dash can stand
 bare-least : (c : Ctrl) (t : List ℕ) → (c .least ≡ 0 → ⊥) → beginsDash c t ≡ false
-unfolding dashHere withDigit pick
+unfolding dashHere withDigit
 bare-least c [] h = refl
 bare-least c (b ∷ t) h = simp (ne-eqb (c .least) 0 h, pick-same)
 
@@ -53,21 +53,21 @@ pub record FactList (l f g r : ℕ) (n : Counts) (place : ℕ → ℕ) (x : ℕ)
       → after (noted (withDigit (num l f 0 m 0 r 0 1 n) z v)) w b ≡ mark (noted (withDigit (num l f 0 m 0 r 0 1 n) z v)) b colon (num l g v 0 0 r 0 1 n)
   pub val-after : (v z y b : ℕ) (w : List ℕ)
       → after (noted (withDigit (num l g v 0 0 r 0 1 n) z y)) w b
-      ≡ pick (eqb b comma) (num l f 0 (up v) 0 r 0 1 n) (mark (noted (withDigit (num l g v 0 0 r 0 1 n) z y)) b x d)
+      ≡ cond (eqb b comma) (num l f 0 (up v) 0 r 0 1 n) (mark (noted (withDigit (num l g v 0 0 r 0 1 n) z y)) b x d)
   pub val-bare : (v : ℕ) (t : List ℕ) → beginsDash (num l g v 0 0 r 0 1 n) t ≡ false
   pub var-dash : (b : ℕ) → dashHere (withDigit (num l f 0 0 0 r 0 1 n) 0 0) b ≡ eqb b dash
   pub dash-ends : (b : ℕ) → listEnd (dashed (num l f 0 0 0 r 0 1 n)) b ≡ mark (dashed (num l f 0 0 0 r 0 1 n)) b x d
   pub room : (v : ℕ) → v < 8 → (8 ≤ place v) × (place v < 1624)
 
-module _ (l f g r : ℕ) (n : Counts) (place : ℕ → ℕ) (x : ℕ) (d : Ctrl) (L : FactList l f g r n place x d) (fits : Fits n) (k : Next)
+module _ (l f g r : ℕ) (n : Counts) (place : ℕ → ℕ) (x : ℕ) (d : Ctrl) (L : FactList l f g r n place x d) (fits : Fits n) (k : Rest)
     (ok : (w : List ℕ) → Known (n .vars) w → (t : List ℕ) → Bytes t → reading d w t ≡ k t l (tablesOf n w)) where
   -- what follows the list
-  ends : Next
+  ends : Rest
   ends u m U = lit (x ∷ []) u m U k
 
-  rising : (m z v : ℕ) (w t : List ℕ) → (z ≡ 0 → ⊥) → Stop t → within v (getD leasts f 0) (limit (num l f 0 m 0 r 0 1 n) w) ≡ true → v < m
+  rising : (m z v : ℕ) (w t : List ℕ) → (z ≡ 0 → ⊥) → Stop t → fits v (getD leasts f 0) (limit (num l f 0 m 0 r 0 1 n) w) ≡ true → v < m
       → reading (withDigit (num l f 0 m 0 r 0 1 n) z v) w t ≡ refused (NotRising l)
-  unfolding pick refusalOf
+  unfolding refusalOf
   rising m z v w t y o s h =
       faulty (num l f 0 m 0 r 0 1 n) w z v 4 (L .var15) y o (fault-plain (num l f 0 m 0 r 0 1 n) w z v y (L .var13) s ∙ rw (lt-leb m v h)) (λ q. omega arith)
 
@@ -76,7 +76,7 @@ module _ (l f g r : ℕ) (n : Counts) (place : ℕ → ℕ) (x : ℕ) (d : Ctrl)
     -- after a value: a comma means one more fact, anything else ends the list
     more-or-end : (z y : ℕ) (w u : List ℕ) → Known (n .vars) w → (z ≡ 0 → ⊥) → Stop u → Bytes u → y < 8 → fault (withDigit (num l g v 0 0 r 0 1 n) z y) w ≡ 0
         → reading (withDigit (num l g v 0 0 r 0 1 n) z y) w u ≡ choice comma (facts place N (v + 1)) nothing u l (tablesOf n (put w (place v) (up y))) ends
-    unfolding choice nothing lit ends noted withDigit pick
+    unfolding choice nothing lit ends noted withDigit
     more-or-end z y w u p q nil a h e = sound-end (num l g v 0 0 r 0 1 n) w z y (L .val15) e
     more-or-end z y w u p q (other {b = b} {t = t} o) (byte b₁ a) h e = move ∙ split (eqb b comma) refl
       where
@@ -87,15 +87,15 @@ module _ (l f g r : ℕ) (n : Counts) (place : ℕ → ℕ) (x : ℕ) (d : Ctrl)
         known = let j = fits .high in let i = L .room v (omega arith) in known-put p (place v) (up y) (omega arith)
 
         move : reading (withDigit (num l g v 0 0 r 0 1 n) z y) w (b ∷ t)
-            ≡ reading (pick (eqb b comma) (num l f 0 (up v) 0 r 0 1 n) (mark (noted (withDigit (num l g v 0 0 r 0 1 n) z y)) b x d)) w₁ t
+            ≡ reading (cond (eqb b comma) (num l f 0 (up v) 0 r 0 1 n) (mark (noted (withDigit (num l g v 0 0 r 0 1 n) z y)) b x d)) w₁ t
         move =
             sound-byte (num l g v 0 0 r 0 1 n) w z y b t q o e
             ∙ ap (λ (c : Ctrl). reading c (stored (withDigit (num l g v 0 0 r 0 1 n) z y) w) t) (L .val-after v z y b w)
-            ∙ ap (λ (u₁ : List ℕ). reading (pick (eqb b comma) (num l f 0 (up v) 0 r 0 1 n) (mark (noted (withDigit (num l g v 0 0 r 0 1 n) z y)) b x d)) u₁ t) (L .val-kept v z y w)
+            ∙ ap (λ (u₁ : List ℕ). reading (cond (eqb b comma) (num l f 0 (up v) 0 r 0 1 n) (mark (noted (withDigit (num l g v 0 0 r 0 1 n) z y)) b x d)) u₁ t) (L .val-kept v z y w)
 
         split : (s : Bool) → eqb b comma ≡ s
-            → reading (pick (eqb b comma) (num l f 0 (up v) 0 r 0 1 n) (mark (noted (withDigit (num l g v 0 0 r 0 1 n) z y)) b x d)) w₁ t
-            ≡ pick {A = List ℕ → Verdict} (eqb b comma) (λ u₁. facts place N (v + 1) u₁ l (tablesOf n w₁) ends) (λ u₁. lit (x ∷ []) (b ∷ u₁) l (tablesOf n w₁) k) t
+            → reading (cond (eqb b comma) (num l f 0 (up v) 0 r 0 1 n) (mark (noted (withDigit (num l g v 0 0 r 0 1 n) z y)) b x d)) w₁ t
+            ≡ cond {A = List ℕ → Verdict} (eqb b comma) (λ u₁. facts place N (v + 1) u₁ l (tablesOf n w₁) ends) (λ u₁. lit (x ∷ []) (b ∷ u₁) l (tablesOf n w₁) k) t
         split true j =
             rw j
             (ap (λ (m : ℕ). reading (num l f 0 m 0 r 0 1 n) w₁ t) (let i = fits .high in let e₁ : up v ≡ v + 1 = omega arith in e₁) ∙ rest w₁ known t a)
@@ -103,7 +103,7 @@ module _ (l f g r : ℕ) (n : Counts) (place : ℕ → ℕ) (x : ℕ) (d : Ctrl)
 
     value-ok : (w : List ℕ) → Known (n .vars) w → (t : List ℕ) → Bytes t
         → reading (num l g v 0 0 r 0 1 n) w t
-        ≡ number 0 (domAt (tablesOf n w .facts) v) (λ y. keep (putFact (place v) (y + 1)) ▸ choice comma (facts place N (v + 1)) nothing) t l (tablesOf n w) ends
+        ≡ numeral 0 (domAt (tablesOf n w .facts) v) (λ y. keep (putFact (place v) (y + 1)) ▸ choice comma (facts place N (v + 1)) nothing) t l (tablesOf n w) ends
     unfolding keep _▸_ withDigit
     value-ok w p t a =
         let j = fits .high in
@@ -122,10 +122,10 @@ module _ (l f g r : ℕ) (n : Counts) (place : ℕ → ℕ) (x : ℕ) (d : Ctrl)
   -- a variable: its order, its colon, its value
   variable-ok : (N m : ℕ) (w : List ℕ) → Known (n .vars) w
       → ((v : ℕ) → m ≤ v → (w₁ : List ℕ) → Known (n .vars) w₁ → (t : List ℕ) → Bytes t → reading (num l f 0 (v + 1) 0 r 0 1 n) w₁ t ≡ facts place N (v + 1) t l (tablesOf n w₁) ends)
-      → (z v : ℕ) (u : List ℕ) → (z ≡ 0 → ⊥) → Stop u → Bytes u → within v (getD leasts f 0) (limit (num l f 0 m 0 r 0 1 n) w) ≡ true → v < n .vars
+      → (z v : ℕ) (u : List ℕ) → (z ≡ 0 → ⊥) → Stop u → Bytes u → fits v (getD leasts f 0) (limit (num l f 0 m 0 r 0 1 n) w) ≡ true → v < n .vars
       → (j : Bool) → leb m v ≡ j
       → reading (withDigit (num l f 0 m 0 r 0 1 n) z v) w u
-      ≡ demand (leb m v) NotRising u l (tablesOf n w) (λ u₁ l₁ T. lit (colon ∷ []) u₁ l₁ T (λ u₂ l₂ T₂. number 0 (domAt (tablesOf n w .facts) v) (λ y. keep (putFact (place v) (y + 1)) ▸ choice comma (facts place N (v + 1)) nothing) u₂ l₂ T₂ ends))
+      ≡ demand (leb m v) NotRising u l (tablesOf n w) (λ u₁ l₁ T. lit (colon ∷ []) u₁ l₁ T (λ u₂ l₂ T₂. numeral 0 (domAt (tablesOf n w .facts) v) (λ y. keep (putFact (place v) (y + 1)) ▸ choice comma (facts place N (v + 1)) nothing) u₂ l₂ T₂ ends))
   unfolding demand
   variable-ok N m w p again z v u y o b s i true j =
       rw j
@@ -149,11 +149,11 @@ module _ (l f g r : ℕ) (n : Counts) (place : ℕ → ℕ) (x : ℕ) (d : Ctrl)
 
   -- the dash of an empty list, and what ends it
   dash-step : (w : List ℕ) → step (mk (num l f 0 0 0 r 0 1 n) w) dash ≡ mk (dashed (num l f 0 0 0 r 0 1 n)) w
-  unfolding step live atNumber withDigit isDigit pick
+  unfolding step live atNumber withDigit isDigit
   dash-step w = rw (L .var-dash dash)
 
   dash-ok : (w t : List ℕ) → Known (n .vars) w → Bytes t → reading (dashed (num l f 0 0 0 r 0 1 n)) w t ≡ ends t l (tablesOf n w)
-  unfolding ends lit dashed fresh step live pick
+  unfolding ends lit dashed fresh step live
   dash-ok w [] p a = cut-short (dashed (num l f 0 0 0 r 0 1 n)) w refl (L .var15) refl
   dash-ok w (b ∷ t) p (byte h a) =
       moves (dashed (num l f 0 0 0 r 0 1 n)) _ w w b t (ap (λ (c : Ctrl). mk c w) (L .dash-ends b))
@@ -161,13 +161,13 @@ module _ (l f g r : ℕ) (n : Counts) (place : ℕ → ℕ) (x : ℕ) (d : Ctrl)
 
   pub list-ok : (w : List ℕ) → Known (n .vars) w → (t : List ℕ) → Bytes t
       → reading (num l f 0 0 0 r 0 1 n) w t ≡ factList place t l (tablesOf n w) (λ u m U. lit (x ∷ []) u m U k)
-  unfolding factList choice ask nothing ends tablesOf pick
+  unfolding factList choice ask nothing ends tablesOf
   list-ok w p [] a = facts-ok (n .vars) 0 (omega arith) w p [] a refl
   list-ok w p (b ∷ t) (byte h a) = split (eqb b dash) refl
     where
       split : (q : Bool) → eqb b dash ≡ q
           → reading (num l f 0 0 0 r 0 1 n) w (b ∷ t)
-          ≡ pick {A = List ℕ → Verdict} (eqb b dash) (λ u. ends u l (tablesOf n w)) (λ u. facts place (n .vars) 0 (b ∷ u) l (tablesOf n w) ends) t
+          ≡ cond {A = List ℕ → Verdict} (eqb b dash) (λ u. ends u l (tablesOf n w)) (λ u. facts place (n .vars) 0 (b ∷ u) l (tablesOf n w) ends) t
       split true q =
           rw (eqb-true b dash q) (moves (num l f 0 0 0 r 0 1 n) (dashed (num l f 0 0 0 r 0 1 n)) w w dash t (dash-step w) ∙ dash-ok w t p a)
       split false q = rw q (facts-ok (n .vars) 0 (omega arith) w p (b ∷ t) (byte h a) (L .var-dash b ∙ q))

@@ -11,16 +11,16 @@ use borrow.Author.Tests.{eq-eqb, ne-eqb}
 use Rattle.tables.specs.declared.Counts.{Counts}
 use Rattle.tables.specs.Layout.{Tables, domPlace, initPlace, domAt}
 use Rattle.text.specs.declared.Ctrl.{Ctrl}
-use Rattle.grammar.specs.Fields.{pick, comma, lineEnd, bytes}
+use Rattle.grammar.specs.Fields.{comma, lineEnd, bytes}
 use Rattle.grammar.specs.Grammar.{
-  Next,
+  Rest,
   _▸_,
   nothing,
   ask,
   keep,
   lit,
-  within,
-  number,
+  fits,
+  numeral,
   row,
   endOfLine,
   line,
@@ -60,23 +60,23 @@ use Rattle.text.proofs.BridgeArea.{fact-kept, dom-of}
 use Rattle.text.proofs.BridgeRows.{num, then-mark, no-fault, Fits, Known, known-put, known-dom, row-ok}
 
 -- the line end, and then what follows on the next line
-abbrev pub eol : Next → Next
+abbrev pub eol : Rest → Rest
 eol k u m U = lit (lineEnd ∷ []) u m U (λ u₁ m₁ U₁. k u₁ (m₁ + 1) U₁)
 
 -- no dash can stand for a number that is no fact's variable
 pub bare : (c : Ctrl) (t : List ℕ) → eqb (kind (c .field)) 2 ≡ false → beginsDash c t ≡ false
-unfolding dashHere withDigit pick
+unfolding dashHere withDigit
 bare c [] e = refl
 bare c (b ∷ t) e = rw e (pick-same (eqb b 45) false)
 
 -- ---- a line of one number
 module _ (l f : ℕ) (n : Counts) (w : List ℕ) (h : f ≡ 15 → ⊥) (c : f ≡ 13 → ⊥) (low : getD leasts f 0 ≤ 4294967295) (cap : limit (num l f 0 0 0 0 0 1 n) w ≤ 4294967295)
-    (e : eqb (kind f) 2 ≡ false) (keeps : ℕ → Tables → Tables) (k : Next) (d : ℕ → Ctrl)
+    (e : eqb (kind f) 2 ≡ false) (keeps : ℕ → Tables → Tables) (k : Rest) (d : ℕ → Ctrl)
     (same : (z v : ℕ) → stored (withDigit (num l f 0 0 0 0 0 1 n) z v) w ≡ w)
     (goes : (z v b : ℕ) → after (noted (withDigit (num l f 0 0 0 0 0 1 n) z v)) w b ≡ mark (noted (withDigit (num l f 0 0 0 0 0 1 n) z v)) b lineEnd (d v))
-    (ok : (v : ℕ) → within v (getD leasts f 0) (limit (num l f 0 0 0 0 0 1 n) w) ≡ true → (t : List ℕ) → Bytes t → reading (d v) w t ≡ k t (l + 1) (keeps v (tablesOf n w))) where
+    (ok : (v : ℕ) → fits v (getD leasts f 0) (limit (num l f 0 0 0 0 0 1 n) w) ≡ true → (t : List ℕ) → Bytes t → reading (d v) w t ≡ k t (l + 1) (keeps v (tablesOf n w))) where
   pub single-ok : (t : List ℕ) → Bytes t
-      → reading (num l f 0 0 0 0 0 1 n) w t ≡ number (getD leasts f 0) (limit (num l f 0 0 0 0 0 1 n) w) (λ v. keep (keeps v)) t l (tablesOf n w) (eol k)
+      → reading (num l f 0 0 0 0 0 1 n) w t ≡ numeral (getD leasts f 0) (limit (num l f 0 0 0 0 0 1 n) w) (λ v. keep (keeps v)) t l (tablesOf n w) (eol k)
   unfolding keep withDigit
   single-ok t a =
       number-ok (num l f 0 0 0 0 0 1 n) w h low cap (λ v. keep (keeps v)) (tablesOf n w) (eol k)
@@ -86,9 +86,9 @@ module _ (l f : ℕ) (n : Counts) (w : List ℕ) (h : f ≡ 15 → ⊥) (c : f �
       t a (bare (num l f 0 0 0 0 0 1 n) t e)
 
 -- edition=
-pub edition-ok : (n : Counts) (w : List ℕ) (k : Next) → ((t : List ℕ) → Bytes t → reading (kw 2 1 0 n 0) w t ≡ k t 2 (tablesOf n w))
+pub edition-ok : (n : Counts) (w : List ℕ) (k : Rest) → ((t : List ℕ) → Bytes t → reading (kw 2 1 0 n 0) w t ≡ k t 2 (tablesOf n w))
     → (t : List ℕ) → Bytes t → reading (kw 1 0 0 n 0) w t ≡ editionLine t 1 (tablesOf n w) k
-unfolding editionLine line endOfLine _▸_ nothing keep opened fresh pick limit stored withDigit noted after kind nextLine listOf toLine spelled keyByte
+unfolding editionLine line endOfLine _▸_ nothing keep opened fresh limit stored withDigit noted after kind nextLine listOf toLine spelled keyByte
 edition-ok n w k ok =
     key-ok 1 0 0 n w (λ z. omega arith) (tablesOf n w) _
     (single-ok 1 0 n w (λ z. omega arith) (λ z. omega arith) (omega arith) (omega arith) refl (λ v T. T) k (λ v. kw 2 1 0 n 0) (λ z v. refl) (λ z v b. refl) (λ v q. ok))
@@ -98,10 +98,10 @@ edition-ok n w k ok =
 abbrev pub withVars : ℕ → Counts → Counts
 withVars v n = record { vars = v; ops = n .ops; maps = n .maps }
 
-pub vars-ok : (n : Counts) (w : List ℕ) (k : Next)
+pub vars-ok : (n : Counts) (w : List ℕ) (k : Rest)
     → ((v : ℕ) → 1 ≤ v → v ≤ 8 → (t : List ℕ) → Bytes t → reading (kw 3 2 0 (withVars v n) 0) w t ≡ k t 3 (tablesOf (withVars v n) w))
     → (t : List ℕ) → Bytes t → reading (kw 2 1 0 n 0) w t ≡ varsLine t 2 (tablesOf n w) k
-unfolding varsLine line endOfLine _▸_ keep opened fresh pick limit stored withDigit noted after kind nextLine listOf toLine spelled keyByte tablesOf
+unfolding varsLine line endOfLine _▸_ keep opened fresh limit stored withDigit noted after kind nextLine listOf toLine spelled keyByte tablesOf
 vars-ok n w k ok =
     key-ok 2 1 0 n w (λ z. omega arith) (tablesOf n w) _
     (single-ok 2 1 n w (λ z. omega arith) (λ z. omega arith) (omega arith) (omega arith) refl
@@ -117,21 +117,21 @@ data VarRow : ℕ → Type 0 where
 module _ (l z v b i : ℕ) (n : Counts) (w : List ℕ) (g : n .vars ≤ 8) where
   vars-more : {f : ℕ} → VarRow f → i + 1 < n .vars
       → after (noted (withDigit (num l f i 0 0 0 0 1 n) z v)) w b ≡ mark (noted (withDigit (num l f i 0 0 0 0 1 n) z v)) b comma (num l f (i + 1) 0 0 0 0 1 n)
-  unfolding after kind afterVar lastVar noted withDigit due pick
+  unfolding after kind afterVar lastVar noted withDigit due
   vars-more domRow h = let e : up i ≡ i + 1 = omega arith in rw (e, ne-eqb (i + 1) (n .vars) (λ q. omega arith))
   vars-more initRow h = let e : up i ≡ i + 1 = omega arith in rw (e, ne-eqb (i + 1) (n .vars) (λ q. omega arith))
 
   vars-last : {f : ℕ} → VarRow f → i + 1 ≡ n .vars
       → after (noted (withDigit (num l f i 0 0 0 0 1 n) z v)) w b ≡ mark (noted (withDigit (num l f i 0 0 0 0 1 n) z v)) b lineEnd (kw (up l) (up f) 0 n 0)
-  unfolding after kind afterVar lastVar noted withDigit nextLine listOf toLine fresh pick
+  unfolding after kind afterVar lastVar noted withDigit nextLine listOf toLine fresh
   vars-last domRow h = let e : up i ≡ n .vars = omega arith in rw (eq-eqb (up i) (n .vars) e)
   vars-last initRow h = let e : up i ≡ n .vars = omega arith in rw (eq-eqb (up i) (n .vars) e)
 
 -- dom=
-pub dom-ok : (n : Counts) → Fits n → (w : List ℕ) → Known 0 w → (k : Next)
+pub dom-ok : (n : Counts) → Fits n → (w : List ℕ) → Known 0 w → (k : Rest)
     → ((u : List ℕ) → Known (n .vars) u → (t : List ℕ) → Bytes t → reading (kw 4 3 0 n 0) u t ≡ k t 4 (tablesOf n u))
     → (t : List ℕ) → Bytes t → reading (kw 3 2 0 n 0) w t ≡ domLine t 3 (tablesOf n w) k
-unfolding domLine line endOfLine _▸_ ask opened fresh pick limit stored withDigit kind spelled keyByte tablesOf
+unfolding domLine line endOfLine _▸_ ask opened fresh limit stored withDigit kind spelled keyByte tablesOf
 dom-ok n fits w g k ok =
     let one : suc (n .vars - 1) ≡ n .vars = let y = fits .low in omega arith in
     key-ok 3 2 0 n w (λ z. omega arith) (tablesOf n w) _
@@ -152,10 +152,10 @@ dom-ok n fits w g k ok =
     0 (bytes "dom=") refl
 
 -- init=
-pub init-ok : (n : Counts) → Fits n → (w : List ℕ) → Known (n .vars) w → (k : Next)
+pub init-ok : (n : Counts) → Fits n → (w : List ℕ) → Known (n .vars) w → (k : Rest)
     → ((u : List ℕ) → Known (n .vars) u → (t : List ℕ) → Bytes t → reading (kw 5 4 0 n 0) u t ≡ k t 5 (tablesOf n u))
     → (t : List ℕ) → Bytes t → reading (kw 4 3 0 n 0) w t ≡ initLine t 4 (tablesOf n w) k
-unfolding initLine line endOfLine _▸_ ask opened fresh pick limit stored withDigit kind spelled keyByte tablesOf
+unfolding initLine line endOfLine _▸_ ask opened fresh limit stored withDigit kind spelled keyByte tablesOf
 init-ok n fits w g k ok =
     let one : suc (n .vars - 1) ≡ n .vars = let y = fits .low in omega arith in
     key-ok 4 3 0 n w (λ z. omega arith) (tablesOf n w) _

@@ -3,16 +3,16 @@ use Prim.Native.Nat.{ℕ, zero, suc, _+_, _-_, _*_, _≤_, _<_, min, zero-le}
 use native.Mathlib.Omega.{arith}
 use mathlib.Core.Path.{_≡_, refl, sym, ap, _∙_}
 use mathlib.Core.List.{List, [], _∷_}
-use mathlib.Core.Bool.{Bool, true, false}
+use mathlib.Core.Bool.{Bool, true, false, cond}
 use lib.Dec.{ltb, leb, eqb}
 use borrow.Author.Tests.{eq-eqb, ne-eqb, lt-ltb, le-ltb, ltb-true, ltb-false, le-leb, leb-true, leb-false}
 use Rattle.refusals.specs.declared.Refusal.the-variants.{ClassMissing, TooManyStates}
 use Rattle.tables.specs.declared.Counts.{Counts}
 use Rattle.tables.specs.Layout.{Tables, classPlace, domAt}
 use Rattle.text.specs.declared.Ctrl.{Ctrl}
-use Rattle.grammar.specs.Fields.{pick, comma, slash, lineEnd}
+use Rattle.grammar.specs.Fields.{comma, slash, lineEnd}
 use Rattle.meaning.specs.Limits.{mostStates}
-use Rattle.grammar.specs.Grammar.{refused, Next, Part, _▸_, keep, demand, lit, within, parted, has, topOf, classCount, noneMissing, classes, variables}
+use Rattle.grammar.specs.Grammar.{refused, Rest, Part, _▸_, keep, demand, lit, fits, parted, has, topOf, classCount, noneMissing, classes, variables}
 use Rattle.text.specs.Machine.{
   up,
   put,
@@ -53,11 +53,11 @@ use Rattle.text.proofs.BridgeOps.{afterRow}
 
 -- ---- the abstract states so far, capped
 times-cap : (s c : ℕ) → 1 ≤ c → times (min s 4097) c ≡ min (s * c) 4097
-unfolding times pick
+unfolding times
 times-cap s zero h = let n : ⊥ = omega arith in absurd n
 times-cap s (suc c) h = split (ltb 4096 (min s 4097)) refl
   where
-    split : (q : Bool) → ltb 4096 (min s 4097) ≡ q → pick (ltb 4096 (min s 4097)) 4097 (min (min s 4097 * suc c) 4097) ≡ min (s * suc c) 4097
+    split : (q : Bool) → ltb 4096 (min s 4097) ≡ q → cond (ltb 4096 (min s 4097)) 4097 (min (min s 4097 * suc c) 4097) ≡ min (s * suc c) 4097
     split true e = let g = ltb-true 4096 (min s 4097) e in rw e (omega arith)
     split false e =
         let g = ltb-false 4096 (min s 4097) e in
@@ -65,31 +65,31 @@ times-cap s (suc c) h = split (ltb 4096 (min s 4097)) refl
         rw e (rw y)
 
 top-over : (n c : ℕ) (f : ℕ → Bool) → c < n → f c ≡ true → suc c ≤ topOf n f
-unfolding topOf pick
+unfolding topOf
 top-over zero c f h e = let n : ⊥ = omega arith in absurd n
 top-over (suc n) c f h e = split (f n) refl (top-over n c f)
   where
-    split : (q : Bool) → f n ≡ q → (c < n → f c ≡ true → suc c ≤ topOf n f) → suc c ≤ pick (f n) (suc n) (topOf n f)
+    split : (q : Bool) → f n ≡ q → (c < n → f c ≡ true → suc c ≤ topOf n f) → suc c ≤ cond (f n) (suc n) (topOf n f)
     split true q ih = rw q h
     split false q ih =
         let d : c ≡ n → ⊥ = λ z. let y : _≡_ {A = ℕ} 0 1 = cc in omega arith in
         rw q (ih (omega arith) e)
 
 count-some : (x : ℕ) (cs : List ℕ) → x < 8 → 1 ≤ classCount (x ∷ cs)
-unfolding classCount has pick
+unfolding classCount has
 count-some x cs h = let g = top-over 8 x (has (x ∷ cs)) h (rw (eq-eqb x x refl)) in omega arith
 
 -- ---- the byte after a class
 module _ (l v i r m p : ℕ) (n : Counts) (z x b : ℕ) (w : List ℕ) where
   class-more : i + 1 < dom w v → i < 8
       → after (noted (withDigit (num l 13 v 0 i r m p n) z x)) w b ≡ mark (noted (withDigit (num l 13 v 0 i r m p n) z x)) b comma (num l 13 v 0 (i + 1) r (withClass m x) p n)
-  unfolding after kind afterClass lastClass noted withDigit due pick
+  unfolding after kind afterClass lastClass noted withDigit due
   class-more h g = let e : up i ≡ i + 1 = omega arith in rw (e, ne-eqb (i + 1) (dom w v) (λ q. omega arith))
 
   class-slash : i + 1 ≡ dom w v → i < 8 → v + 1 < n .vars → v < 8
       → after (noted (withDigit (num l 13 v 0 i r m p n) z x)) w b
       ≡ mark (noted (withDigit (num l 13 v 0 i r m p n) z x)) b slash (num l 13 (v + 1) 0 0 r 0 (times p (width (withClass m x))) n)
-  unfolding after kind afterClass lastClass lastVar noted withDigit due pick
+  unfolding after kind afterClass lastClass lastVar noted withDigit due
   class-slash h g e y =
       let q : up i ≡ dom w v = omega arith in
       let s : up v ≡ v + 1 = omega arith in
@@ -97,38 +97,38 @@ module _ (l v i r m p : ℕ) (n : Counts) (z x b : ℕ) (w : List ℕ) where
 
   class-end : i + 1 ≡ dom w v → i < 8 → v + 1 ≡ n .vars → v < 8
       → after (noted (withDigit (num l 13 v 0 i r m p n) z x)) w b ≡ mark (noted (withDigit (num l 13 v 0 i r m p n) z x)) b lineEnd (afterRow l 13 14 r (n .maps) n)
-  unfolding after kind afterClass lastClass lastVar noted withDigit nextLine rowOr toLine fresh pick
+  unfolding after kind afterClass lastClass lastVar noted withDigit nextLine rowOr toLine fresh
   class-end h g e y =
       let q : up i ≡ dom w v = omega arith in
       let s : up v ≡ n .vars = omega arith in
       rw (eq-eqb (up i) (dom w v) q, eq-eqb (up v) (n .vars) s)
 
 -- ---- the fault told after a class
-module _ (l v i r m p : ℕ) (n : Counts) (z x : ℕ) (w : List ℕ) (y : z ≡ 0 → ⊥) (s : within x 0 (dom w v) ≡ true) where
+module _ (l v i r m p : ℕ) (n : Counts) (z x : ℕ) (w : List ℕ) (y : z ≡ 0 → ⊥) (s : fits x 0 (dom w v) ≡ true) where
   class-fault : fault (withDigit (num l 13 v 0 i r m p n) z x) w ≡ before (noted (withDigit (num l 13 v 0 i r m p n) z x)) w
-  unfolding fault limit pick
+  unfolding fault limit
   class-fault = rw (judged-in (num l 13 v 0 i r m p n) w z x s, run-of (num l 13 v 0 i r m p n) z x, ne-eqb z 0 y, le-leb 0 x zero-le)
 
   none-yet : i + 1 < dom w v → i < 8 → fault (withDigit (num l 13 v 0 i r m p n) z x) w ≡ 0
-  unfolding before lastClass noted withDigit pick
+  unfolding before lastClass noted withDigit
   none-yet h g = class-fault ∙ (let e : up i ≡ i + 1 = omega arith in rw (e, ne-eqb (i + 1) (dom w v) (λ q. omega arith)))
 
   told-last : i + 1 ≡ dom w v → i < 8
       → fault (withDigit (num l 13 v 0 i r m p n) z x) w
-      ≡ pick (gapless (withClass m x)) (pick (eqb (up v) (n .vars)) (pick (ltb mostStates (times p (width (withClass m x)))) 7 0) 0) 5
-  unfolding before lastClass classFault lastVar noted withDigit pick
+      ≡ cond (gapless (withClass m x)) (cond (eqb (up v) (n .vars)) (cond (ltb mostStates (times p (width (withClass m x)))) 7 0) 0) 5
+  unfolding before lastClass classFault lastVar noted withDigit
   told-last h g = class-fault ∙ (let e : up i ≡ dom w v = omega arith in rw (eq-eqb (up i) (dom w v) e))
 
 -- ---- the classes of one variable; `last` reads its last class and what follows
-module _ (l r v : ℕ) (n : Counts) (fits : Fits n) (hr : r < 8) (hv : v < n .vars) (p : ℕ) (P : List ℕ → Part) (k : Next)
-    (last : (cs : List ℕ) (i z x : ℕ) (w u : List ℕ) → Known (n .vars) w → i + 1 ≡ dom w v → (z ≡ 0 → ⊥) → within x 0 (dom w v) ≡ true → Stop u → Bytes u
+module _ (l r v : ℕ) (n : Counts) (fits : Fits n) (hr : r < 8) (hv : v < n .vars) (p : ℕ) (P : List ℕ → Part) (k : Rest)
+    (last : (cs : List ℕ) (i z x : ℕ) (w u : List ℕ) → Known (n .vars) w → i + 1 ≡ dom w v → (z ≡ 0 → ⊥) → fits x 0 (dom w v) ≡ true → Stop u → Bytes u
     → reading (withDigit (num l 13 v 0 i r (maskOf 8 (has cs)) p n) z x) w u ≡ demand (noneMissing (x ∷ cs)) ClassMissing u l (tablesOf n (put w (classPlace r v i) x)) (λ u₁ m₁ U. P (x ∷ cs) u₁ m₁ U k)) where
   same-dom : (w : List ℕ) (i x : ℕ) → dom (put w (classPlace r v i) x) v ≡ dom w v
   same-dom w i x = put-getD w (classPlace r v i) x v (let y = fits .high in omega arith)
 
   classes-ok : (m i : ℕ) (cs w : List ℕ) → Known (n .vars) w → i + suc m ≡ dom w v → (t : List ℕ) → Bytes t
       → reading (num l 13 v 0 i r (maskOf 8 (has cs)) p n) w t ≡ classes r v P (suc m) i cs t l (tablesOf n w) k
-  unfolding classes keep parted _▸_ limit stored withDigit pick kind
+  unfolding classes keep parted _▸_ limit stored withDigit kind
   classes-ok zero i cs w g e t a =
       let h = fits .high in
       let d = g .doms v hv in
@@ -157,11 +157,11 @@ module _ (l r v : ℕ) (n : Counts) (fits : Fits n) (hr : r < 8) (hv : v < n .va
       t a (bare (num l 13 v 0 i r (maskOf 8 (has cs)) p n) t refl)
 
 -- ---- the variables of one map
-module _ (l r : ℕ) (n : Counts) (fits : Fits n) (hr : r < 8) (k : Next)
+module _ (l r : ℕ) (n : Counts) (fits : Fits n) (hr : r < 8) (k : Rest)
     (ok : (w : List ℕ) → Known (n .vars) w → (t : List ℕ) → Bytes t → reading (afterRow l 13 14 r (n .maps) n) w t ≡ k t (l + 1) (tablesOf n w)) where
   -- a variable's last class: what is told before the next byte
   module _ (v s : ℕ) (hv : v < n .vars) (cs : List ℕ) (i z x : ℕ) (w u : List ℕ) (g : Known (n .vars) w) (e : i + 1 ≡ dom w v) (y : z ≡ 0 → ⊥)
-      (q : within x 0 (dom w v) ≡ true) (o : Stop u) (b : Bytes u) where
+      (q : fits x 0 (dom w v) ≡ true) (o : Stop u) (b : Bytes u) where
     c : Ctrl
     c = num l 13 v 0 i r (maskOf 8 (has cs)) (min s 4097) n
 
@@ -184,20 +184,20 @@ module _ (l r : ℕ) (n : Counts) (fits : Fits n) (hr : r < 8) (k : Next)
     unfolding states
     product = rw (mask-class cs x class-low, mask-width (x ∷ cs)) (times-cap s (classCount (x ∷ cs)) (count-some x cs class-low))
 
-    fault-is : fault (withDigit c z x) w ≡ pick (noneMissing (x ∷ cs)) (pick (eqb (up v) (n .vars)) (pick (ltb mostStates (min states 4097)) 7 0) 0) 5
+    fault-is : fault (withDigit c z x) w ≡ cond (noneMissing (x ∷ cs)) (cond (eqb (up v) (n .vars)) (cond (ltb mostStates (min states 4097)) 7 0) 0) 5
     unfolding c
     fault-is =
         told-last l v i r (maskOf 8 (has cs)) (min s 4097) n z x w y q e item-low
         ∙ rw (product, mask-class cs x class-low, mask-gapless (x ∷ cs))
 
     missing : noneMissing (x ∷ cs) ≡ false → reading (withDigit c z x) w u ≡ refused (ClassMissing l)
-    unfolding c refusalOf pick
+    unfolding c refusalOf
     missing j = faulty c w z x 5 (λ f. omega arith) y o (fault-is ∙ rw j) (λ f. omega arith)
 
     -- of the map's last variable: the abstract states, and the line end
     last-end : v + 1 ≡ n .vars → noneMissing (x ∷ cs) ≡ true → (j : Bool) → leb states mostStates ≡ j
         → reading (withDigit c z x) w u ≡ demand (leb states mostStates) TooManyStates u l (tablesOf n (put w (classPlace r v i) x)) (eol k)
-    unfolding c demand refusalOf stored withDigit pick
+    unfolding c demand refusalOf stored withDigit
     last-end h f true j =
         let d : up v ≡ n .vars = let m = var-low in omega arith in
         rw j
@@ -211,10 +211,10 @@ module _ (l r : ℕ) (n : Counts) (fits : Fits n) (hr : r < 8) (k : Next)
         (fault-is ∙ rw (f, eq-eqb (up v) (n .vars) d, lt-ltb mostStates (min states 4097) (omega (arith, leb-false states mostStates j)))) (λ m. omega arith))
 
     -- of any other variable: the slash
-    last-slash : v + 1 < n .vars → noneMissing (x ∷ cs) ≡ true → (go : Next)
+    last-slash : v + 1 < n .vars → noneMissing (x ∷ cs) ≡ true → (go : Rest)
         → ((u₁ : List ℕ) → Bytes u₁ → reading (num l 13 (v + 1) 0 0 r 0 (min states 4097) n) (put w (classPlace r v i) x) u₁ ≡ go u₁ l (tablesOf n (put w (classPlace r v i) x)))
         → reading (withDigit c z x) w u ≡ lit (slash ∷ []) u l (tablesOf n (put w (classPlace r v i) x)) go
-    unfolding c stored withDigit pick
+    unfolding c stored withDigit
     last-slash h f go again =
         let d : up v ≡ n .vars → ⊥ = λ m. let j = var-low in omega arith in
         then-mark c w z x slash (num l 13 (v + 1) 0 0 r 0 (min states 4097) n) (tablesOf n (put w (classPlace r v i) x)) go (λ m. omega arith) y
@@ -223,7 +223,7 @@ module _ (l r : ℕ) (n : Counts) (fits : Fits n) (hr : r < 8) (k : Next)
         ∙ ap (λ (j : ℕ). mark (noted (withDigit c z x)) m slash (num l 13 (v + 1) 0 0 r 0 j n)) product)
         again o b
 
-    gaps-first : (go : Next) (j : Bool) → noneMissing (x ∷ cs) ≡ j → (noneMissing (x ∷ cs) ≡ true → reading (withDigit c z x) w u ≡ go u l (tablesOf n (put w (classPlace r v i) x)))
+    gaps-first : (go : Rest) (j : Bool) → noneMissing (x ∷ cs) ≡ j → (noneMissing (x ∷ cs) ≡ true → reading (withDigit c z x) w u ≡ go u l (tablesOf n (put w (classPlace r v i) x)))
         → reading (withDigit c z x) w u ≡ demand (noneMissing (x ∷ cs)) ClassMissing u l (tablesOf n (put w (classPlace r v i) x)) go
     unfolding demand
     gaps-first go true j f = rw j (f j)
@@ -231,7 +231,7 @@ module _ (l r : ℕ) (n : Counts) (fits : Fits n) (hr : r < 8) (k : Next)
 
   -- a variable's list from its first class on
   list-of : (v s : ℕ) (hv : v < n .vars) (P : List ℕ → Part) (w : List ℕ) → Known (n .vars) w
-      → ((cs : List ℕ) (i z x : ℕ) (w₁ u : List ℕ) → Known (n .vars) w₁ → i + 1 ≡ dom w₁ v → (z ≡ 0 → ⊥) → within x 0 (dom w₁ v) ≡ true → Stop u → Bytes u
+      → ((cs : List ℕ) (i z x : ℕ) (w₁ u : List ℕ) → Known (n .vars) w₁ → i + 1 ≡ dom w₁ v → (z ≡ 0 → ⊥) → fits x 0 (dom w₁ v) ≡ true → Stop u → Bytes u
       → reading (withDigit (num l 13 v 0 i r (maskOf 8 (has cs)) (min s 4097) n) z x) w₁ u
       ≡ demand (noneMissing (x ∷ cs)) ClassMissing u l (tablesOf n (put w₁ (classPlace r v i) x)) (λ u₁ m₁ U. P (x ∷ cs) u₁ m₁ U (eol k)))
       → (t : List ℕ) → Bytes t → reading (num l 13 v 0 0 r 0 (min s 4097) n) w t ≡ classes r v P (domAt (tablesOf n w .facts) v) 0 [] t l (tablesOf n w) (eol k)

@@ -3,15 +3,15 @@ use Prim.Native.Nat.{ℕ, suc, _+_, _-_, _*_, _≤_, _<_, min}
 use native.Mathlib.Omega.{arith}
 use mathlib.Core.Path.{_≡_, refl, sym, ap, _∙_}
 use mathlib.Core.List.{List, [], _∷_}
-use mathlib.Core.Bool.{Bool, true, false}
+use mathlib.Core.Bool.{Bool, true, false, cond}
 use lib.ListN.{getD, take, drop}
 use lib.Dec.{ltb, leb, eqb}
 use borrow.Author.Tests.{eq-eqb, ne-eqb, eqb-true, eqb-false, le-leb, lt-leb, lt-ltb, le-ltb, leb-true, leb-false, ltb-true, ltb-false}
 use Rattle.refusals.specs.declared.Refusal.the-variants.{OffForm, OutOfRange}
 use Rattle.tables.specs.Layout.{Tables}
 use Rattle.text.specs.declared.Ctrl.{Ctrl}
-use Rattle.grammar.specs.Fields.{pick, isDigit}
-use Rattle.grammar.specs.Grammar.{Verdict, refused, Next, Part, _▸_, demand, runLen, value, formed, within, number}
+use Rattle.grammar.specs.Fields.{isDigit}
+use Rattle.grammar.specs.Grammar.{Verdict, refused, Rest, Part, _▸_, demand, runLen, value, formed, fits, numeral}
 use Rattle.text.specs.Machine.{
   mk,
   stopped,
@@ -74,12 +74,10 @@ more-zero : (d : ℕ) → d ≡ 0 → more 0 d ≡ 0
 unfolding more
 more-zero d e = omega arith
 
-run-two : (r d : ℕ) → (r + d ≡ 0 → ⊥) → _≡_ {A = ℕ} (pick (eqb (r + d) 0) 1 2) 2
-unfolding pick
+run-two : (r d : ℕ) → (r + d ≡ 0 → ⊥) → _≡_ {A = ℕ} (cond (eqb (r + d) 0) 1 2) 2
 run-two r d h = simp (ne-eqb (r + d) 0 h)
 
-run-one : (d : ℕ) → d ≡ 0 → _≡_ {A = ℕ} (pick (eqb (0 + d) 0) 1 2) 1
-unfolding pick
+run-one : (d : ℕ) → d ≡ 0 → _≡_ {A = ℕ} (cond (eqb (0 + d) 0) 1 2) 1
 run-one d h = simp (eq-eqb (0 + d) 0 (omega arith))
 
 -- a capped value is in a range below the cap exactly if the value is
@@ -97,39 +95,39 @@ ltb-cap v lim a = go (ltb v lim) refl
     go true e = lt-ltb (min v 4294967295) lim (omega (arith, ltb-true v lim e))
     go false e = le-ltb (min v 4294967295) lim (omega (arith, ltb-false v lim e))
 
-within-cap : (v lo lim : ℕ) → lo ≤ 4294967295 → lim ≤ 4294967295 → within (min v 4294967295) lo lim ≡ within v lo lim
-unfolding within
+within-cap : (v lo lim : ℕ) → lo ≤ 4294967295 → lim ≤ 4294967295 → fits (min v 4294967295) lo lim ≡ fits v lo lim
+unfolding fits
 within-cap v lo lim a b = rw (leb-cap v lo a, ltb-cap v lim b)
 
 within-low : (v lo lim : ℕ) → lim ≤ 4294967295 → v < lim → min v 4294967295 ≡ v
 within-low v lo lim a h = omega arith
 
 -- ---- the grammar's number, by the run's length
-module _ (lo lim : ℕ) (p : ℕ → Part) (l : ℕ) (T : Tables) (k : Next) where
+module _ (lo lim : ℕ) (p : ℕ → Part) (l : ℕ) (T : Tables) (k : Rest) where
   -- a value that was read, judged by its range
   unfoldable ranged : ℕ → List ℕ → Verdict
-  ranged v u = demand (within v lo lim) OutOfRange u l T (λ u₁ m U. p v u₁ m U k)
+  ranged v u = demand (fits v lo lim) OutOfRange u l T (λ u₁ m U. p v u₁ m U k)
 
-  number-off : (t : List ℕ) → formed t ≡ false → number lo lim p t l T k ≡ refused (OffForm l)
-  unfolding number demand _▸_
+  number-off : (t : List ℕ) → formed t ≡ false → numeral lo lim p t l T k ≡ refused (OffForm l)
+  unfolding numeral demand _▸_
   number-off t e = simp e
 
-  number-in : (t : List ℕ) → formed t ≡ true → number lo lim p t l T k ≡ ranged (value 0 (take (runLen t) t)) (drop (runLen t) t)
-  unfolding number demand _▸_ ranged
+  number-in : (t : List ℕ) → formed t ≡ true → numeral lo lim p t l T k ≡ ranged (value 0 (take (runLen t) t)) (drop (runLen t) t)
+  unfolding numeral demand _▸_ ranged
   number-in t e = simp e
 
-  number-run : (n : ℕ) (t : List ℕ) → formed t ≡ true → runLen t ≡ n → number lo lim p t l T k ≡ ranged (value 0 (take n t)) (drop n t)
+  number-run : (n : ℕ) (t : List ℕ) → formed t ≡ true → runLen t ≡ n → numeral lo lim p t l T k ≡ ranged (value 0 (take n t)) (drop n t)
   number-run n t e r = number-in t e ∙ ap (λ (m : ℕ). ranged (value 0 (take m t)) (drop m t)) r
 
   -- a lone zero, and any other run
-  number-zero : (b : ℕ) (t : List ℕ) → isDigit b ≡ true → b ≡ 48 → Stop t → number lo lim p (b ∷ t) l T k ≡ ranged 0 t
+  number-zero : (b : ℕ) (t : List ℕ) → isDigit b ≡ true → b ≡ 48 → Stop t → numeral lo lim p (b ∷ t) l T k ≡ ranged 0 t
   unfolding value
   number-zero b t q z o =
       number-run 1 (b ∷ t) (formed-zero b t q z (stop-none o)) (run-hit b t q ∙ ap suc (stop-none o))
       ∙ ap (λ (v : ℕ). ranged v t) (let e : 10 * 0 + (b - 48) ≡ 0 = omega arith in e)
 
   number-other : (b : ℕ) (t : List ℕ) → isDigit b ≡ true → (b ≡ 48 → ⊥)
-      → number lo lim p (b ∷ t) l T k ≡ ranged (value (10 * 0 + (b - 48)) (take (runLen t) t)) (drop (runLen t) t)
+      → numeral lo lim p (b ∷ t) l T k ≡ ranged (value (10 * 0 + (b - 48)) (take (runLen t) t)) (drop (runLen t) t)
   unfolding value
   number-other b t q z = number-run (suc (runLen t)) (b ∷ t) (formed-other b t q z) (run-hit b t q)
 
@@ -138,8 +136,7 @@ abbrev pub beginsDash : Ctrl → List ℕ → Bool
 beginsDash c [] = false
 beginsDash c (b ∷ t) = dashHere (withDigit c 0 0) b
 
-pub pick-same : (q b : Bool) → pick q b b ≡ b
-unfolding pick
+pub pick-same : (q b : Bool) → cond q b b ≡ b
 pick-same true b = refl
 pick-same false b = refl
 
@@ -149,12 +146,12 @@ run-of c r v = refl
 
 module _ (c : Ctrl) (w : List ℕ) where
   digit-step : (r v b : ℕ) → isDigit b ≡ true → (r ≡ 1 → ⊥)
-      → step (mk (withDigit c r v) w) b ≡ mk (withDigit c (pick (eqb (r + (b - 48)) 0) 1 2) (more v (b - 48))) w
-  unfolding step live atNumber digit withDigit pick
+      → step (mk (withDigit c r v) w) b ≡ mk (withDigit c (cond (eqb (r + (b - 48)) 0) 1 2) (more v (b - 48))) w
+  unfolding step live atNumber digit withDigit
   digit-step r v b e h = simp (e, ne-eqb r 1 h)
 
   digit-off : (v b : ℕ) → isDigit b ≡ true → step (mk (withDigit c 1 v) w) b ≡ mk (stopped (withDigit c 1 v) 2) w
-  unfolding step live atNumber digit withDigit pick
+  unfolding step live atNumber digit withDigit
   digit-off v b e = simp e
 
   -- the digits of a run after one that is no leading zero
@@ -175,84 +172,84 @@ module _ (c : Ctrl) (w : List ℕ) where
 
   -- a byte that is no digit ends a run
   no-dash : (r v b : ℕ) → (r ≡ 0 → ⊥) → dashHere (withDigit c r v) b ≡ false
-  unfolding dashHere withDigit pick
+  unfolding dashHere withDigit
   no-dash r v b z = simp (ne-eqb r 0 z, pick-same)
 
   closes : (r v b : ℕ) → (r ≡ 0 → ⊥) → isDigit b ≡ false → step (mk (withDigit c r v) w) b ≡ closed (withDigit c r v) w b
-  unfolding step live atNumber withDigit pick
+  unfolding step live atNumber withDigit
   closes r v b z o = simp (o, no-dash r v b z)
 
   -- a run with a fault of its own
   pub faulty : (r v k : ℕ) {t : List ℕ} → (c .field ≡ 15 → ⊥) → (r ≡ 0 → ⊥) → Stop t → fault (withDigit c r v) w ≡ k → (k ≡ 0 → ⊥)
       → reading (withDigit c r v) w t ≡ refused (refusalOf k (c .line))
-  unfolding reading told feed ended withDigit closed pick
+  unfolding reading told feed ended withDigit closed
   faulty r v k h z nil e n = simp (ne-eqb (c .field) 15 h, e, ne-eqb k 0 n)
   faulty r v k h z (other {b = b} {t = t} o) e n =
       moves (withDigit c r v) (stopped (withDigit c r v) k) w w b t (closes r v b z o ∙ simp (e, ne-eqb k 0 n)) ∙ stops (withDigit c r v) k w t n
 
   -- a run without a fault: the text must go on, and the byte is judged by `after`
   pub sound-end : (r v : ℕ) → (c .field ≡ 15 → ⊥) → fault (withDigit c r v) w ≡ 0 → reading (withDigit c r v) w [] ≡ refused (OffForm (c .line))
-  unfolding reading told feed ended withDigit refusalOf pick
+  unfolding reading told feed ended withDigit refusalOf
   sound-end r v h e = simp (ne-eqb (c .field) 15 h, e)
 
   pub sound-byte : (r v b : ℕ) (t : List ℕ) → (r ≡ 0 → ⊥) → isDigit b ≡ false → fault (withDigit c r v) w ≡ 0
       → reading (withDigit c r v) w (b ∷ t) ≡ reading (after (noted (withDigit c r v)) w b) (stored (withDigit c r v) w) t
-  unfolding closed pick
+  unfolding closed
   sound-byte r v b t z o e = moves (withDigit c r v) _ w _ b t (closes r v b z o ∙ simp e)
 
   -- a run out of its range
-  pub in-range : (r v : ℕ) → inRange (withDigit c r v) w ≡ within v (getD leasts (c .field) 0) (limit c w)
-  unfolding inRange within limit withDigit
+  pub in-range : (r v : ℕ) → inRange (withDigit c r v) w ≡ fits v (getD leasts (c .field) 0) (limit c w)
+  unfolding inRange fits limit withDigit
   in-range r v = refl
 
-  fault-3 : (r v : ℕ) → (r ≡ 0 → ⊥) → within v (getD leasts (c .field) 0) (limit c w) ≡ false → fault (withDigit c r v) w ≡ 3
-  unfolding fault judged pick
+  fault-3 : (r v : ℕ) → (r ≡ 0 → ⊥) → fits v (getD leasts (c .field) 0) (limit c w) ≡ false → fault (withDigit c r v) w ≡ 3
+  unfolding fault judged
   fault-3 r v z e = rw (in-range r v ∙ e) (simp (run-of c r v, ne-eqb r 0 z))
 
   empty-byte : (b : ℕ) (t : List ℕ) → isDigit b ≡ false → dashHere (withDigit c 0 0) b ≡ false → reading (withDigit c 0 0) w (b ∷ t) ≡ refused (OffForm (c .line))
-  unfolding step live atNumber closed fault withDigit pick
+  unfolding step live atNumber closed fault withDigit
   empty-byte b t o d = moves (withDigit c 0 0) (stopped (withDigit c 0 0) 2) w w b t (simp (o, d)) ∙ stops-2 (withDigit c 0 0) w t
 
 module _ (c : Ctrl) (w : List ℕ) (h : c .field ≡ 15 → ⊥) (low : getD leasts (c .field) 0 ≤ 4294967295) (cap : limit c w ≤ 4294967295)
-    (p : ℕ → Part) (T : Tables) (k : Next)
-    (ok : (r v : ℕ) (t : List ℕ) → (r ≡ 0 → ⊥) → Stop t → Bytes t → within v (getD leasts (c .field) 0) (limit c w) ≡ true
+    (p : ℕ → Part) (T : Tables) (k : Rest)
+    (ok : (r v : ℕ) (t : List ℕ) → (r ≡ 0 → ⊥) → Stop t → Bytes t → fits v (getD leasts (c .field) 0) (limit c w) ≡ true
     → reading (withDigit c r v) w t ≡ p v t (c .line) T k) where
   lo : ℕ
   lo = getD leasts (c .field) 0
 
   -- where a run has ended
   closing : (r v : ℕ) (t : List ℕ) → (r ≡ 0 → ⊥) → Stop t → Bytes t → reading (withDigit c r (min v 4294967295)) w t ≡ ranged lo (limit c w) p (c .line) T k v t
-  unfolding ranged demand lo refusalOf pick
-  closing r v t z o a = split (within v lo (limit c w)) refl
+  unfolding ranged demand lo refusalOf
+  closing r v t z o a = split (fits v lo (limit c w)) refl
     where
-      same : within (min v 4294967295) lo (limit c w) ≡ within v lo (limit c w)
+      same : fits (min v 4294967295) lo (limit c w) ≡ fits v lo (limit c w)
       same = within-cap v lo (limit c w) low cap
 
-      split : (q : Bool) → within v lo (limit c w) ≡ q → reading (withDigit c r (min v 4294967295)) w t ≡ demand (within v lo (limit c w)) OutOfRange t (c .line) T (λ u₁ m U. p v u₁ m U k)
+      split : (q : Bool) → fits v lo (limit c w) ≡ q → reading (withDigit c r (min v 4294967295)) w t ≡ demand (fits v lo (limit c w)) OutOfRange t (c .line) T (λ u₁ m U. p v u₁ m U k)
       split true q = rw q (ap (λ (x : ℕ). reading (withDigit c r x) w t) (within-low v lo (limit c w) cap (within-both v lo (limit c w) q .1)) ∙ ok r v t z o a q)
       split false q = rw q (faulty c w r (min v 4294967295) 3 h z o (fault-3 c w r (min v 4294967295) z (same ∙ q)) (λ y. omega arith))
 
   -- after a leading zero
-  zero-then : (b : ℕ) (t : List ℕ) → isDigit b ≡ true → b ≡ 48 → Bytes t → reading (withDigit c 1 0) w t ≡ number lo (limit c w) p (b ∷ t) (c .line) T k
+  zero-then : (b : ℕ) (t : List ℕ) → isDigit b ≡ true → b ≡ 48 → Bytes t → reading (withDigit c 1 0) w t ≡ numeral lo (limit c w) p (b ∷ t) (c .line) T k
   unfolding withDigit
   zero-then b [] q z a = closing 1 0 [] (λ o. omega arith) nil a ∙ sym (number-zero lo (limit c w) p (c .line) T k b [] q z nil)
   zero-then b (x ∷ t) q z a = split (isDigit x) refl
     where
-      split : (y : Bool) → isDigit x ≡ y → reading (withDigit c 1 0) w (x ∷ t) ≡ number lo (limit c w) p (b ∷ x ∷ t) (c .line) T k
+      split : (y : Bool) → isDigit x ≡ y → reading (withDigit c 1 0) w (x ∷ t) ≡ numeral lo (limit c w) p (b ∷ x ∷ t) (c .line) T k
       split true y =
           moves _ (stopped (withDigit c 1 0) 2) w w x t (digit-off c w 0 x y) ∙ stops-2 (withDigit c 1 0) w t
           ∙ sym (number-off lo (limit c w) p (c .line) T k (b ∷ x ∷ t) (formed-lead b (x ∷ t) (runLen t) q z (run-hit x t y)))
       split false y = closing 1 0 (x ∷ t) (λ o. omega arith) (other y) a ∙ sym (number-zero lo (limit c w) p (c .line) T k b (x ∷ t) q z (other y))
 
-  pub number-ok : (t : List ℕ) → Bytes t → beginsDash c t ≡ false → reading (withDigit c 0 0) w t ≡ number (getD leasts (c .field) 0) (limit c w) p t (c .line) T k
+  pub number-ok : (t : List ℕ) → Bytes t → beginsDash c t ≡ false → reading (withDigit c 0 0) w t ≡ numeral (getD leasts (c .field) 0) (limit c w) p t (c .line) T k
   unfolding lo withDigit
   number-ok [] a d = cut-short (withDigit c 0 0) w refl h refl ∙ sym (number-off lo (limit c w) p (c .line) T k [] formed-nil)
   number-ok (b ∷ t) (byte y a) d = split (isDigit b) refl
     where
-      state : (q : isDigit b ≡ true) → reading (withDigit c 0 0) w (b ∷ t) ≡ reading (withDigit c (pick (eqb (0 + (b - 48)) 0) 1 2) (more 0 (b - 48))) w t
+      state : (q : isDigit b ≡ true) → reading (withDigit c 0 0) w (b ∷ t) ≡ reading (withDigit c (cond (eqb (0 + (b - 48)) 0) 1 2) (more 0 (b - 48))) w t
       state q = moves _ _ w w b t (digit-step c w 0 0 b q (λ z. omega arith))
 
-      lead : (e : Bool) → eqb b 48 ≡ e → isDigit b ≡ true → reading (withDigit c 0 0) w (b ∷ t) ≡ number lo (limit c w) p (b ∷ t) (c .line) T k
+      lead : (e : Bool) → eqb b 48 ≡ e → isDigit b ≡ true → reading (withDigit c 0 0) w (b ∷ t) ≡ numeral lo (limit c w) p (b ∷ t) (c .line) T k
       lead true e q =
           let z : b ≡ 48 = eqb-true b 48 e in
           let y : b - 48 ≡ 0 = omega arith in
@@ -270,6 +267,6 @@ module _ (c : Ctrl) (w : List ℕ) (h : c .field ≡ 15 → ⊥) (low : getD lea
           ∙ closing 2 (value (10 * 0 + (b - 48)) (take (runLen t) t)) (drop (runLen t) t) (λ o. omega arith) (stop-run t) (bytes-drop (runLen t) a)
           ∙ sym (number-other lo (limit c w) p (c .line) T k b t q z)
 
-      split : (q : Bool) → isDigit b ≡ q → reading (withDigit c 0 0) w (b ∷ t) ≡ number lo (limit c w) p (b ∷ t) (c .line) T k
+      split : (q : Bool) → isDigit b ≡ q → reading (withDigit c 0 0) w (b ∷ t) ≡ numeral lo (limit c w) p (b ∷ t) (c .line) T k
       split true q = lead (eqb b 48) refl q
       split false q = empty-byte c w b t q d ∙ sym (number-off lo (limit c w) p (c .line) T k (b ∷ t) (formed-off b t q))

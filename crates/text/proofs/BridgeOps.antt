@@ -3,15 +3,15 @@ use Prim.Native.Nat.{ℕ, zero, suc, _+_, _≤_, _<_, zero-le}
 use native.Mathlib.Omega.{arith}
 use mathlib.Core.Path.{_≡_, refl, sym, ap, _∙_}
 use mathlib.Core.List.{List, [], _∷_}
-use mathlib.Core.Bool.{Bool, true, false}
+use mathlib.Core.Bool.{Bool, true, false, cond}
 use lib.Dec.{ltb, eqb}
 use borrow.Author.Tests.{eq-eqb, ne-eqb, lt-ltb, le-ltb}
 use Rattle.tables.specs.declared.Counts.{Counts}
 use Rattle.tables.specs.Layout.{Tables, goalPlace, prePlace, effPlace}
 use Rattle.text.specs.declared.Ctrl.{Ctrl}
-use Rattle.grammar.specs.Fields.{pick, lineEnd, semicolon, bytes}
+use Rattle.grammar.specs.Fields.{lineEnd, semicolon, bytes}
 use Rattle.grammar.specs.Grammar.{
-  Next,
+  Rest,
   Part,
   _▸_,
   ask,
@@ -57,14 +57,13 @@ use Rattle.text.proofs.BridgeRows.{num, then-mark, no-fault, Fits, Know
 use Rattle.text.proofs.BridgeLines.{eol, bare, single-ok}
 use Rattle.text.proofs.BridgeFacts.{number-at, FactList, list-ok}
 
-pick-self : (q : Bool) → pick q true false ≡ q
-unfolding pick
+pick-self : (q : Bool) → cond q true false ≡ q
 pick-self true = refl
 pick-self false = refl
 
 -- ---- the three lists of facts: the goal's, and an operator's preconditions and effects
 goal-list : (n : Counts) → FactList 5 4 5 0 n goalPlace lineEnd (kw 6 6 0 n 0)
-unfolding limit stored withDigit noted after kind afterValue listEnd listOf nextLine toLine due dashHere dashed fresh pick
+unfolding limit stored withDigit noted after kind afterValue listEnd listOf nextLine toLine due dashHere dashed fresh
 goal-list n =
     record {
       var15 = λ z. omega arith;
@@ -86,7 +85,7 @@ goal-list n =
     }
 
 pre-list : (l r : ℕ) (n : Counts) → r < 64 → FactList l 8 9 r n (prePlace r) semicolon (num l 10 0 0 0 r 0 1 n)
-unfolding limit stored withDigit noted after kind afterValue listEnd listOf due dashHere dashed fresh pick
+unfolding limit stored withDigit noted after kind afterValue listEnd listOf due dashHere dashed fresh
 pre-list l r n h =
     record {
       var15 = λ z. omega arith;
@@ -109,10 +108,10 @@ pre-list l r n h =
 
 -- the line after a row's: another of the same field f while rows are left, else field g
 abbrev pub afterRow : ℕ → ℕ → ℕ → ℕ → ℕ → Counts → Ctrl
-afterRow l f g r N n = pick (ltb (up r) N) (kw (up l) f (up r) n 0) (kw (up l) g 0 n 0)
+afterRow l f g r N n = cond (ltb (up r) N) (kw (up l) f (up r) n 0) (kw (up l) g 0 n 0)
 
 eff-list : (l r : ℕ) (n : Counts) → r < 64 → FactList l 10 11 r n (effPlace r) lineEnd (afterRow l 7 12 r (n .ops) n)
-unfolding limit stored withDigit noted after kind afterValue listEnd listOf nextLine toLine rowOr due dashHere dashed fresh pick
+unfolding limit stored withDigit noted after kind afterValue listEnd listOf nextLine toLine rowOr due dashHere dashed fresh
 eff-list l r n h =
     record {
       var15 = λ z. omega arith;
@@ -134,10 +133,10 @@ eff-list l r n h =
     }
 
 -- goal=
-pub goal-ok : (n : Counts) → Fits n → (w : List ℕ) → Known (n .vars) w → (k : Next)
+pub goal-ok : (n : Counts) → Fits n → (w : List ℕ) → Known (n .vars) w → (k : Rest)
     → ((u : List ℕ) → Known (n .vars) u → (t : List ℕ) → Bytes t → reading (kw 6 6 0 n 0) u t ≡ k t 6 (tablesOf n u))
     → (t : List ℕ) → Bytes t → reading (kw 5 4 0 n 0) w t ≡ goalLine t 5 (tablesOf n w) k
-unfolding goalLine line endOfLine _▸_ opened fresh pick spelled keyByte
+unfolding goalLine line endOfLine _▸_ opened fresh spelled keyByte
 goal-ok n fits w p k ok =
     key-ok 5 4 0 n w (λ z. omega arith) (tablesOf n w) _
     (list-ok 5 4 5 0 n goalPlace lineEnd (kw 6 6 0 n 0) (goal-list n) fits (λ u m U. k u (m + 1) U) ok w p)
@@ -147,22 +146,22 @@ goal-ok n fits w p k ok =
 abbrev pub withOps : ℕ → Counts → Counts
 withOps v n = record { vars = n .vars; ops = v; maps = n .maps }
 
-pub ops-ok : (n : Counts) (w : List ℕ) (k : Next)
-    → ((v : ℕ) → v ≤ 64 → (t : List ℕ) → Bytes t → reading (kw 7 (pick (eqb v 0) 12 7) 0 (withOps v n) 0) w t ≡ k t 7 (tablesOf (withOps v n) w))
+pub ops-ok : (n : Counts) (w : List ℕ) (k : Rest)
+    → ((v : ℕ) → v ≤ 64 → (t : List ℕ) → Bytes t → reading (kw 7 (cond (eqb v 0) 12 7) 0 (withOps v n) 0) w t ≡ k t 7 (tablesOf (withOps v n) w))
     → (t : List ℕ) → Bytes t → reading (kw 6 6 0 n 0) w t ≡ opsLine t 6 (tablesOf n w) k
-unfolding opsLine line endOfLine _▸_ keep opened fresh pick limit stored withDigit noted after kind nextLine listOf toLine spelled keyByte tablesOf
+unfolding opsLine line endOfLine _▸_ keep opened fresh limit stored withDigit noted after kind nextLine listOf toLine spelled keyByte tablesOf
 ops-ok n w k ok =
     key-ok 6 6 0 n w (λ z. omega arith) (tablesOf n w) _
     (single-ok 6 6 n w (λ z. omega arith) (λ z. omega arith) (omega arith) (omega arith) refl
-    (λ v T. withCounts (T .counts .vars) v (T .counts .maps) T) k (λ v. kw 7 (pick (eqb v 0) 12 7) 0 (withOps v n) 0) (λ z v. refl) (λ z v b. refl)
+    (λ v T. withCounts (T .counts .vars) v (T .counts .maps) T) k (λ v. kw 7 (cond (eqb v 0) 12 7) 0 (withOps v n) 0) (λ z v. refl) (λ z v b. refl)
     (λ v q. let g = within-both v 0 65 q in ok v (omega arith)))
     0 (bytes "ops=") refl
 
 -- op=
-operator-ok : (l r : ℕ) (n : Counts) → Fits n → r < 64 → (w : List ℕ) → Known (n .vars) w → (k : Next)
+operator-ok : (l r : ℕ) (n : Counts) → Fits n → r < 64 → (w : List ℕ) → Known (n .vars) w → (k : Rest)
     → ((u : List ℕ) → Known (n .vars) u → (t : List ℕ) → Bytes t → reading (afterRow l 7 12 r (n .ops) n) u t ≡ k t (l + 1) (tablesOf n u))
     → (t : List ℕ) → Bytes t → reading (kw l 7 r n 0) w t ≡ line "op=" (operator r) t l (tablesOf n w) k
-unfolding line operator endOfLine _▸_ keep opened fresh pick limit stored withDigit noted after kind due spelled keyByte
+unfolding line operator endOfLine _▸_ keep opened fresh limit stored withDigit noted after kind due spelled keyByte
 operator-ok l r n fits h w p k ok =
     key-ok l 7 r n w (λ z. omega arith) (tablesOf n w) _
     (λ t a.
@@ -182,19 +181,17 @@ operator-ok l r n fits h w p k ok =
     0 (bytes "op=") refl
 
 -- ---- lines of one kind: N rows of field f, each read by `one`, up to line E, where field g follows
-module _ (f g N E : ℕ) (n : Counts) (j : ℕ) (p : ℕ → Part) (k : Next) (few : N ≤ 64) (low : E ≤ 999999)
-    (one : (l r : ℕ) → r < N → (w : List ℕ) → Known j w → (k₁ : Next)
+module _ (f g N E : ℕ) (n : Counts) (j : ℕ) (p : ℕ → Part) (k : Rest) (few : N ≤ 64) (low : E ≤ 999999)
+    (one : (l r : ℕ) → r < N → (w : List ℕ) → Known j w → (k₁ : Rest)
     → ((u : List ℕ) → Known j u → (t : List ℕ) → Bytes t → reading (afterRow l f g r N n) u t ≡ k₁ t (l + 1) (tablesOf n u))
     → (t : List ℕ) → Bytes t → reading (kw l f r n 0) w t ≡ p r t l (tablesOf n w) k₁)
     (done : (w : List ℕ) → Known j w → (t : List ℕ) → Bytes t → reading (kw E g 0 n 0) w t ≡ k t E (tablesOf n w)) where
   after-last : (l r : ℕ) → r + 1 ≡ N → l + 1 ≡ E → afterRow l f g r N n ≡ kw E g 0 n 0
-  unfolding pick
   after-last l r e q =
       let y : up l ≡ E = omega arith in
       rw (y, le-ltb (up r) N (omega arith))
 
   after-more : (l r : ℕ) → r + 1 < N → l + 1 < E → afterRow l f g r N n ≡ kw (l + 1) f (r + 1) n 0
-  unfolding pick
   after-more l r e q =
       let y : up l ≡ l + 1 = omega arith in
       let x : up r ≡ r + 1 = omega arith in
@@ -210,24 +207,24 @@ module _ (f g N E : ℕ) (n : Counts) (j : ℕ) (p : ℕ → Part) (k : Next) (f
       one l r (omega arith) w h (λ u₁ m₁ U. lines p (suc m) (r + 1) u₁ m₁ U k)
       (λ u i t₁ a₁. rw (after-more l r (omega arith) (omega arith)) (lines-ok m (r + 1) (l + 1) (omega arith) (omega arith) u i t₁ a₁)) t a
 
-pub op-lines-ok : (n : Counts) → Fits n → (w : List ℕ) → Known (n .vars) w → (k : Next)
+pub op-lines-ok : (n : Counts) → Fits n → (w : List ℕ) → Known (n .vars) w → (k : Rest)
     → ((u : List ℕ) → Known (n .vars) u → (t : List ℕ) → Bytes t → reading (kw (7 + n .ops) 12 0 n 0) u t ≡ k t (7 + n .ops) (tablesOf n u))
-    → (t : List ℕ) → Bytes t → reading (kw 7 (pick (eqb (n .ops) 0) 12 7) 0 n 0) w t ≡ opLines t 7 (tablesOf n w) k
-unfolding opLines ask tablesOf lines pick
+    → (t : List ℕ) → Bytes t → reading (kw 7 (cond (eqb (n .ops) 0) 12 7) 0 n 0) w t ≡ opLines t 7 (tablesOf n w) k
+unfolding opLines ask tablesOf lines
 op-lines-ok n fits w p k ok t a = split (n .ops) refl
   where
     part : ℕ → Part
     part r = line "op=" (operator r)
 
-    split : (N : ℕ) → n .ops ≡ N → reading (kw 7 (pick (eqb (n .ops) 0) 12 7) 0 n 0) w t ≡ lines part (n .ops) 0 t 7 (tablesOf n w) k
+    split : (N : ℕ) → n .ops ≡ N → reading (kw 7 (cond (eqb (n .ops) 0) 12 7) 0 n 0) w t ≡ lines part (n .ops) 0 t 7 (tablesOf n w) k
     split zero e =
-        let f : _≡_ {A = ℕ} (pick (eqb (n .ops) 0) 12 7) 12 = rw (eq-eqb (n .ops) 0 e) in
+        let f : _≡_ {A = ℕ} (cond (eqb (n .ops) 0) 12 7) 12 = rw (eq-eqb (n .ops) 0 e) in
         let y : 7 + n .ops ≡ 7 = omega arith in
         ap (λ (x : ℕ). reading (kw 7 x 0 n 0) w t) f
         ∙ (rw y at (ok w p t a))
         ∙ sym (ap (λ (m : ℕ). lines part m 0 t 7 (tablesOf n w) k) e)
     split (suc m) e =
-        let f : _≡_ {A = ℕ} (pick (eqb (n .ops) 0) 12 7) 7 = rw (ne-eqb (n .ops) 0 (λ z. omega arith)) in
+        let f : _≡_ {A = ℕ} (cond (eqb (n .ops) 0) 12 7) 7 = rw (ne-eqb (n .ops) 0 (λ z. omega arith)) in
         let y = fits .ops in
         ap (λ (x : ℕ). reading (kw 7 x 0 n 0) w t) f
         ∙ lines-ok 7 12 (n .ops) (7 + n .ops) n (n .vars) part k y (omega arith) (λ l r h. operator-ok l r n fits (omega arith)) ok m 0 7 (omega arith) (omega arith) w p t a

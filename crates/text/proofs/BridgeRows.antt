@@ -3,15 +3,15 @@ use Prim.Native.Nat.{ℕ, zero, suc, _+_, _≤_, _<_, zero-le}
 use native.Mathlib.Omega.{arith}
 use mathlib.Core.Path.{_≡_, refl, ap, _∙_}
 use mathlib.Core.List.{List, [], _∷_}
-use mathlib.Core.Bool.{Bool, true, false}
+use mathlib.Core.Bool.{Bool, true, false, cond}
 use lib.ListN.{length, getD}
 use lib.Dec.{leb, eqb}
 use borrow.Author.Tests.{ne-eqb, eqb-true, eqb-false, le-leb}
 use Rattle.tables.specs.declared.Counts.{Counts}
 use Rattle.tables.specs.Layout.{Tables}
 use Rattle.text.specs.declared.Ctrl.{Ctrl}
-use Rattle.grammar.specs.Fields.{pick, comma}
-use Rattle.grammar.specs.Grammar.{Next, _▸_, keep, lit, within, number, parted, row}
+use Rattle.grammar.specs.Fields.{comma}
+use Rattle.grammar.specs.Grammar.{Rest, _▸_, keep, lit, fits, numeral, parted, row}
 use Rattle.text.specs.Machine.{put, put3, dom, withDigit, leasts, limit, judged, noted, lastClass, before, fault, stored, mark, after}
 use Rattle.text.proofs.BridgeReading.{tablesOf, reading, Bytes, byte, marked}
 use Rattle.grammar.proofs.Runs.{Stop, nil, other}
@@ -24,7 +24,7 @@ num l f v n i r m p c =
     record { code = 0; line = l; part = 1; field = f; key = 0; run = 0; val = 0; var = v; least = n; item = i; row = r; mask = m; prod = p; vars = c .vars; ops = c .ops; maps = c .maps }
 
 -- ---- the mark after a number without a fault
-pub then-mark : (c : Ctrl) (w : List ℕ) (r v x : ℕ) (d : Ctrl) (T : Tables) (k : Next) → (c .field ≡ 15 → ⊥) → (r ≡ 0 → ⊥) → fault (withDigit c r v) w ≡ 0
+pub then-mark : (c : Ctrl) (w : List ℕ) (r v x : ℕ) (d : Ctrl) (T : Tables) (k : Rest) → (c .field ≡ 15 → ⊥) → (r ≡ 0 → ⊥) → fault (withDigit c r v) w ≡ 0
     → ((b : ℕ) → after (noted (withDigit c r v)) w b ≡ mark (noted (withDigit c r v)) b x d)
     → ((t : List ℕ) → Bytes t → reading d (stored (withDigit c r v) w) t ≡ k t (c .line) T)
     → {t : List ℕ} → Stop t → Bytes t → reading (withDigit c r v) w t ≡ lit (x ∷ []) t (c .line) T k
@@ -35,28 +35,26 @@ then-mark c w r v x d T k h z e goes ok (other {b = b} {t = t} o) (byte y a) =
     ∙ ap (λ (y : Ctrl). reading y (stored (withDigit c r v) w) t) (goes b)
     ∙ marked (noted (withDigit c r v)) d (stored (withDigit c r v) w) b x [] t T k (λ q. ok t a)
 
-pub judged-in : (c : Ctrl) (w : List ℕ) (r v : ℕ) → within v (getD leasts (c .field) 0) (limit c w) ≡ true → judged (withDigit c r v) w ≡ pick (leb (c .least) v) 0 4
-unfolding judged withDigit pick
+pub judged-in : (c : Ctrl) (w : List ℕ) (r v : ℕ) → fits v (getD leasts (c .field) 0) (limit c w) ≡ true → judged (withDigit c r v) w ≡ cond (leb (c .least) v) 0 4
+unfolding judged withDigit
 judged-in c w r v q = rw (in-range c w r v ∙ q)
 
-order-only : (y : Bool) → _≡_ {A = ℕ} (pick (eqb (pick y 0 4) 0) 0 (pick y 0 4)) (pick y 0 4)
-unfolding pick
+order-only : (y : Bool) → _≡_ {A = ℕ} (cond (eqb (cond y 0 4) 0) 0 (cond y 0 4)) (cond y 0 4)
 order-only true = refl
 order-only false = refl
 
 before-plain : (c : Ctrl) (w : List ℕ) (r v : ℕ) → (c .field ≡ 13 → ⊥) → before (noted (withDigit c r v)) w ≡ 0
-unfolding before lastClass noted withDigit pick
+unfolding before lastClass noted withDigit
 before-plain c w r v f = simp (ne-eqb (c .field) 13 f)
 
 -- a number in its range, of no class: only its order can be a fault
-pub fault-plain : (c : Ctrl) (w : List ℕ) (r v : ℕ) → (r ≡ 0 → ⊥) → (c .field ≡ 13 → ⊥) → within v (getD leasts (c .field) 0) (limit c w) ≡ true
-    → fault (withDigit c r v) w ≡ pick (leb (c .least) v) 0 4
-unfolding fault pick
+pub fault-plain : (c : Ctrl) (w : List ℕ) (r v : ℕ) → (r ≡ 0 → ⊥) → (c .field ≡ 13 → ⊥) → fits v (getD leasts (c .field) 0) (limit c w) ≡ true
+    → fault (withDigit c r v) w ≡ cond (leb (c .least) v) 0 4
+unfolding fault
 fault-plain c w r v z f q = rw (judged-in c w r v q, before-plain c w r v f, run-of c r v, ne-eqb r 0 z) (order-only (leb (c .least) v))
 
-pub no-fault : (c : Ctrl) (w : List ℕ) (r v : ℕ) → (r ≡ 0 → ⊥) → (c .field ≡ 13 → ⊥) → within v (getD leasts (c .field) 0) (limit c w) ≡ true → c .least ≤ v
+pub no-fault : (c : Ctrl) (w : List ℕ) (r v : ℕ) → (r ≡ 0 → ⊥) → (c .field ≡ 13 → ⊥) → fits v (getD leasts (c .field) 0) (limit c w) ≡ true → c .least ≤ v
     → fault (withDigit c r v) w ≡ 0
-unfolding pick
 no-fault c w r v z f q h = fault-plain c w r v z f q ∙ rw (le-leb (c .least) v h)
 
 -- ---- what is known of the counts and of the area
@@ -99,10 +97,10 @@ known-dom {j} {w} g v h a b =
 
 -- ---- a row of numbers of field f, the i-th of them for variable (vi i) and item (it i)
 module _ (l f r : ℕ) (n : Counts) (vi it : ℕ → ℕ) (N : ℕ) (h : f ≡ 15 → ⊥) (c : f ≡ 13 → ⊥) (low : getD leasts f 0 ≤ 4294967295)
-    (lim : ℕ → Tables → ℕ) (keeps : ℕ → ℕ → Tables → Tables) (P : ℕ → List ℕ → Type 0) (k : Next)
+    (lim : ℕ → Tables → ℕ) (keeps : ℕ → ℕ → Tables → Tables) (P : ℕ → List ℕ → Type 0) (k : Rest)
     (bare : (i : ℕ) (t : List ℕ) → beginsDash (num l f (vi i) 0 (it i) r 0 1 n) t ≡ false)
     (limits : (i : ℕ) (w : List ℕ) → i < N → P i w → (limit (num l f (vi i) 0 (it i) r 0 1 n) w ≡ lim i (tablesOf n w)) × (lim i (tablesOf n w) ≤ 4294967295))
-    (kept : (i z v : ℕ) (w : List ℕ) → i < N → P i w → within v (getD leasts f 0) (lim i (tablesOf n w)) ≡ true
+    (kept : (i z v : ℕ) (w : List ℕ) → i < N → P i w → fits v (getD leasts f 0) (lim i (tablesOf n w)) ≡ true
     → (tablesOf n (stored (withDigit (num l f (vi i) 0 (it i) r 0 1 n) z v) w) ≡ keeps i v (tablesOf n w))
     × P (i + 1) (stored (withDigit (num l f (vi i) 0 (it i) r 0 1 n) z v) w))
     (more : (i z v b : ℕ) (w : List ℕ) → i + 1 < N
@@ -113,27 +111,27 @@ module _ (l f r : ℕ) (n : Counts) (vi it : ℕ → ℕ) (N : ℕ) (h : f ≡ 1
     → reading (withDigit (num l f (vi i) 0 (it i) r 0 1 n) z v) w u ≡ k u l (tablesOf n (stored (withDigit (num l f (vi i) 0 (it i) r 0 1 n) z v) w))) where
   pub row-ok : (m i : ℕ) → i + suc m ≡ N → (w : List ℕ) → P i w → (t : List ℕ) → Bytes t
       → reading (num l f (vi i) 0 (it i) r 0 1 n) w t ≡ row (getD leasts f 0) lim keeps (suc m) i t l (tablesOf n w) k
-  unfolding row parted keep _▸_ withDigit pick
+  unfolding row parted keep _▸_ withDigit
   row-ok zero i e w p t a =
       let g : i < N = omega arith in
       let q = limits i w g p in
       number-ok (num l f (vi i) 0 (it i) r 0 1 n) w h low (rw (q .0) (q .1)) _ (tablesOf n w) k
       (λ z v u y o b s.
-      let s₁ : within v (getD leasts f 0) (lim i (tablesOf n w)) ≡ true = rw (q .0) at s in
+      let s₁ : fits v (getD leasts f 0) (lim i (tablesOf n w)) ≡ true = rw (q .0) at s in
       let d = kept i z v w g p s₁ in
       last i z v w u (omega arith) y o b (d .1) (no-fault (num l f (vi i) 0 (it i) r 0 1 n) w z v y c s zero-le) ∙ ap (λ (T : Tables). k u l T) (d .0))
       t a (bare i t)
-      ∙ ap (λ (x : ℕ). number (getD leasts f 0) x (λ v. keep (keeps i v) ▸ parted zero comma ▸ row (getD leasts f 0) lim keeps zero (i + 1)) t l (tablesOf n w) k) (q .0)
+      ∙ ap (λ (x : ℕ). numeral (getD leasts f 0) x (λ v. keep (keeps i v) ▸ parted zero comma ▸ row (getD leasts f 0) lim keeps zero (i + 1)) t l (tablesOf n w) k) (q .0)
   row-ok (suc m) i e w p t a =
       let g : i < N = omega arith in
       let q = limits i w g p in
       number-ok (num l f (vi i) 0 (it i) r 0 1 n) w h low (rw (q .0) (q .1)) _ (tablesOf n w) k
       (λ z v u y o b s.
-      let s₁ : within v (getD leasts f 0) (lim i (tablesOf n w)) ≡ true = rw (q .0) at s in
+      let s₁ : fits v (getD leasts f 0) (lim i (tablesOf n w)) ≡ true = rw (q .0) at s in
       let d = kept i z v w g p s₁ in
       then-mark (num l f (vi i) 0 (it i) r 0 1 n) w z v comma _ _ (λ u₁ m₁ U. row (getD leasts f 0) lim keeps (suc m) (i + 1) u₁ m₁ U k) h y
       (no-fault (num l f (vi i) 0 (it i) r 0 1 n) w z v y c s zero-le) (λ x. more i z v x w (omega arith))
       (λ u₁ b₁. row-ok m (i + 1) (omega arith) _ (d .1) u₁ b₁) o b
       ∙ ap (λ (T : Tables). lit (comma ∷ []) u l T (λ u₁ m₁ U. row (getD leasts f 0) lim keeps (suc m) (i + 1) u₁ m₁ U k)) (d .0))
       t a (bare i t)
-      ∙ ap (λ (x : ℕ). number (getD leasts f 0) x (λ v. keep (keeps i v) ▸ parted (suc m) comma ▸ row (getD leasts f 0) lim keeps (suc m) (i + 1)) t l (tablesOf n w) k) (q .0)
+      ∙ ap (λ (x : ℕ). numeral (getD leasts f 0) x (λ v. keep (keeps i v) ▸ parted (suc m) comma ▸ row (getD leasts f 0) lim keeps (suc m) (i + 1)) t l (tablesOf n w) k) (q .0)

@@ -1,4 +1,5 @@
 -- The maps, one line each, and the shares of each map, read as the grammar says. Assumes nothing.
+use mathlib.Core.Bool.{cond}
 use Prim.Native.Nat.{ℕ, zero, suc, _+_, _-_, _≤_, _<_}
 use native.Mathlib.Omega.{arith}
 use mathlib.Core.Path.{_≡_, refl, sym, ap, _∙_}
@@ -8,9 +9,9 @@ use borrow.Author.Tests.{eq-eqb, ne-eqb}
 use Rattle.tables.specs.declared.Counts.{Counts}
 use Rattle.tables.specs.Layout.{sharePlace}
 use Rattle.text.specs.declared.Ctrl.{Ctrl}
-use Rattle.grammar.specs.Fields.{pick, dash, lineEnd, bytes}
+use Rattle.grammar.specs.Fields.{dash, lineEnd, bytes}
 use Rattle.grammar.specs.Grammar.{
-  Next,
+  Rest,
   Part,
   _▸_,
   ask,
@@ -64,10 +65,10 @@ use Rattle.text.proofs.BridgeMaps.{variables-ok}
 abbrev pub withMaps : ℕ → Counts → Counts
 withMaps v n = record { vars = n .vars; ops = n .ops; maps = v }
 
-pub maps-ok : (l : ℕ) (n : Counts) (w : List ℕ) (k : Next) → l ≤ 100
+pub maps-ok : (l : ℕ) (n : Counts) (w : List ℕ) (k : Rest) → l ≤ 100
     → ((v : ℕ) → 1 ≤ v → v ≤ 8 → (t : List ℕ) → Bytes t → reading (kw (l + 1) 13 0 (withMaps v n) 0) w t ≡ k t (l + 1) (tablesOf (withMaps v n) w))
     → (t : List ℕ) → Bytes t → reading (kw l 12 0 n 0) w t ≡ mapsLine t l (tablesOf n w) k
-unfolding mapsLine line endOfLine _▸_ keep opened fresh pick limit stored withDigit noted after kind nextLine listOf toLine spelled keyByte tablesOf
+unfolding mapsLine line endOfLine _▸_ keep opened fresh limit stored withDigit noted after kind nextLine listOf toLine spelled keyByte tablesOf
 maps-ok l n w k h ok =
     let e : up l ≡ l + 1 = omega arith in
     key-ok l 12 0 n w (λ z. omega arith) (tablesOf n w) _
@@ -77,10 +78,10 @@ maps-ok l n w k h ok =
     0 (bytes "maps=") refl
 
 -- map=
-map-ok : (l r : ℕ) (n : Counts) → Fits n → r < 8 → (w : List ℕ) → Known (n .vars) w → (k : Next)
+map-ok : (l r : ℕ) (n : Counts) → Fits n → r < 8 → (w : List ℕ) → Known (n .vars) w → (k : Rest)
     → ((u : List ℕ) → Known (n .vars) u → (t : List ℕ) → Bytes t → reading (afterRow l 13 14 r (n .maps) n) u t ≡ k t (l + 1) (tablesOf n u))
     → (t : List ℕ) → Bytes t → reading (kw l 13 r n 0) w t ≡ line "map=" (variables r (n .vars) 0 1) t l (tablesOf n w) k
-unfolding line endOfLine _▸_ opened fresh pick spelled keyByte
+unfolding line endOfLine _▸_ opened fresh spelled keyByte
 map-ok l r n fits h w g k ok =
     let y = fits .low in
     let e : suc (n .vars - 1) ≡ n .vars = omega arith in
@@ -89,8 +90,8 @@ map-ok l r n fits h w g k ok =
     0 (bytes "map=") refl
 
 -- as many lines of one kind as there are maps
-maps-many : (n : Counts) → Fits n → 1 ≤ n .maps → (f g l : ℕ) (p : ℕ → Part) (k : Next) → l ≤ 100
-    → ((l₁ r : ℕ) → r < n .maps → (w : List ℕ) → Known (n .vars) w → (k₁ : Next)
+maps-many : (n : Counts) → Fits n → 1 ≤ n .maps → (f g l : ℕ) (p : ℕ → Part) (k : Rest) → l ≤ 100
+    → ((l₁ r : ℕ) → r < n .maps → (w : List ℕ) → Known (n .vars) w → (k₁ : Rest)
     → ((u : List ℕ) → Known (n .vars) u → (t : List ℕ) → Bytes t → reading (afterRow l₁ f g r (n .maps) n) u t ≡ k₁ t (l₁ + 1) (tablesOf n u))
     → (t : List ℕ) → Bytes t → reading (kw l₁ f r n 0) w t ≡ p r t l₁ (tablesOf n w) k₁)
     → ((w : List ℕ) → Known (n .vars) w → (t : List ℕ) → Bytes t → reading (kw (l + n .maps) g 0 n 0) w t ≡ k t (l + n .maps) (tablesOf n w))
@@ -101,7 +102,7 @@ maps-many n fits low f g l p k h one done w q t a =
     lines-ok f g (n .maps) (l + n .maps) n (n .vars) p k (omega arith) (omega arith) one done (n .maps - 1) 0 l (omega arith) (omega arith) w q t a
     ∙ ap (λ (m : ℕ). lines p m 0 t l (tablesOf n w) k) e
 
-pub map-lines-ok : (l : ℕ) (n : Counts) → Fits n → 1 ≤ n .maps → l ≤ 100 → (w : List ℕ) → Known (n .vars) w → (k : Next)
+pub map-lines-ok : (l : ℕ) (n : Counts) → Fits n → 1 ≤ n .maps → l ≤ 100 → (w : List ℕ) → Known (n .vars) w → (k : Rest)
     → ((u : List ℕ) → Known (n .vars) u → (t : List ℕ) → Bytes t → reading (kw (l + n .maps) 14 0 n 0) u t ≡ k t (l + n .maps) (tablesOf n u))
     → (t : List ℕ) → Bytes t → reading (kw l 13 0 n 0) w t ≡ mapLines t l (tablesOf n w) k
 unfolding mapLines ask tablesOf
@@ -109,28 +110,28 @@ map-lines-ok l n fits low h w g k ok =
     maps-many n fits low 13 14 l (λ m. line "map=" (variables m (n .vars) 0 1)) k h (λ l₁ r q. map-ok l₁ r n fits (let y = fits .maps in omega arith)) ok w g
 
 -- ---- share=: a dash without operators, else one number an operator
-module _ (l r : ℕ) (n : Counts) (fits : Fits n) (hr : r < 8) (w : List ℕ) (g : Known (n .vars) w) (k : Next)
+module _ (l r : ℕ) (n : Counts) (fits : Fits n) (hr : r < 8) (w : List ℕ) (g : Known (n .vars) w) (k : Rest)
     (ok : (u : List ℕ) → Known (n .vars) u → (t : List ℕ) → Bytes t → reading (afterRow l 14 15 r (n .maps) n) u t ≡ k t (l + 1) (tablesOf n u)) where
   -- the line's control in each of its parts
   part : ℕ → Ctrl
   part p = fresh (kw l 14 r n 0) l p 14 r
 
   dash-end : (t : List ℕ) → Bytes t → reading (part 2) w t ≡ eol k t l (tablesOf n w)
-  unfolding part fresh lit step live listEnd listOf nextLine rowOr toLine pick
+  unfolding part fresh lit step live listEnd listOf nextLine rowOr toLine
   dash-end [] a = cut-short (part 2) w refl (λ z. omega arith) refl
   dash-end (b ∷ t) (byte h a) =
       moves (part 2) (mark (part 2) b lineEnd (afterRow l 14 15 r (n .maps) n)) w w b t refl
       ∙ marked (part 2) (afterRow l 14 15 r (n .maps) n) w b lineEnd [] t (tablesOf n w) (λ u m U. k u (m + 1) U) (λ q. ok w g t a)
 
   dash-due : (t : List ℕ) → Bytes t → reading (part 3) w t ≡ lit (dash ∷ []) t l (tablesOf n w) (eol k)
-  unfolding part fresh lit step live dashed pick
+  unfolding part fresh lit step live dashed
   dash-due [] a = cut-short (part 3) w refl (λ z. omega arith) refl
   dash-due (b ∷ t) (byte h a) =
       moves (part 3) (mark (part 3) b dash (part 2)) w w b t refl ∙ marked (part 3) (part 2) w b dash [] t (tablesOf n w) (eol k) (λ q. dash-end t a)
 
   row-due : (m : ℕ) → n .ops ≡ suc m → (t : List ℕ) → Bytes t
       → reading (part 1) w t ≡ row 0 (λ o U. 1000001) (λ o v. putShare (sharePlace r o) v) (suc m) 0 t l (tablesOf n w) (eol k)
-  unfolding part fresh limit stored withDigit noted after afterShare kind due nextLine rowOr toLine listOf pick
+  unfolding part fresh limit stored withDigit noted after afterShare kind due nextLine rowOr toLine listOf
   row-due m e t a =
       let f = fits .ops in
       let y = fits .high in
@@ -148,22 +149,22 @@ module _ (l r : ℕ) (n : Counts) (fits : Fits n) (hr : r < 8) (w : List ℕ) (g
       m 0 (omega arith) w g t a
 
   amounts-ok : (t : List ℕ) → Bytes t → reading (opened (kw l 14 r n 0)) w t ≡ amounts r (n .ops) t l (tablesOf n w) (eol k)
-  unfolding opened part amounts pick
+  unfolding opened part amounts
   amounts-ok t a = split (n .ops) refl
     where
-      split : (N : ℕ) → n .ops ≡ N → reading (part (pick (eqb (n .ops) 0) 3 1)) w t ≡ amounts r (n .ops) t l (tablesOf n w) (eol k)
+      split : (N : ℕ) → n .ops ≡ N → reading (part (cond (eqb (n .ops) 0) 3 1)) w t ≡ amounts r (n .ops) t l (tablesOf n w) (eol k)
       split zero e =
-          let f : _≡_ {A = ℕ} (pick (eqb (n .ops) 0) 3 1) 3 = rw (eq-eqb (n .ops) 0 e) in
+          let f : _≡_ {A = ℕ} (cond (eqb (n .ops) 0) 3 1) 3 = rw (eq-eqb (n .ops) 0 e) in
           ap (λ (p : ℕ). reading (part p) w t) f ∙ dash-due t a ∙ sym (ap (λ (m : ℕ). amounts r m t l (tablesOf n w) (eol k)) e)
       split (suc m) e =
-          let f : _≡_ {A = ℕ} (pick (eqb (n .ops) 0) 3 1) 1 = rw (ne-eqb (n .ops) 0 (λ z. omega arith)) in
+          let f : _≡_ {A = ℕ} (cond (eqb (n .ops) 0) 3 1) 1 = rw (ne-eqb (n .ops) 0 (λ z. omega arith)) in
           ap (λ (p : ℕ). reading (part p) w t) f ∙ row-due m e t a ∙ sym (ap (λ (x : ℕ). amounts r x t l (tablesOf n w) (eol k)) e)
 
   share-ok : (t : List ℕ) → Bytes t → reading (kw l 14 r n 0) w t ≡ line "share=" (amounts r (n .ops)) t l (tablesOf n w) k
-  unfolding line endOfLine _▸_ spelled keyByte pick
+  unfolding line endOfLine _▸_ spelled keyByte
   share-ok = key-ok l 14 r n w (λ z. omega arith) (tablesOf n w) _ amounts-ok 0 (bytes "share=") refl
 
-pub share-lines-ok : (l : ℕ) (n : Counts) → Fits n → 1 ≤ n .maps → l ≤ 100 → (w : List ℕ) → Known (n .vars) w → (k : Next)
+pub share-lines-ok : (l : ℕ) (n : Counts) → Fits n → 1 ≤ n .maps → l ≤ 100 → (w : List ℕ) → Known (n .vars) w → (k : Rest)
     → ((u : List ℕ) → Known (n .vars) u → (t : List ℕ) → Bytes t → reading (kw (l + n .maps) 15 0 n 0) u t ≡ k t (l + n .maps) (tablesOf n u))
     → (t : List ℕ) → Bytes t → reading (kw l 14 0 n 0) w t ≡ shareLines t l (tablesOf n w) k
 unfolding shareLines ask tablesOf

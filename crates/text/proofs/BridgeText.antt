@@ -9,7 +9,7 @@ use lib.Dec.{eqb}
 use borrow.Author.Tests.{ne-eqb}
 use Rattle.tables.specs.declared.Counts.{Counts}
 use Rattle.tables.specs.Layout.{Tables}
-use Rattle.grammar.specs.Fields.{pick, Outcome, admitted}
+use Rattle.grammar.specs.Fields.{Outcome, admitted}
 use Rattle.grammar.specs.Grammar.{Verdict, _▸_, domLine, initLine, goalLine, opsLine, opLines, mapsLine, mapLines, shareLines, taskLines, settled, theEnd, noTask, verdict, outcome, readText}
 use Rattle.text.specs.Machine.{St, mk, get3, threes, keyByte, stopped, inKey, live, step, feed, start, ended, over, countsOf, written, done, areaRoom, readAll}
 use Rattle.text.proofs.BridgeReading.{tablesOf, told, reading, Bytes, none, byte, stops-2, moves, kw}
@@ -21,11 +21,11 @@ use Rattle.text.proofs.BridgeShares.{maps-ok, map-lines-ok, share-lines
 
 -- ---- after the last line
 stop-end : (l b : ℕ) (n : Counts) (w : List ℕ) → b < 256 → step (mk (kw l 15 0 n 0) w) b ≡ mk (stopped (kw l 15 0 n 0) 2) w
-unfolding step live inKey keyByte pick
+unfolding step live inKey keyByte
 stop-end l b n w h = rw (ne-eqb b 256 (λ q. omega arith))
 
 end-ok : (l : ℕ) (n : Counts) → Fits n → (w t : List ℕ) → Bytes t → reading (kw l 15 0 n 0) w t ≡ theEnd t l (tablesOf n w)
-unfolding reading told feed ended theEnd countsOf tablesOf pick
+unfolding reading told feed ended theEnd countsOf tablesOf
 end-ok l n fits w [] a = ap (λ (o : ℕ). settled o (tablesOf n w)) (over-of (kw l 15 0 n 0) w n (fits .ops) (fits .maps))
 end-ok l n fits w (b ∷ t) (byte h a) = moves (kw l 15 0 n 0) (stopped (kw l 15 0 n 0) 2) w w b t (stop-end l b n w h) ∙ stops-2 (kw l 15 0 n 0) w t
 
@@ -96,7 +96,7 @@ verdict-is text a =
 
 -- ---- what is left behind
 done-is : (s : St) (f c h : List ℕ) → done s f c h ≡ outcome (told s) f c h
-unfolding done told outcome settled written tablesOf countsOf pick
+unfolding done told outcome settled written tablesOf countsOf
 done-is s f c h = split (eqb (ended (s .ctrl) (s .area)) 0) refl (over s) refl
   where
     split : (q : Bool) → eqb (ended (s .ctrl) (s .area)) 0 ≡ q → (o : ℕ) → over s ≡ o → done s f c h ≡ outcome (told s) f c h

@@ -5,7 +5,7 @@ use mathlib.Core.Bool.{Bool, true, false}
 use mathlib.Core.List.{List, [], _∷_}
 use lib.Dec.{eqb, T}
 use Rattle.refusals.specs.Listed.{numberOf, placeOf}
-use Rattle.grammar.specs.Fields.{pick, isDigit, bytes, shareTotal, overLine}
+use Rattle.grammar.specs.Fields.{isDigit, bytes, shareTotal, overLine}
 use Rattle.grammar.specs.Grammar.{
   Verdict,
   accepted,
@@ -20,8 +20,8 @@ use Rattle.grammar.specs.Grammar.{
   runLen,
   value,
   formed,
-  within,
-  number,
+  fits,
+  numeral,
   parted,
   row,
   endOfLine,
@@ -120,5 +120,5 @@ table =
     ∷ []
 
 cases-hold : T (right table)
-unfolding table right told verdict taskLines settled theEnd noTask editionLine varsLine domLine initLine facts factList goalLine opsLine operator opLines has topOf allOf classCount noneMissing classes variables mapsLine mapLines amounts shareLines _▸_ nothing ask keep demand lit choice runLen value formed within number parted row endOfLine line lines pick isDigit shareTotal overLine
+unfolding table right told verdict taskLines settled theEnd noTask editionLine varsLine domLine initLine facts factList goalLine opsLine operator opLines has topOf allOf classCount noneMissing classes variables mapsLine mapLines amounts shareLines _▸_ nothing ask keep demand lit choice runLen value formed fits numeral parted row endOfLine line lines isDigit shareTotal overLine
 cases-hold = tt

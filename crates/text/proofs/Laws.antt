@@ -9,7 +9,7 @@ use mathlib.Core.List.{List, [], _∷_}
 use lib.ListN.{length, getD, drop}
 use lib.Seq.{drop-cons}
 use borrow.Author.Tests.{le-leb, lt-leb}
-use Rattle.grammar.specs.Fields.{pick, shareTotal, overLine}
+use Rattle.grammar.specs.Fields.{shareTotal, overLine}
 use Rattle.text.specs.Machine.{St, step, feed}
 
 -- within a list the default is not read
@@ -43,11 +43,11 @@ module _ (cost : ℕ → ℕ) (share : ℕ → ℕ → ℕ) (maps : ℕ) where
 
   pub over-passed : (n o : ℕ) → o < n → shareTotal share maps o ≤ cost o
       → overLine cost share maps (n - o) o ≡ overLine cost share maps (n - (o + 1)) (o + 1)
-  unfolding overLine pick
+  unfolding overLine
   over-passed n o h k = rw (one-less n o h, le-leb _ _ k)
 
   pub over-told : (n o : ℕ) → o < n → cost o < shareTotal share maps o → overLine cost share maps (n - o) o ≡ 7 + o
-  unfolding overLine pick
+  unfolding overLine
   over-told n o h k = rw (one-less n o h, lt-leb _ _ k)
 
   pub over-none : (n o : ℕ) → n ≤ o → overLine cost share maps (n - o) o ≡ 0

@@ -1,7 +1,7 @@
 -- The mask of a list of classes: of none, of one more, its width, and whether none is missing. The laws of a mask for any width and any test
 -- are those of the tables. Assumes nothing.
 use mathlib.Core.Path.{_≡_, refl, sym, ap, _∙_}
-use mathlib.Core.Bool.{Bool, true, false, _&&_, _||_, and-true, and-false, or-true, or-false}
+use mathlib.Core.Bool.{Bool, true, false, _&&_, _||_, and-true, and-false, or-true, or-false, cond}
 use mathlib.Core.List.{List, [], _∷_}
 use Prim.Native.Nat.{ℕ, zero, suc, _<_}
 use native.Mathlib.Omega.{arith}
@@ -10,7 +10,6 @@ use lib.Dec.{eqb, lit≤}
 use Rattle.meaning.specs.Views.{every}
 use Rattle.tables.proofs.Laws.{by-cases}
 use Rattle.tables.proofs.Masks.{bits, top, topIf, bits-same, bits-none, or-bits, width-top, width-is-count}
-use Rattle.grammar.specs.Fields.{pick}
 use Rattle.grammar.specs.Grammar.{has, topOf, allOf, classCount, noneMissing}
 use Rattle.text.specs.Machine.{withClass, width, gapless}
 
@@ -20,26 +19,26 @@ maskOf n f = bits n f
 
 -- the grammar's largest and one, and its test of all, are the laws' own
 top-of : (n : ℕ) (f : ℕ → Bool) → top n f ≡ topOf n f
-unfolding top topOf pick
+unfolding top topOf
 top-of zero f = refl
 top-of (suc n) f = go (f n) (top-of n f)
   where
-    go : (b : Bool) → top n f ≡ topOf n f → topIf b n (top n f) ≡ pick b (suc n) (topOf n f)
+    go : (b : Bool) → top n f ≡ topOf n f → topIf b n (top n f) ≡ cond b (suc n) (topOf n f)
     go true e = refl
     go false e = e
 
 all-of : (n : ℕ) (f : ℕ → Bool) → every f n ≡ allOf n f
-unfolding allOf pick
+unfolding allOf
 all-of zero f = refl
 all-of (suc n) f = go (f n) (all-of n f)
   where
-    go : (b : Bool) → every f n ≡ allOf n f → (every f n && b) ≡ pick b (allOf n f) false
+    go : (b : Bool) → every f n ≡ allOf n f → (every f n && b) ≡ cond b (allOf n f) false
     go true e = and-true (every f n) ∙ e
     go false e = and-false (every f n)
 
 -- one class more is one bit more
 has-more : (cs : List ℕ) (x d : ℕ) → (has cs d || eqb x d) ≡ has (x ∷ cs) d
-unfolding has pick
+unfolding has
 has-more cs x d =
     by-cases (eqb d x)
     (λ e. rw (e, eq-eqb x d (sym (eqb-true d x e))) (or-true (has cs d)))
@@ -50,7 +49,7 @@ unfolding has
 mask-none n = bits-none n
 
 pub mask-class : (cs : List ℕ) (x : ℕ) → x < 8 → withClass (maskOf 8 (has cs)) x ≡ maskOf 8 (has (x ∷ cs))
-unfolding withClass pick
+unfolding withClass
 mask-class cs x h =
     rw (lt-ltb x 32 (omega arith))
     (or-bits (has cs) 8 x h ∙ bits-same (λ d. has cs d || eqb x d) (has (x ∷ cs)) 8 (λ d l. has-more cs x d))

@@ -2,7 +2,7 @@
 -- A small control goes from byte to byte, beside a work area of bytes: the facts as in the lent table, then each cost and each share in 3 bytes.
 use Prim.Native.Nat.{ℕ, zero, suc, _+_, _-_, _*_, _/_, _%_, _^_, min}
 use mathlib.Core.List.{List, [], _∷_}
-use mathlib.Core.Bool.{Bool, false}
+use mathlib.Core.Bool.{Bool, false, cond}
 use lib.ListN.{getD, set, take, replicate}
 use lib.Dec.{ltb, leb, eqb}
 use lib.Bits.{bitOr}
@@ -30,7 +30,7 @@ use Rattle.tables.specs.Layout.{
 }
 use Rattle.text.specs.declared.Ctrl.{Ctrl}
 use Rattle.grammar.specs.declared.Reading.the-variants.{Accepted, Refused}
-use Rattle.grammar.specs.Fields.{pick, isDigit, bytes, lineEnd, comma, dash, slash, colon, semicolon, overLine, Outcome, leaves, filled, admitted}
+use Rattle.grammar.specs.Fields.{isDigit, bytes, lineEnd, comma, dash, slash, colon, semicolon, overLine, Outcome, leaves, filled, admitted}
 use Rattle.meaning.specs.Limits.{mostOps, mostMaps, mostStates}
 
 -- the control beside the work area
@@ -96,11 +96,11 @@ nextKey c =
     record { code = 0; line = c .line; part = 0; field = c .field; key = up (c .key); run = 0; val = 0; var = 0; least = 0; item = 0; row = c .row; mask = 0; prod = 1; vars = c .vars; ops = c .ops; maps = c .maps }
 
 unfoldable pub opened : Ctrl → Ctrl
-opened c = fresh c (c .line) (pick (eqb (c .field) 14) (pick (eqb (c .ops) 0) 3 1) 1) (c .field) (c .row)
+opened c = fresh c (c .line) (cond (eqb (c .field) 14) (cond (eqb (c .ops) 0) 3 1) 1) (c .field) (c .row)
 
 unfoldable pub inKey : Ctrl → ℕ → Ctrl
 inKey c b =
-    pick (eqb b (keyByte (c .field) (c .key))) (pick (eqb b 61) (opened c) (nextKey c)) (stopped c 2)
+    cond (eqb b (keyByte (c .field) (c .key))) (cond (eqb b 61) (opened c) (nextKey c)) (stopped c 2)
 
 -- a digit run's value, however long, capped above every range
 unfoldable pub more : ℕ → ℕ → ℕ
@@ -112,7 +112,7 @@ withDigit c r v =
     record { code = 0; line = c .line; part = 1; field = c .field; key = 0; run = r; val = v; var = c .var; least = c .least; item = c .item; row = c .row; mask = c .mask; prod = c .prod; vars = c .vars; ops = c .ops; maps = c .maps }
 
 unfoldable pub digit : Ctrl → ℕ → Ctrl
-digit c d = pick (eqb (c .run) 1) (stopped c 2) (withDigit c (pick (eqb (c .run + d) 0) 1 2) (more (c .val) d))
+digit c d = cond (eqb (c .run) 1) (stopped c 2) (withDigit c (cond (eqb (c .run + d) 0) 1 2) (more (c .val) d))
 
 -- the least number of each field, and the first number beyond its range: there 0 stands for the variable's number of values, 1 for the number of variables
 abbrev pub leasts : List ℕ
@@ -123,20 +123,20 @@ limits = 2 ∷ 9 ∷ 9 ∷ 0 ∷ 1 ∷ 0 ∷ 65 ∷ 1000001 ∷ 1 ∷ 0 ∷ 1 �
 
 unfoldable pub limit : Ctrl → List ℕ → ℕ
 limit c w =
-    pick (eqb (getD limits (c .field) 0) 0)
+    cond (eqb (getD limits (c .field) 0) 0)
     (dom w (c .var))
-    (pick (eqb (getD limits (c .field) 0) 1) (c .vars) (getD limits (c .field) 0))
+    (cond (eqb (getD limits (c .field) 0) 1) (c .vars) (getD limits (c .field) 0))
 
 unfoldable pub inRange : Ctrl → List ℕ → Bool
-inRange c w = pick (leb (getD leasts (c .field) 0) (c .val)) (ltb (c .val) (limit c w)) false
+inRange c w = cond (leb (getD leasts (c .field) 0) (c .val)) (ltb (c .val) (limit c w)) false
 
 -- a finished number's own fault: range, then order
 unfoldable pub judged : Ctrl → List ℕ → ℕ
-judged c w = pick (inRange c w) (pick (leb (c .least) (c .val)) 0 4) 3
+judged c w = cond (inRange c w) (cond (leb (c .least) (c .val)) 0 4) 3
 
 -- the classes seen as a mask, its width, and whether none is missing: as many ones as it is wide
 unfoldable pub withClass : ℕ → ℕ → ℕ
-withClass m x = pick (ltb x 32) (bitOr m (2 ^ x)) m
+withClass m x = cond (ltb x 32) (bitOr m (2 ^ x)) m
 
 unfoldable pub width : ℕ → ℕ
 width m = 32 - leadingZeros 32 m
@@ -146,16 +146,16 @@ gapless m = eqb (width m) (ones m)
 
 -- the abstract states so far, counted up to 4,097
 unfoldable pub times : ℕ → ℕ → ℕ
-times p n = pick (ltb mostStates p) 4097 (min (p * n) 4097)
+times p n = cond (ltb mostStates p) 4097 (min (p * n) 4097)
 
 -- what a finished number is to the control: the counts, and the classes seen
 unfoldable pub noted : Ctrl → Ctrl
 noted c =
-    record { code = 0; line = c .line; part = c .part; field = c .field; key = c .key; run = c .run; val = c .val; var = c .var; least = c .least; item = c .item; row = c .row; mask = pick (eqb (c .field) 13) (withClass (c .mask) (c .val)) (c .mask); prod = c .prod; vars = pick (eqb (c .field) 1) (c .val) (c .vars); ops = pick (eqb (c .field) 6) (c .val) (c .ops); maps = pick (eqb (c .field) 12) (c .val) (c .maps) }
+    record { code = 0; line = c .line; part = c .part; field = c .field; key = c .key; run = c .run; val = c .val; var = c .var; least = c .least; item = c .item; row = c .row; mask = cond (eqb (c .field) 13) (withClass (c .mask) (c .val)) (c .mask); prod = c .prod; vars = cond (eqb (c .field) 1) (c .val) (c .vars); ops = cond (eqb (c .field) 6) (c .val) (c .ops); maps = cond (eqb (c .field) 12) (c .val) (c .maps) }
 
 -- the class just noted was its variable's last, and that variable the map's last
 unfoldable pub lastClass : Ctrl → List ℕ → Bool
-lastClass c w = pick (eqb (c .field) 13) (eqb (up (c .item)) (dom w (c .var))) false
+lastClass c w = cond (eqb (c .field) 13) (eqb (up (c .item)) (dom w (c .var))) false
 
 unfoldable pub lastVar : Ctrl → Bool
 lastVar c = eqb (up (c .var)) (c .vars)
@@ -163,36 +163,36 @@ lastVar c = eqb (up (c .var)) (c .vars)
 -- the faults told at the end of a list of classes, before the next byte is read
 unfoldable pub classFault : Ctrl → ℕ
 classFault c =
-    pick (gapless (c .mask))
-    (pick (lastVar c) (pick (ltb mostStates (times (c .prod) (width (c .mask)))) 7 0) 0)
+    cond (gapless (c .mask))
+    (cond (lastVar c) (cond (ltb mostStates (times (c .prod) (width (c .mask)))) 7 0) 0)
     5
 
 unfoldable pub before : Ctrl → List ℕ → ℕ
-before c w = pick (lastClass c w) (classFault c) 0
+before c w = cond (lastClass c w) (classFault c) 0
 
 -- the fault of the digit run that ends here, 0 for none
 unfoldable pub fault : Ctrl → List ℕ → ℕ
 fault c w =
-    pick (eqb (c .run) 0) 2 (pick (eqb (judged c w) 0) (before (noted c) w) (judged c w))
+    cond (eqb (c .run) 0) 2 (cond (eqb (judged c w) 0) (before (noted c) w) (judged c w))
 
 -- where a number is kept in the area: a fact as value and one, costs and shares in 3 bytes, counts not at all
 unfoldable pub stored : Ctrl → List ℕ → List ℕ
 stored c w =
-    pick (eqb (c .field) 2)
+    cond (eqb (c .field) 2)
     (put w (c .var) (c .val))
-    (pick (eqb (c .field) 3)
+    (cond (eqb (c .field) 3)
     (put w (initPlace (c .var)) (c .val))
-    (pick (eqb (c .field) 5)
+    (cond (eqb (c .field) 5)
     (put w (goalPlace (c .var)) (up (c .val)))
-    (pick (eqb (c .field) 7)
+    (cond (eqb (c .field) 7)
     (put3 w (costByte (c .row)) (c .val))
-    (pick (eqb (c .field) 9)
+    (cond (eqb (c .field) 9)
     (put w (prePlace (c .row) (c .var)) (up (c .val)))
-    (pick (eqb (c .field) 11)
+    (cond (eqb (c .field) 11)
     (put w (effPlace (c .row) (c .var)) (up (c .val)))
-    (pick (eqb (c .field) 13)
+    (cond (eqb (c .field) 13)
     (put w (classPlace (c .row) (c .var) (c .item)) (c .val))
-    (pick (eqb (c .field) 14) (put3 w (shareByte (c .row) (c .item)) (c .val)) w)))))))
+    (cond (eqb (c .field) 14) (put3 w (shareByte (c .row) (c .item)) (c .val)) w)))))))
 
 -- two fields a list of facts: 2 is the goal, 4 the preconditions, 5 the effects
 unfoldable pub listOf : ℕ → ℕ
@@ -203,32 +203,32 @@ unfoldable pub toLine : Ctrl → ℕ → ℕ → Ctrl
 toLine c f r = fresh c (up (c .line)) 0 f r
 
 unfoldable pub rowOr : Ctrl → ℕ → ℕ → ℕ → Ctrl
-rowOr c n f g = pick (ltb (up (c .row)) n) (toLine c f (up (c .row))) (toLine c g 0)
+rowOr c n f g = cond (ltb (up (c .row)) n) (toLine c f (up (c .row))) (toLine c g 0)
 
 unfoldable pub nextLine : Ctrl → Ctrl
 nextLine c =
-    pick (eqb (c .field) 6)
-    (toLine c (pick (eqb (c .ops) 0) 12 7) 0)
-    (pick (eqb (c .field) 13)
+    cond (eqb (c .field) 6)
+    (toLine c (cond (eqb (c .ops) 0) 12 7) 0)
+    (cond (eqb (c .field) 13)
     (rowOr c (c .maps) 13 14)
-    (pick (eqb (c .field) 14)
+    (cond (eqb (c .field) 14)
     (rowOr c (c .maps) 14 15)
-    (pick (eqb (listOf (c .field)) 2) (toLine c 6 0) (pick (eqb (listOf (c .field)) 5) (rowOr c (c .ops) 7 12) (toLine c (up (c .field)) 0)))))
+    (cond (eqb (listOf (c .field)) 2) (toLine c 6 0) (cond (eqb (listOf (c .field)) 5) (rowOr c (c .ops) 7 12) (toLine c (up (c .field)) 0)))))
 
 -- the mark x must stand here, and then n is the control
 unfoldable pub mark : Ctrl → ℕ → ℕ → Ctrl → Ctrl
-mark c b x n = pick (eqb b x) n (stopped c 2)
+mark c b x n = cond (eqb b x) n (stopped c 2)
 
 -- the end of a list of facts, or of the dash that stands for an empty list
 unfoldable pub listEnd : Ctrl → ℕ → Ctrl
 listEnd c b =
-    pick (eqb (listOf (c .field)) 4) (mark c b semicolon (due c 10 0 0 0 0 1)) (mark c b lineEnd (nextLine c))
+    cond (eqb (listOf (c .field)) 4) (mark c b semicolon (due c 10 0 0 0 0 1)) (mark c b lineEnd (nextLine c))
 
 -- the byte after a class
 unfoldable pub afterClass : Ctrl → List ℕ → ℕ → Ctrl
 afterClass c w b =
-    pick (lastClass c w)
-    (pick (lastVar c) (mark c b lineEnd (nextLine c)) (mark c b slash (due c 13 (up (c .var)) 0 0 0 (times (c .prod) (width (c .mask))))))
+    cond (lastClass c w)
+    (cond (lastVar c) (mark c b lineEnd (nextLine c)) (mark c b slash (due c 13 (up (c .var)) 0 0 0 (times (c .prod) (width (c .mask))))))
     (mark c b comma (due c 13 (c .var) 0 (up (c .item)) (c .mask) (c .prod)))
 
 -- what follows a number of each field: 0 the line end, 1 the next of a row over the variables, 2 a fact's colon, 3 more facts or their end,
@@ -241,56 +241,56 @@ kind f = getD kinds f 0
 
 unfoldable pub afterVar : Ctrl → ℕ → Ctrl
 afterVar c b =
-    pick (lastVar c) (mark c b lineEnd (nextLine c)) (mark c b comma (due c (c .field) (up (c .var)) 0 0 0 1))
+    cond (lastVar c) (mark c b lineEnd (nextLine c)) (mark c b comma (due c (c .field) (up (c .var)) 0 0 0 1))
 
 unfoldable pub afterValue : Ctrl → ℕ → Ctrl
-afterValue c b = pick (eqb b comma) (due c (c .field - 1) 0 (up (c .var)) 0 0 1) (listEnd c b)
+afterValue c b = cond (eqb b comma) (due c (c .field - 1) 0 (up (c .var)) 0 0 1) (listEnd c b)
 
 unfoldable pub afterShare : Ctrl → ℕ → Ctrl
 afterShare c b =
-    pick (eqb (up (c .item)) (c .ops)) (mark c b lineEnd (nextLine c)) (mark c b comma (due c 14 0 0 (up (c .item)) 0 1))
+    cond (eqb (up (c .item)) (c .ops)) (mark c b lineEnd (nextLine c)) (mark c b comma (due c 14 0 0 (up (c .item)) 0 1))
 
 -- the byte after a number that was kept
 unfoldable pub after : Ctrl → List ℕ → ℕ → Ctrl
 after c w b =
-    pick (eqb (kind (c .field)) 1)
+    cond (eqb (kind (c .field)) 1)
     (afterVar c b)
-    (pick (eqb (kind (c .field)) 2)
+    (cond (eqb (kind (c .field)) 2)
     (mark c b colon (due c (up (c .field)) (c .val) 0 0 0 1))
-    (pick (eqb (kind (c .field)) 3)
+    (cond (eqb (kind (c .field)) 3)
     (afterValue c b)
-    (pick (eqb (kind (c .field)) 4)
+    (cond (eqb (kind (c .field)) 4)
     (mark c b semicolon (due c 8 0 0 0 0 1))
-    (pick (eqb (kind (c .field)) 5)
+    (cond (eqb (kind (c .field)) 5)
     (afterClass c w b)
-    (pick (eqb (kind (c .field)) 6) (afterShare c b) (mark c b lineEnd (nextLine c)))))))
+    (cond (eqb (kind (c .field)) 6) (afterShare c b) (mark c b lineEnd (nextLine c)))))))
 
 -- a byte that is no digit ends the run: its fault stops the reading, else the number is kept and the byte judged
 unfoldable pub closed : Ctrl → List ℕ → ℕ → St
 closed c w b =
-    pick (eqb (fault c w) 0) (mk (after (noted c) w b) (stored c w)) (mk (stopped c (fault c w)) w)
+    cond (eqb (fault c w) 0) (mk (after (noted c) w b) (stored c w)) (mk (stopped c (fault c w)) w)
 
 -- a dash where a list of facts may begin
 unfoldable pub dashHere : Ctrl → ℕ → Bool
 dashHere c b =
-    pick (eqb b dash) (pick (eqb (kind (c .field)) 2) (pick (eqb (c .run) 0) (eqb (c .least) 0) false) false) false
+    cond (eqb b dash) (cond (eqb (kind (c .field)) 2) (cond (eqb (c .run) 0) (eqb (c .least) 0) false) false) false
 
 unfoldable pub dashed : Ctrl → Ctrl
 dashed c = fresh c (c .line) 2 (c .field) (c .row)
 
 unfoldable pub atNumber : Ctrl → List ℕ → ℕ → St
 atNumber c w b =
-    pick (isDigit b) (mk (digit c (b - 48)) w) (pick (dashHere c b) (mk (dashed c) w) (closed c w b))
+    cond (isDigit b) (mk (digit c (b - 48)) w) (cond (dashHere c b) (mk (dashed c) w) (closed c w b))
 
 unfoldable pub live : Ctrl → List ℕ → ℕ → St
 live c w b =
-    pick (eqb (c .part) 0)
+    cond (eqb (c .part) 0)
     (mk (inKey c b) w)
-    (pick (eqb (c .part) 1) (atNumber c w b) (pick (eqb (c .part) 2) (mk (listEnd c b) w) (mk (mark c b dash (dashed c)) w)))
+    (cond (eqb (c .part) 1) (atNumber c w b) (cond (eqb (c .part) 2) (mk (listEnd c b) w) (mk (mark c b dash (dashed c)) w)))
 
 -- ONE BYTE; a reading that has stopped stays as it is
 unfoldable pub step : St → ℕ → St
-step s b = pick (eqb (s .ctrl .code) 0) (live (s .ctrl) (s .area) b) s
+step s b = cond (eqb (s .ctrl .code) 0) (live (s .ctrl) (s .area) b) s
 
 -- the bytes of a piece, one after the other
 unfoldable pub feed : St → List ℕ → St
@@ -307,14 +307,14 @@ areaRoom = 3352
 -- what the end of the text says: 0 to accept, or the refusal's number
 unfoldable pub ended : Ctrl → List ℕ → ℕ
 ended c w =
-    pick (eqb (c .code) 0)
-    (pick (eqb (c .field) 15) 0 (pick (eqb (fault c w) 0) 2 (fault c w)))
+    cond (eqb (c .code) 0)
+    (cond (eqb (c .field) 15) 0 (cond (eqb (fault c w) 0) 2 (fault c w)))
     (c .code)
 
 -- a refusal of the text by its number and its line
 unfoldable pub refusalOf : ℕ → ℕ → Refusal
 refusalOf k l =
-    pick (eqb k 2) (OffForm l) (pick (eqb k 3) (OutOfRange l) (pick (eqb k 4) (NotRising l) (pick (eqb k 5) (ClassMissing l) (TooManyStates l))))
+    cond (eqb k 2) (OffForm l) (cond (eqb k 3) (OutOfRange l) (cond (eqb k 4) (NotRising l) (cond (eqb k 5) (ClassMissing l) (TooManyStates l))))
 
 -- the area's costs and shares
 abbrev pub costIn : List ℕ → ℕ → ℕ
@@ -347,8 +347,8 @@ written s f c h =
 -- the end of the text: the lent tables are written on acceptance only
 unfoldable pub done : St → List ℕ → List ℕ → List ℕ → Outcome
 done s f c h =
-    pick (eqb (ended (s .ctrl) (s .area)) 0)
-    (pick (eqb (over s) 0) (written s f c h) (leaves (Refused (SharesAboveCost (over s))) f c h))
+    cond (eqb (ended (s .ctrl) (s .area)) 0)
+    (cond (eqb (over s) 0) (written s f c h) (leaves (Refused (SharesAboveCost (over s))) f c h))
     (leaves (Refused (refusalOf (ended (s .ctrl) (s .area)) (s .ctrl .line))) f c h)
 
 -- a whole text by the machine

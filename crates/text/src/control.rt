@@ -1,8 +1,8 @@
 // The controls that the machine goes on with.
+ghost use mathlib.Core.Bool.{cond};
 ghost use mathlib.Core.Path.{_≡_};
 ghost use Prim.Native.Nat.{_+_};
 ghost use lib.Dec.{eqb};
-ghost use Rattle.grammar.specs.Fields.{pick};
 ghost use Rattle.text.specs.Machine.{
   up,
   stopped,
@@ -115,7 +115,7 @@ pub fn next_key(c: Ctrl) -> Ctrl
 
 // After the '=': 1 for a number, 3 for the dash of a share line without operators.
 pub fn first_part(c: Ctrl) -> u32
-    ensures { λ r. ⌜ r ≡ pick (eqb (c .field) 14) (pick (eqb (c .ops) 0) 3 1) 1 ⌝ }
+    ensures { λ r. ⌜ r ≡ cond (eqb (c .field) 14) (cond (eqb (c .ops) 0) 3 1) 1 ⌝ }
 {
     if c.field == 14 {
         if c.ops == 0 { 3 } else { 1 }
@@ -174,7 +174,7 @@ pub fn list_of(f: u32) -> u32
 
 // After ops=: the first operator's line, or the maps where there is none.
 pub fn after_ops(c: Ctrl) -> Ctrl
-    ensures { λ r. ⌜ r ≡ toLine c (pick (eqb (c .ops) 0) 12 7) 0 ⌝ }
+    ensures { λ r. ⌜ r ≡ toLine c (cond (eqb (c .ops) 0) 12 7) 0 ⌝ }
 {
     if c.ops == 0 {
         to_line(c, 12, 0)

@@ -1,9 +1,9 @@
 // One byte of the text.
 ghost use mathlib.Core.Path.{_≡_};
 ghost use Prim.Native.Nat.{_+_, _-_};
-ghost use mathlib.Core.Bool.{false};
+ghost use mathlib.Core.Bool.{false, cond};
 ghost use lib.Dec.{eqb};
-ghost use Rattle.grammar.specs.Fields.{isDigit, pick};
+ghost use Rattle.grammar.specs.Fields.{isDigit};
 ghost use Rattle.text.specs.Machine.{
   mk,
   inKey,
@@ -72,7 +72,7 @@ pub fn longer(v: u32, d: u32) -> u32
 
 // The kind of a run with one digit more: 1 for a single 0, else 2.
 pub fn run_after(r: u32, d: u32) -> u32
-    ensures { λ n. ⌜ n ≡ pick (eqb (r + d) 0) 1 2 ⌝ }
+    ensures { λ n. ⌜ n ≡ cond (eqb (r + d) 0) 1 2 ⌝ }
 {
     if r == 0 {
         if d == 0 { 1 } else { 2 }
@@ -226,7 +226,7 @@ pub fn digit_of(b: u32) -> u32
 
 // Neither a digit of the number nor a fact of the list stands before.
 pub fn nothing_read(c: Ctrl) -> bool
-    ensures { λ r. ⌜ r ≡ pick (eqb (c .run) 0) (eqb (c .least) 0) false ⌝ }
+    ensures { λ r. ⌜ r ≡ cond (eqb (c .run) 0) (eqb (c .least) 0) false ⌝ }
 {
     if c.run == 0 { c.least == 0 } else { false }
 }

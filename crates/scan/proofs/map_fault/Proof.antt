@@ -1,5 +1,5 @@
 -- `scan::map_fault` meets its contract: the variables passed so far are clean, and their counts multiply to the states so far. Assumes nothing.
-use Prim.Native.Nat.{ℕ, _+_, _*_, _^_, _≤_, _-_}
+use Prim.Native.Nat.{ℕ, _*_, _^_, _≤_, _-_}
 use mathlib.Core.Path.{_≡_, refl, sym, ap, ap₂, _∙_}
 use mathlib.Core.List.{List, []}
 use native.Mathlib.Numerals.{add-one}

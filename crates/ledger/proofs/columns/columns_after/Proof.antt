@@ -3,7 +3,7 @@ use Prim.Native.Nat.{_+_, _-_, _≤_, ℕ}
 use Rattle.ledger.proofs.Gains.{gain-small}
 use Rattle.ledger.specs.Ledger.{booked, bookedAt}
 use Rattle.tables.proofs.Laws.{filled-end, filled-next, filled-still}
-use Rattle.tables.specs.Steps.{filled}
+use Rattle.tables.specs.Steps.{overwritten}
 use Rattle.tables.specs.Task.{tables, taskOf}
 use borrow.Author.Needs.{needs}
 use mathlib.Core.Path.{_≡_, ap₂, refl}
@@ -12,13 +12,13 @@ use Rattle.ledger.proofs.columns.columns_after.Statement.{statement}
 use Rattle.ledger.proofs.columns.columns_after.Tie as tie
 
 abbrev Inv-loop : tie.InvT-loop
-Inv-loop c facts costs shares op t₀ k₀ t k = (k ≤ 9) × (t ≡ filled (bookedAt (taskOf (tables c facts costs shares)) t₀ (op .0)) t₀ k)
+Inv-loop c facts costs shares op t₀ k₀ t k = (k ≤ 9) × (t ≡ overwritten (bookedAt (taskOf (tables c facts costs shares)) t₀ (op .0)) t₀ k)
 
 abbrev μ-loop : tie.MeasureT-loop
 μ-loop c facts costs shares op t₀ k₀ t k = 9 - k
 
 loop-holds : tie.Need-loop-holds Inv-loop μ-loop
-unfolding filled
+unfolding overwritten
 loop-holds c = (omega arith, refl)
 
 add-t : tie.Need-add-t Inv-loop μ-loop

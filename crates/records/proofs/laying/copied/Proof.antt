@@ -5,20 +5,20 @@ use native.Mathlib.Omega.{arith}
 use lib.ListN.{replicate}
 use borrow.Author.Needs.{needs}
 use Rattle.tables.proofs.Laws.{filled-next}
-use Rattle.tables.specs.Steps.{filled}
+use Rattle.tables.specs.Steps.{overwritten}
 use Rattle.tables.specs.Task.{stateOf}
 use Rattle.records.proofs.Laws.{copied-whole}
 use Rattle.records.proofs.laying.copied.Statement.{statement}
 use Rattle.records.proofs.laying.copied.Tie as tie
 
 abbrev Inv-loop : tie.InvT-loop
-Inv-loop facts copy₀ k₀ copy k = (k ≤ 1624) × (copy ≡ filled (stateOf facts) (replicate 1624 0) k)
+Inv-loop facts copy₀ k₀ copy k = (k ≤ 1624) × (copy ≡ overwritten (stateOf facts) (replicate 1624 0) k)
 
 abbrev μ-loop : tie.MeasureT-loop
 μ-loop facts copy₀ k₀ copy k = 1624 - k
 
 loop-holds : tie.Need-loop-holds Inv-loop μ-loop
-unfolding filled
+unfolding overwritten
 loop-holds c = (omega arith, refl)
 
 loop-again : tie.Need-loop-again Inv-loop μ-loop

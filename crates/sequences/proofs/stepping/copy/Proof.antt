@@ -5,20 +5,20 @@ use native.Mathlib.Omega.{arith}
 use lib.ListN.{replicate}
 use borrow.Author.Needs.{needs}
 use Rattle.tables.proofs.Laws.{filled-next, filled-end}
-use Rattle.tables.specs.Steps.{filled}
+use Rattle.tables.specs.Steps.{overwritten}
 use Rattle.tables.specs.Task.{stateOf}
 use Rattle.sequences.specs.Stepping.{copied}
 use Rattle.sequences.proofs.stepping.copy.Statement.{statement}
 use Rattle.sequences.proofs.stepping.copy.Tie as tie
 
 abbrev Inv-loop : tie.InvT-loop
-Inv-loop vars s t₀ v₀ t v = (v ≤ vars) × (t ≡ filled (stateOf s) (replicate 8 0) v)
+Inv-loop vars s t₀ v₀ t v = (v ≤ vars) × (t ≡ overwritten (stateOf s) (replicate 8 0) v)
 
 abbrev μ-loop : tie.MeasureT-loop
 μ-loop vars s t₀ v₀ t v = vars - v
 
 loop-holds : tie.Need-loop-holds Inv-loop μ-loop
-unfolding filled
+unfolding overwritten
 loop-holds c = (omega arith, refl)
 
 loop-again : tie.Need-loop-again Inv-loop μ-loop

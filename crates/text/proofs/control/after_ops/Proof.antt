@@ -1,16 +1,13 @@
 -- `text::control::after_ops` meets its contract: by whether there are operators. Assumes nothing.
-use Rattle.grammar.specs.Fields.{pick}
 use borrow.Author.Needs.{needs}
 use borrow.Author.Tests.{eq-eqb, ne-eqb}
 use Rattle.text.proofs.control.after_ops.Statement.{statement}
 use Rattle.text.proofs.control.after_ops.Tie as tie
 
 returns : tie.Need-returns
-unfolding pick
 returns c = simp (eq-eqb _ _ (c .before .if1 .taken)) (c .to-line .ensures)
 
 returns-2 : tie.Need-returns-2
-unfolding pick
 returns-2 c = simp (ne-eqb _ _ (c .before .if1 .left)) (c .to-line2 .ensures)
 
 pub after-ops-spec : {M : Type 1} → statement M

@@ -1,5 +1,4 @@
 -- `text::control::next_line` meets its contract: by the field. Assumes nothing.
-use Rattle.grammar.specs.Fields.{pick}
 use Rattle.text.specs.Machine.{nextLine}
 use borrow.Author.Needs.{needs}
 use borrow.Author.Tests.{eq-eqb, ne-eqb}
@@ -7,27 +6,27 @@ use Rattle.text.proofs.control.next_line.Statement.{statement}
 use Rattle.text.proofs.control.next_line.Tie as tie
 
 returns : tie.Need-returns
-unfolding nextLine pick
+unfolding nextLine
 returns c = simp (eq-eqb _ _ (c .before .if1 .taken)) (c .after-ops .ensures)
 
 returns-2 : tie.Need-returns-2
-unfolding nextLine pick
+unfolding nextLine
 returns-2 c = simp (ne-eqb _ _ (c .before .before .if1 .left), eq-eqb _ _ (c .before .if2 .taken)) (c .row-or .ensures)
 
 returns-3 : tie.Need-returns-3
-unfolding nextLine pick
+unfolding nextLine
 returns-3 c = simp (ne-eqb _ _ (c .before .before .before .if1 .left), ne-eqb _ _ (c .before .before .if2 .left), eq-eqb _ _ (c .before .if3 .taken)) (c .row-or2 .ensures)
 
 returns-4 : tie.Need-returns-4
-unfolding nextLine pick
+unfolding nextLine
 returns-4 c = simp (ne-eqb _ _ (c .before .before .before .before .before .if1 .left), ne-eqb _ _ (c .before .before .before .before .if2 .left), ne-eqb _ _ (c .before .before .before .if3 .left), ← c .before .before .list-of .ensures, eq-eqb _ _ (c .before .if4 .taken)) (c .to-line .ensures)
 
 returns-5 : tie.Need-returns-5
-unfolding nextLine pick
+unfolding nextLine
 returns-5 c = simp (ne-eqb _ _ (c .before .before .before .before .before .before .if1 .left), ne-eqb _ _ (c .before .before .before .before .before .if2 .left), ne-eqb _ _ (c .before .before .before .before .if3 .left), ← c .before .before .before .list-of .ensures, ne-eqb _ _ (c .before .before .if4 .left), eq-eqb _ _ (c .before .if5 .taken)) (c .row-or3 .ensures)
 
 returns-6 : tie.Need-returns-6
-unfolding nextLine pick
+unfolding nextLine
 returns-6 c = simp (ne-eqb _ _ (c .before .before .before .before .before .before .before .if1 .left), ne-eqb _ _ (c .before .before .before .before .before .before .if2 .left), ne-eqb _ _ (c .before .before .before .before .before .if3 .left), ← c .before .before .before .before .list-of .ensures, ne-eqb _ _ (c .before .before .before .if4 .left), ne-eqb _ _ (c .before .before .if5 .left), ← c .before .one-more .ensures) (c .to-line2 .ensures)
 
 pub next-line-spec : {M : Type 1} → statement M

@@ -1,5 +1,4 @@
 -- `text::control::row_or` meets its contract: by whether rows are left. Assumes nothing.
-use Rattle.grammar.specs.Fields.{pick}
 use Rattle.text.specs.Machine.{rowOr}
 use borrow.Author.Needs.{needs}
 use borrow.Author.Tests.{le-ltb, lt-ltb}
@@ -7,11 +6,11 @@ use Rattle.text.proofs.control.row_or.Statement.{statement}
 use Rattle.text.proofs.control.row_or.Tie as tie
 
 returns : tie.Need-returns
-unfolding rowOr pick
+unfolding rowOr
 returns c = simp (← c .before .before .one-more .ensures, lt-ltb _ _ (c .before .if1 .taken)) (c .to-line .ensures)
 
 returns-2 : tie.Need-returns-2
-unfolding rowOr pick
+unfolding rowOr
 returns-2 c = simp (← c .before .before .one-more .ensures, le-ltb _ _ (c .before .if1 .left)) (c .to-line2 .ensures)
 
 pub row-or-spec : {M : Type 1} → statement M

@@ -1,16 +1,15 @@
 -- `text::fields::before_byte` meets its contract: only after the last class of a list. Assumes nothing.
-use Rattle.grammar.specs.Fields.{pick}
 use Rattle.text.specs.Machine.{before}
 use borrow.Author.Needs.{needs}
 use Rattle.text.proofs.fields.before_byte.Statement.{statement}
 use Rattle.text.proofs.fields.before_byte.Tie as tie
 
 returns : tie.Need-returns
-unfolding before pick
+unfolding before
 returns c = simp (← c .before .before .last-class .ensures, c .before .if1 .taken) (c .class-fault .ensures)
 
 returns-2 : tie.Need-returns-2
-unfolding before pick
+unfolding before
 returns-2 c = simp (← c .before .last-class .ensures, c .if1 .left)
 
 pub before-byte-spec : {M : Type 1} → statement M

@@ -1,5 +1,4 @@
 -- `text::fields::class_fault` meets its contract: a missing class, then too many states. Assumes nothing.
-use Rattle.grammar.specs.Fields.{pick}
 use Rattle.text.specs.Machine.{classFault}
 use borrow.Author.Needs.{needs}
 use borrow.Author.Tests.{le-ltb, lt-ltb}
@@ -7,19 +6,19 @@ use Rattle.text.proofs.fields.class_fault.Statement.{statement}
 use Rattle.text.proofs.fields.class_fault.Tie as tie
 
 returns : tie.Need-returns
-unfolding classFault pick
+unfolding classFault
 returns c = simp (← c .before .before .before .before .before .before .none-missing .ensures, c .before .before .before .before .before .if1 .taken, ← c .before .before .before .before .last-var .ensures, c .before .before .before .if2 .taken, ← c .before .before .width-of .ensures, ← c .before .multiply .ensures, lt-ltb _ _ (c .if3 .taken))
 
 returns-2 : tie.Need-returns-2
-unfolding classFault pick
+unfolding classFault
 returns-2 c = simp (← c .before .before .before .before .before .before .none-missing .ensures, c .before .before .before .before .before .if1 .taken, ← c .before .before .before .before .last-var .ensures, c .before .before .before .if2 .taken, ← c .before .before .width-of .ensures, ← c .before .multiply .ensures, le-ltb _ _ (c .if3 .left))
 
 returns-3 : tie.Need-returns-3
-unfolding classFault pick
+unfolding classFault
 returns-3 c = simp (← c .before .before .before .none-missing .ensures, c .before .before .if1 .taken, ← c .before .last-var .ensures, c .if2 .left)
 
 returns-4 : tie.Need-returns-4
-unfolding classFault pick
+unfolding classFault
 returns-4 c = simp (← c .before .none-missing .ensures, c .if1 .left)
 
 pub class-fault-spec : {M : Type 1} → statement M

@@ -1,5 +1,4 @@
 -- `text::fields::fault_of` meets its contract: form, then the number, then the list. Assumes nothing.
-use Rattle.grammar.specs.Fields.{pick}
 use Rattle.text.specs.Machine.{fault}
 use borrow.Author.Needs.{needs}
 use borrow.Author.Tests.{eq-eqb, ne-eqb}
@@ -7,15 +6,15 @@ use Rattle.text.proofs.fields.fault_of.Statement.{statement}
 use Rattle.text.proofs.fields.fault_of.Tie as tie
 
 returns : tie.Need-returns
-unfolding fault pick
+unfolding fault
 returns c = simp (eq-eqb _ _ (c .if1 .taken))
 
 returns-2 : tie.Need-returns-2
-unfolding fault pick
+unfolding fault
 returns-2 c = simp (ne-eqb _ _ (c .before .before .before .before .if1 .left), ← c .before .before .before .judge .ensures, eq-eqb _ _ (c .before .before .if2 .taken), ← c .before .note .ensures) (c .before-byte .ensures)
 
 returns-3 : tie.Need-returns-3
-unfolding fault pick
+unfolding fault
 returns-3 c = simp (ne-eqb _ _ (c .before .before .if1 .left), ← c .before .judge .ensures, ne-eqb _ _ (c .if2 .left))
 
 pub fault-of-spec : {M : Type 1} → statement M

@@ -1,5 +1,4 @@
 -- `text::fields::in_range` meets its contract: between the two. Assumes nothing.
-use Rattle.grammar.specs.Fields.{pick}
 use Rattle.text.specs.Machine.{inRange}
 use borrow.Author.Needs.{needs}
 use borrow.Author.Tests.{le-leb, lt-leb}
@@ -7,11 +6,11 @@ use Rattle.text.proofs.fields.in_range.Statement.{statement}
 use Rattle.text.proofs.fields.in_range.Tie as tie
 
 returns : tie.Need-returns
-unfolding inRange pick
+unfolding inRange
 returns c = simp (← c .before .before .before .before .least-of .ensures, le-leb _ _ (c .before .before .if1 .taken), ← c .before .limit-of .ensures)
 
 returns-2 : tie.Need-returns-2
-unfolding inRange pick
+unfolding inRange
 returns-2 c = simp (← c .before .before .least-of .ensures, lt-leb _ _ (c .if1 .left))
 
 pub in-range-spec : {M : Type 1} → statement M

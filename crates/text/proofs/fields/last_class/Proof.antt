@@ -1,5 +1,4 @@
 -- `text::fields::last_class` meets its contract: of a class, by its place in the row. Assumes nothing.
-use Rattle.grammar.specs.Fields.{pick}
 use Rattle.text.specs.Machine.{lastClass}
 use borrow.Author.Needs.{needs}
 use borrow.Author.Tests.{eq-eqb, ne-eqb}
@@ -7,11 +6,11 @@ use Rattle.text.proofs.fields.last_class.Statement.{statement}
 use Rattle.text.proofs.fields.last_class.Tie as tie
 
 returns : tie.Need-returns
-unfolding lastClass pick
+unfolding lastClass
 returns c = simp (eq-eqb _ _ (c .before .before .if1 .taken), ← c .before .one-more .ensures, ← c .values-of .ensures)
 
 returns-2 : tie.Need-returns-2
-unfolding lastClass pick
+unfolding lastClass
 returns-2 c = simp (ne-eqb _ _ (c .if1 .left))
 
 pub last-class-spec : {M : Type 1} → statement M

@@ -1,5 +1,4 @@
 -- `text::fields::limit_of` meets its contract: by what the table says. Assumes nothing.
-use Rattle.grammar.specs.Fields.{pick}
 use Rattle.text.specs.Machine.{limit}
 use borrow.Author.Needs.{needs}
 use borrow.Author.Tests.{eq-eqb, ne-eqb}
@@ -7,15 +6,15 @@ use Rattle.text.proofs.fields.limit_of.Statement.{statement}
 use Rattle.text.proofs.fields.limit_of.Tie as tie
 
 returns : tie.Need-returns
-unfolding limit pick
+unfolding limit
 returns c = simp (← c .before .before .bound-of .ensures, eq-eqb _ _ (c .before .if1 .taken)) (c .values-of .ensures)
 
 returns-2 : tie.Need-returns-2
-unfolding limit pick
+unfolding limit
 returns-2 c = simp (← c .before .before .bound-of .ensures, ne-eqb _ _ (c .before .if1 .left), eq-eqb _ _ (c .if2 .taken))
 
 returns-3 : tie.Need-returns-3
-unfolding limit pick
+unfolding limit
 returns-3 c = simp (← c .before .before .bound-of .ensures, ne-eqb _ _ (c .before .if1 .left), ne-eqb _ _ (c .if2 .left))
 
 pub limit-of-spec : {M : Type 1} → statement M

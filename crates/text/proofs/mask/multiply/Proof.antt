@@ -1,6 +1,5 @@
 -- `text::mask::multiply` meets its contract: a small first factor, so that the product fits. Assumes nothing.
 use Rattle.text.proofs.Laws.{small-product}
-use Rattle.grammar.specs.Fields.{pick}
 use Rattle.text.specs.Machine.{times}
 use borrow.Author.Needs.{needs}
 use borrow.Author.Tests.{le-ltb, lt-ltb}
@@ -9,18 +8,18 @@ use Rattle.text.proofs.mask.multiply.Statement.{statement}
 use Rattle.text.proofs.mask.multiply.Tie as tie
 
 returns : tie.Need-returns
-unfolding times pick
+unfolding times
 returns c = simp (lt-ltb _ _ (c .if1 .taken))
 
 mul-x : tie.Need-mul-x
 mul-x c = let h = small-product (c .before .before .before .args .p) (c .before .before .before .args .n) (c .before .before .if1 .left) (omega arith) in simp (c .before .wide .ensures, c .wide2 .ensures) (omega arith)
 
 returns-2 : tie.Need-returns-2
-unfolding times pick
+unfolding times
 returns-2 c = simp (le-ltb _ _ (c .before .before .before .if1 .left), ← c .before .before .wide .ensures, ← c .before .wide2 .ensures) (omega arith)
 
 returns-3 : tie.Need-returns-3
-unfolding times pick
+unfolding times
 returns-3 c = simp (le-ltb _ _ (c .before .before .before .if1 .left), ← c .before .before .wide .ensures, ← c .before .wide2 .ensures) (omega arith)
 
 pub multiply-spec : {M : Type 1} → statement M

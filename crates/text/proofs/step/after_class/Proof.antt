@@ -1,20 +1,19 @@
 -- `text::step::after_class` meets its contract: within a list, between two lists, after the last. Assumes nothing.
-use Rattle.grammar.specs.Fields.{pick}
 use Rattle.text.specs.Machine.{afterClass}
 use borrow.Author.Needs.{needs}
 use Rattle.text.proofs.step.after_class.Statement.{statement}
 use Rattle.text.proofs.step.after_class.Tie as tie
 
 returns : tie.Need-returns
-unfolding afterClass pick
+unfolding afterClass
 returns c = simp (← c .before .before .before .before .last-class .ensures, c .before .before .before .if1 .taken, ← c .before .before .last-var .ensures, c .before .if2 .taken) (c .end-line .ensures)
 
 returns-2 : tie.Need-returns-2
-unfolding afterClass pick
+unfolding afterClass
 returns-2 c = simp (← c .before .before .before .before .before .before .before .before .last-class .ensures, c .before .before .before .before .before .before .before .if1 .taken, ← c .before .before .before .before .before .before .last-var .ensures, c .before .before .before .before .before .if2 .left, ← c .before .before .before .before .width-of .ensures, ← c .before .before .before .multiply .ensures, ← c .before .before .one-more .ensures, ← c .before .await-number .ensures) (c .expect .ensures)
 
 returns-3 : tie.Need-returns-3
-unfolding afterClass pick
+unfolding afterClass
 returns-3 c = simp (← c .before .before .before .before .last-class .ensures, c .before .before .before .if1 .left, ← c .before .before .one-more2 .ensures, ← c .before .await-number2 .ensures) (c .expect2 .ensures)
 
 pub after-class-spec : {M : Type 1} → statement M

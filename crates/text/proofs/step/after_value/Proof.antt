@@ -1,5 +1,4 @@
 -- `text::step::after_value` meets its contract: a comma, or the end of the list. Assumes nothing.
-use Rattle.grammar.specs.Fields.{pick}
 use Rattle.text.specs.Machine.{afterValue}
 use borrow.Author.Needs.{needs}
 use borrow.Author.Tests.{eq-eqb, ne-eqb}
@@ -7,11 +6,11 @@ use Rattle.text.proofs.step.after_value.Statement.{statement}
 use Rattle.text.proofs.step.after_value.Tie as tie
 
 returns : tie.Need-returns
-unfolding afterValue pick
+unfolding afterValue
 returns c = simp (eq-eqb _ _ (c .before .before .before .if1 .taken), ← c .before .before .field-before .ensures, ← c .before .one-more .ensures) (c .await-number .ensures)
 
 returns-2 : tie.Need-returns-2
-unfolding afterValue pick
+unfolding afterValue
 returns-2 c = simp (ne-eqb _ _ (c .before .if1 .left)) (c .list-end .ensures)
 
 pub after-value-spec : {M : Type 1} → statement M

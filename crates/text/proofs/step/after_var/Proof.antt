@@ -1,16 +1,15 @@
 -- `text::step::after_var` meets its contract: within a row, and after it. Assumes nothing.
-use Rattle.grammar.specs.Fields.{pick}
 use Rattle.text.specs.Machine.{afterVar}
 use borrow.Author.Needs.{needs}
 use Rattle.text.proofs.step.after_var.Statement.{statement}
 use Rattle.text.proofs.step.after_var.Tie as tie
 
 returns : tie.Need-returns
-unfolding afterVar pick
+unfolding afterVar
 returns c = simp (← c .before .before .last-var .ensures, c .before .if1 .taken) (c .end-line .ensures)
 
 returns-2 : tie.Need-returns-2
-unfolding afterVar pick
+unfolding afterVar
 returns-2 c = simp (← c .before .before .before .before .last-var .ensures, c .before .before .before .if1 .left, ← c .before .before .one-more .ensures, ← c .before .await-number .ensures) (c .expect .ensures)
 
 pub after-var-spec : {M : Type 1} → statement M

@@ -1,20 +1,19 @@
 -- `text::step::at_number` meets its contract: a digit, a dash, or the end of the run. Assumes nothing.
-use Rattle.grammar.specs.Fields.{pick}
 use Rattle.text.specs.Machine.{atNumber}
 use borrow.Author.Needs.{needs}
 use Rattle.text.proofs.step.at_number.Statement.{statement}
 use Rattle.text.proofs.step.at_number.Tie as tie
 
 returns : tie.Need-returns
-unfolding atNumber pick
+unfolding atNumber
 returns c = simp (← c .before .before .before .is-digit .ensures, c .before .before .if1 .taken, ← c .before .digit-of .ensures, c .add-digit .ensures)
 
 returns-2 : tie.Need-returns-2
-unfolding atNumber pick
+unfolding atNumber
 returns-2 c = simp (← c .before .before .before .before .is-digit .ensures, c .before .before .before .if1 .left, ← c .before .before .dash-here .ensures, c .before .if2 .taken, c .take-dash .ensures)
 
 returns-3 : tie.Need-returns-3
-unfolding atNumber pick
+unfolding atNumber
 returns-3 c = simp (← c .before .before .before .before .before .before .before .is-digit .ensures, c .before .before .before .before .before .before .if1 .left, ← c .before .before .before .before .before .dash-here .ensures, c .before .before .before .before .if2 .left) (c .before .before .close-run .ensures)
 
 pub at-number-spec : {M : Type 1} → statement M

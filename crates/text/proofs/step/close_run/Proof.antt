@@ -1,5 +1,4 @@
 -- `text::step::close_run` meets its contract: the fault, or the number kept and the byte judged. Assumes nothing.
-use Rattle.grammar.specs.Fields.{pick}
 use Rattle.text.specs.Machine.{closed}
 use borrow.Author.Needs.{needs}
 use borrow.Author.Tests.{eq-eqb, ne-eqb}
@@ -7,11 +6,11 @@ use Rattle.text.proofs.step.close_run.Statement.{statement}
 use Rattle.text.proofs.step.close_run.Tie as tie
 
 returns : tie.Need-returns
-unfolding closed pick
+unfolding closed
 returns c = simp (← c .before .before .before .before .before .before .before .before .fault-of .ensures, eq-eqb _ _ (c .before .before .before .before .before .before .before .if1 .taken), ← c .before .before .before .before .before .before .note .ensures, c .before .before .before .before .after-number .ensures, c .before .before .store .ensures)
 
 returns-2 : tie.Need-returns-2
-unfolding closed pick
+unfolding closed
 returns-2 c = simp (← c .before .before .fault-of .ensures, ne-eqb _ _ (c .before .if1 .left), c .stop .ensures)
 
 pub close-run-spec : {M : Type 1} → statement M

@@ -1,5 +1,4 @@
 -- `text::step::in_key` meets its contract: the keyword's own byte, and its last. Assumes nothing.
-use Rattle.grammar.specs.Fields.{pick}
 use Rattle.text.specs.Machine.{inKey}
 use borrow.Author.Needs.{needs}
 use borrow.Author.Tests.{eq-eqb, ne-eqb}
@@ -7,15 +6,15 @@ use Rattle.text.proofs.step.in_key.Statement.{statement}
 use Rattle.text.proofs.step.in_key.Tie as tie
 
 returns : tie.Need-returns
-unfolding inKey pick
+unfolding inKey
 returns c = simp (← c .before .before .key-byte .ensures, ne-eqb _ _ (c .before .if1 .taken)) (c .stop .ensures)
 
 returns-2 : tie.Need-returns-2
-unfolding inKey pick
+unfolding inKey
 returns-2 c = simp (← c .before .before .before .key-byte .ensures, eq-eqb _ _ (c .before .before .if1 .left), eq-eqb _ _ (c .before .if2 .taken)) (c .open-line .ensures)
 
 returns-3 : tie.Need-returns-3
-unfolding inKey pick
+unfolding inKey
 returns-3 c = simp (← c .before .before .before .key-byte .ensures, eq-eqb _ _ (c .before .before .if1 .left), ne-eqb _ _ (c .before .if2 .left)) (c .next-key .ensures)
 
 pub in-key-spec : {M : Type 1} → statement M

@@ -1,15 +1,15 @@
 -- `text::step::is_digit` meets its contract: between the two. Assumes nothing.
-use Rattle.grammar.specs.Fields.{isDigit, pick}
+use Rattle.grammar.specs.Fields.{isDigit}
 use borrow.Author.Tests.{le-leb, lt-leb}
 use Rattle.text.proofs.step.is_digit.Statement.{statement}
 use Rattle.text.proofs.step.is_digit.Tie as tie
 
 returns : tie.Need-returns
-unfolding isDigit pick
+unfolding isDigit
 returns c = simp (le-leb _ _ (c .if1 .taken))
 
 returns-2 : tie.Need-returns-2
-unfolding isDigit pick
+unfolding isDigit
 returns-2 c = simp (lt-leb _ _ (c .if1 .left))
 
 pub is-digit-spec : {M : Type 1} → statement M

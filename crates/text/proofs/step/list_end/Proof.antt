@@ -1,5 +1,4 @@
 -- `text::step::list_end` meets its contract: by the list. Assumes nothing.
-use Rattle.grammar.specs.Fields.{pick}
 use Rattle.text.specs.Machine.{listEnd}
 use borrow.Author.Needs.{needs}
 use borrow.Author.Tests.{eq-eqb, ne-eqb}
@@ -7,11 +6,11 @@ use Rattle.text.proofs.step.list_end.Statement.{statement}
 use Rattle.text.proofs.step.list_end.Tie as tie
 
 returns : tie.Need-returns
-unfolding listEnd pick
+unfolding listEnd
 returns c = simp (← c .before .before .before .list-of .ensures, eq-eqb _ _ (c .before .before .if1 .taken), ← c .before .await-number .ensures) (c .expect .ensures)
 
 returns-2 : tie.Need-returns-2
-unfolding listEnd pick
+unfolding listEnd
 returns-2 c = simp (← c .before .before .list-of .ensures, ne-eqb _ _ (c .before .if1 .left)) (c .end-line .ensures)
 
 pub list-end-spec : {M : Type 1} → statement M

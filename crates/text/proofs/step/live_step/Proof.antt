@@ -1,5 +1,4 @@
 -- `text::step::live_step` meets its contract: by the part of the line. Assumes nothing.
-use Rattle.grammar.specs.Fields.{pick}
 use Rattle.text.specs.Machine.{live}
 use borrow.Author.Needs.{needs}
 use borrow.Author.Tests.{eq-eqb, ne-eqb}
@@ -7,19 +6,19 @@ use Rattle.text.proofs.step.live_step.Statement.{statement}
 use Rattle.text.proofs.step.live_step.Tie as tie
 
 returns : tie.Need-returns
-unfolding live pick
+unfolding live
 returns c = simp (eq-eqb _ _ (c .before .if1 .taken), c .in-key .ensures)
 
 returns-2 : tie.Need-returns-2
-unfolding live pick
+unfolding live
 returns-2 c = simp (ne-eqb _ _ (c .before .before .before .before .before .before .if1 .left), eq-eqb _ _ (c .before .before .before .before .if2 .taken)) (c .before .before .at-number .ensures)
 
 returns-3 : tie.Need-returns-3
-unfolding live pick
+unfolding live
 returns-3 c = simp (ne-eqb _ _ (c .before .before .before .before .before .if1 .left), ne-eqb _ _ (c .before .before .before .if2 .left), eq-eqb _ _ (c .before .if3 .taken), c .list-end .ensures)
 
 returns-4 : tie.Need-returns-4
-unfolding live pick
+unfolding live
 returns-4 c = simp (ne-eqb _ _ (c .before .before .before .before .before .before .if1 .left), ne-eqb _ _ (c .before .before .before .before .if2 .left), ne-eqb _ _ (c .before .before .if3 .left), ← c .before .take-dash .ensures, c .expect .ensures)
 
 pub live-step-spec : {M : Type 1} → statement M

@@ -1,15 +1,12 @@
 -- `text::step::nothing_read` meets its contract: two tests. Assumes nothing.
-use Rattle.grammar.specs.Fields.{pick}
 use borrow.Author.Tests.{eq-eqb, ne-eqb}
 use Rattle.text.proofs.step.nothing_read.Statement.{statement}
 use Rattle.text.proofs.step.nothing_read.Tie as tie
 
 returns : tie.Need-returns
-unfolding pick
 returns c = simp (eq-eqb _ _ (c .before .if1 .taken))
 
 returns-2 : tie.Need-returns-2
-unfolding pick
 returns-2 c = simp (ne-eqb _ _ (c .if1 .left))
 
 pub nothing-read-spec : {M : Type 1} → statement M

@@ -1,21 +1,17 @@
 -- `text::step::run_after` meets its contract: a first digit that is 0, and any other. Assumes nothing.
 use Prim.Native.Nat.{_+_}
-use Rattle.grammar.specs.Fields.{pick}
 use borrow.Author.Tests.{ne-eqb}
 use native.Mathlib.Omega.{arith}
 use Rattle.text.proofs.step.run_after.Statement.{statement}
 use Rattle.text.proofs.step.run_after.Tie as tie
 
 returns : tie.Need-returns
-unfolding pick
 returns c = simp (c .before .if1 .taken, c .if2 .taken)
 
 returns-2 : tie.Need-returns-2
-unfolding pick
 returns-2 c = simp (ne-eqb (c .before .before .args .r + c .before .before .args .d) 0 (λ z. c .if2 .left (omega arith)))
 
 returns-3 : tie.Need-returns-3
-unfolding pick
 returns-3 c = simp (ne-eqb (c .before .args .r + c .before .args .d) 0 (λ z. c .if1 .left (omega arith)))
 
 pub run-after-spec : {M : Type 1} → statement M

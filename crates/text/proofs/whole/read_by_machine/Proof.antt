@@ -1,5 +1,5 @@
 -- `text::whole::read_by_machine` meets its contract: a short table, a long text, or what the machine says. Assumes nothing.
-use Rattle.grammar.specs.Fields.{admitted, pick}
+use Rattle.grammar.specs.Fields.{admitted}
 use Rattle.text.specs.Machine.{St, areaRoom, done, feed, mk, readAll}
 use Rattle.text.specs.declared.Ctrl.{Ctrl}
 use borrow.Author.Needs.{needs}
@@ -10,23 +10,23 @@ use Rattle.text.proofs.whole.read_by_machine.Statement.{statement}
 use Rattle.text.proofs.whole.read_by_machine.Tie as tie
 
 returns : tie.Need-returns
-unfolding readAll admitted pick
+unfolding readAll admitted
 returns c = simp (lt-ltb _ _ (c .if1 .taken))
 
 returns-2 : tie.Need-returns-2
-unfolding readAll admitted pick
+unfolding readAll admitted
 returns-2 c = simp (le-ltb _ _ (c .before .if1 .left), lt-ltb _ _ (c .if2 .taken))
 
 returns-3 : tie.Need-returns-3
-unfolding readAll admitted pick
+unfolding readAll admitted
 returns-3 c = simp (le-ltb _ _ (c .before .before .if1 .left), le-ltb _ _ (c .before .if2 .left), lt-ltb _ _ (c .if3 .taken))
 
 returns-4 : tie.Need-returns-4
-unfolding readAll admitted pick
+unfolding readAll admitted
 returns-4 c = simp (le-ltb _ _ (c .before .before .before .if1 .left), le-ltb _ _ (c .before .before .if2 .left), le-ltb _ _ (c .before .if3 .left), lt-ltb _ _ (c .if4 .taken))
 
 returns-5 : tie.Need-returns-5
-unfolding readAll admitted pick
+unfolding readAll admitted
 returns-5 c = simp (le-ltb _ _ (c .before .before .before .before .before .before .before .before .before .before .before .before .before .before .before .before .before .before .if1 .left), le-ltb _ _ (c .before .before .before .before .before .before .before .before .before .before .before .before .before .before .before .before .before .if2 .left), le-ltb _ _ (c .before .before .before .before .before .before .before .before .before .before .before .before .before .before .before .before .if3 .left), le-ltb _ _ (c .before .before .before .before .before .before .before .before .before .before .before .before .before .before .before .if4 .left)) (c .before .before .before .before .before .before .finish .ensures ∙ ap (λ (x : St). done x (c .before .before .before .before .before .before .before .before .before .before .before .before .before .before .before .before .before .before .before .before .before .before .before .args .facts .now) (c .before .before .before .before .before .before .before .before .before .before .before .before .before .before .before .before .before .before .before .before .before .before .before .args .costs .now) (c .before .before .before .before .before .before .before .before .before .before .before .before .before .before .before .before .before .before .before .before .before .before .before .args .shares .now)) (c .before .before .before .before .before .before .before .before .before .before .before .before .feed-piece .ensures ∙ ap (λ (k : Ctrl). feed (mk k (replicate areaRoom 0)) (c .before .before .before .before .before .before .before .before .before .before .before .before .before .before .before .before .before .before .before .before .before .before .before .args .text .now)) (c .before .before .before .before .before .before .before .before .before .before .before .before .before .before .start-of-text .ensures)))
 
 pub read-by-machine-spec : {M : Type 1} → statement M
