@@ -200,3 +200,42 @@ pub fn edits() -> Vec<Vector> {
     vectors.extend(damages());
     vectors
 }
+
+/// Small texts, whole or cut where something is due: what each is told first. Those that begin with `~` begin with the
+/// first five lines of case A, those with `~~` with its operators too.
+const SMALL: &[&str] = &[
+    "~ops=1\nop=0;-;-\nmaps=1\nmap=0,0/0,0,0/0,0,0\nshare=0\n",
+    "~ops=0\nmaps=1\nmap=0,0/0,0,0/0,0,0\nshare=-\n",
+    "~ops=0\nmaps=1\nmap=0,0/0,0,0/0,0,0\nshare=0\n",
+    "~~maps=1\nmap=0,1/0,2,2",
+    "~~maps=1\nmap=0,1/0,1,3",
+    "~ops=1\nop=1000000;-;-\nmaps=",
+    "~ops=1\nop=1000001;-;-\nmaps=",
+    "~ops=65",
+    "~ops=64",
+    "edition=1\nvars=123456789012345678901234567890123456789012345678901234567890",
+    "edition=01",
+    "edition=2\n",
+    "edition=1\nvars=3\ndom=2,3,3\ninit=0,0,0\ngoal=1:1,1",
+    "edition=1\nvars=3\ndom=2,3,3\ninit=0,0,0\ngoal=1:1,3",
+    "edition=1\nvars=3\ndom=2,3,3\ninit=0,0,0\ngoal=1:3,0",
+    "edition=1\nvars=3\ndom=2,3,3\ninit=0,0,0\ngoal=0:0,1:0,2:0,2",
+    "edition=1\nvars=3\ndom=2,3,3\ninit=0,0,0\ngoal=1:1-",
+    "edition=1\nvars=3\ndom=2,3,3\ninit=0,0,0\ngoal=-1:1",
+];
+
+/// One variable more of 8 classes each, of which the last has so many classes: 4,096 abstract states and more.
+fn wide_map(last: &str, rest: &str) -> String {
+    let eight = "0,1,2,3,4,5,6,7/".repeat(4);
+    format!("edition=1\nvars=5\ndom=8,8,8,8,8\ninit=0,0,0,0,0\ngoal=-\nops=0\nmaps=1\nmap={}{}{}", eight, last, rest)
+}
+
+/// Read one after another. They come after all other vectors, so that those keep their numbers.
+pub fn small() -> Vector {
+    let lines = |count: usize| A.split_inclusive('\n').take(count).collect::<String>();
+    let mut texts: Vec<String> = SMALL.iter().map(|text| text.replacen("~~", &lines(10), 1).replacen('~', &lines(5), 1)).collect();
+    texts.push(wide_map("0,0,0,0,0,0,0,1", ""));
+    texts.push(wide_map("0,0,0,0,0,0,0,0", "\nshare=-\n"));
+    let vector = Vector::new("small texts, whole or cut where something is due").dirty();
+    texts.iter().fold(vector, |vector, text| vector.text(text.as_bytes()).lines("R; q"))
+}

@@ -35,7 +35,7 @@ fn input() -> Vec<u8> {
     bytes
 }
 
-/// The cases by name, then vectors by chance, as many as are asked for.
+/// The cases by name, then vectors by chance, as many as are asked for; and the small texts last.
 fn vectors(seed: u64, count: usize) -> Vec<u8> {
     let mut vectors = cases::bench();
     vectors.extend(edges::edges());
@@ -45,6 +45,7 @@ fn vectors(seed: u64, count: usize) -> Vec<u8> {
         vectors.push(kinds::by_chance(&mut rng, i));
     }
     vectors.truncate(count);
+    vectors.push(edits::small());
     builder::script_of(&vectors)
 }
 
