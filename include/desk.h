@@ -1,22 +1,36 @@
 /* desk.h: the sequence desk for C.
  *
- * Every function here is proved: whatever is handed in, it answers, as document and contract say, and a refusal alters nothing that was lent
- * (crates/desk_c/src/lib.rt has the contracts, docs/PROMISES.md the map of what is shown). Link with libdesk_c.a, which `rt staticlib desk_c`
- * writes to target/staticlib/; it is for x86-64 Linux. The functions keep nothing between calls, allocate nothing and may be called from any thread.
+ * PROVED are the ten functions that are declared here without a body, desk_read to desk_offer: whatever is handed in,
+ * each answers as its contract says, and a refusal alters nothing that was lent (crates/desk_c/src/lib.rt has the
+ * contracts, docs/PROMISES.md the map of what is shown). NOT PROVED is what is C: that they are declared here as they
+ * are exported, and the seven helpers with a body: desk_kind, desk_number and desk_is_refusal, which take an answer
+ * apart, and desk_run_steps, desk_run_op, desk_run_paid and desk_run_unshared, which look into a run. bindings/test
+ * tries them.
  *
- * What is lent is a pointer and a length, counted in places (bytes or words) and not in bytes. The length is what is trusted, so it must not be more
- * than what the pointer has; with a length of 0 the pointer is not looked at. No two lent parts may overlap, unless both are only read. A part that is longer
- * than needed is fine; what is beyond is neither read nor written, except by desk_read, which sets what is beyond in the three tables to 0.
- * A part that is shorter than needed is refusal 8 at place 0, and nothing else happens; desk_opening alone never refuses, and answers the empty part then.
+ * Link with libdesk_c.a, which `rt staticlib desk_c` writes to target/staticlib/; it is for x86-64 Linux. The
+ * functions keep nothing between calls, allocate nothing and may be called from any thread.
  *
- * A TASK is lent as three counts (variables, operators, maps) and three tables: facts (DESK_FACTS bytes at least), costs (DESK_COSTS words at least) and
- * shares (DESK_SHARES words at least). desk_read fills them from a text; crates/tables/specs/Layout.antt says where each number stands. Each function
- * judges the tables afresh, so nobody has to have checked them. Variables, values, operators and maps count from 0, lines and steps from 1.
+ * What is lent is a pointer and a length, counted in places (bytes or words) and not in bytes. The length is what is
+ * trusted, so it must not be more than what the pointer has; with a length of 0 the pointer is not looked at. No two
+ * lent parts may overlap, unless both are only read. A part that is longer than needed is fine; what is beyond is
+ * neither read nor written, except by desk_read, which sets what is beyond in the three tables to 0. A part that is
+ * shorter than needed is refusal 8 at place 0, and nothing else happens; desk_opening alone never refuses, and
+ * answers the empty part then.
  *
- * A STATE is lent as one byte a variable, its value; further bytes aren't read. A LIST OF STEPS is lent as the numbers of its operators.
+ * A TASK is lent as three counts (variables, operators, maps) and three tables: facts (DESK_FACTS bytes at least),
+ * costs (DESK_COSTS words at least) and shares (DESK_SHARES words at least). desk_read fills them from a text;
+ * crates/tables/specs/Layout.antt says where each number stands. Each function judges the tables afresh, so nobody
+ * has to have checked them. Variables, values, operators and maps count from 0, lines and steps from 1.
  *
- * A RUN is lent as DESK_RUN_BYTES bytes (its start and its state now, 8 places each) and DESK_RUN_WORDS words (DESK_STEPS places for the operators of its steps,
- * the number of steps, what each of 8 maps was paid, and what is unshared). Any contents may be handed in: those that no offers could have left are refusal 17.
+ * A STATE is lent as one byte a variable, its value; further bytes aren't read. The task's INITIAL STATE stands in
+ * its facts like that, in places 8 to 15: `facts + DESK_INITIAL` is lent as it is, with the number of variables as
+ * its length (it overlaps the facts, but both are only read). A LIST OF STEPS is lent as the numbers of its
+ * operators.
+ *
+ * A RUN is lent as DESK_RUN_BYTES bytes (its start, and from DESK_RUN_NOW on its state now, 8 places each) and
+ * DESK_RUN_WORDS words (DESK_STEPS places for the operators of its steps, the number of steps, what each of DESK_MAPS
+ * maps was paid, and what is unshared). Any contents may be handed in: those that no offers could have left are
+ * refusal 17.
  */
 #ifndef DESK_H
 #define DESK_H
@@ -34,15 +48,26 @@ extern "C" {
 #define DESK_COSTS 64
 #define DESK_SHARES 512
 #define DESK_DISTANCES 4096
-#define DESK_STEPS 256
 #define DESK_RUN_BYTES 16
-#define DESK_RUN_WORDS (DESK_STEPS + 10)
+#define DESK_RUN_WORDS (DESK_STEPS + 1 + DESK_MAPS + 1)
+
+/* The most steps of a list or a run, and the most maps of a task. */
+#define DESK_STEPS 256
+#define DESK_MAPS 8
+
+/* Where the initial state begins in a task's facts, and the state now in a run's bytes. */
+#define DESK_INITIAL 8
+#define DESK_RUN_NOW 8
 
 /* In a table of distances: none. */
 #define DESK_NO_DISTANCE UINT32_C(4294967295)
 
-/* AN ANSWER is one word: a kind, and a number above it. A kind from 1 to 127 is a refusal: the kind is its number on the list (docs/REFUSALS.md), and the number
- * above it is its place: a line of the text, a variable, a step, a length, or 0. */
+/* The operator of a step that a run doesn't have; no task has an operator of that number. */
+#define DESK_NO_OPERATOR UINT32_C(4294967295)
+
+/* AN ANSWER is one word: a kind, and a number above it. A kind from 1 to 127 is a refusal: the kind is its number on
+ * the list (docs/REFUSALS.md), and the number above it is its place: a line of the text, a variable, a step, a
+ * length, or 0. */
 typedef uint64_t desk_word;
 
 enum {
@@ -59,73 +84,110 @@ static inline uint64_t desk_number(desk_word w) { return w >> 8; }
 static inline int desk_is_refusal(desk_word w) { return desk_kind(w) >= 1 && desk_kind(w) < DESK_NONE; }
 
 /* READS a task text of any bytes into the lent counts and tables.
- * DESK_DONE: counts has the numbers of variables, operators and maps; the tables hold the task's numbers, and 0 in every place beyond.
- * Refusals: 8 (counts, then a table, too short), 1 (text above 16,384 bytes), then 2 to 7 as the text has them, at their line. Nothing lent is altered. */
-desk_word desk_read(const uint8_t *text, size_t text_len, uint32_t *counts, size_t counts_len, uint8_t *facts, size_t facts_len,
-                    uint32_t *costs, size_t costs_len, uint32_t *shares, size_t shares_len);
+ * DESK_DONE: counts has the numbers of variables, operators and maps; the tables hold the task's numbers, and 0 in
+ * every place beyond.
+ * Refusals: 8 (counts, then a table, too short), 1 (text above 16,384 bytes), then 2 to 7 as the text has them, at
+ * their line. Nothing lent is altered. */
+desk_word desk_read(const uint8_t *text, size_t text_len, uint32_t *counts, size_t counts_len, uint8_t *facts,
+                    size_t facts_len, uint32_t *costs, size_t costs_len, uint32_t *shares, size_t shares_len);
 
-/* CHECKS the lent tables by the rules of the text. DESK_DONE: they are a task's. Refusals: 8, then 3, 5, 6 and 7, at the line that the same
- * task's text would have. (2 and 4 are about text alone.) Each function below refuses faulty tables with the same number and place, first of all but for
- * what else is lent too short and is said to come before. Nothing lent is written. */
-desk_word desk_check(uint32_t vars, uint32_t ops, uint32_t maps, const uint8_t *facts, size_t facts_len, const uint32_t *costs,
-                     size_t costs_len, const uint32_t *shares, size_t shares_len);
+/* CHECKS the lent tables by the rules of the text. DESK_DONE: they are a task's. Refusals: 8, then 3, 5, 6 and 7, at
+ * the line that the same task's text would have. (2 and 4 are about text alone.) Each function below refuses faulty
+ * tables with the same number and place, first of all but for what else is lent too short and is said to come before.
+ * Nothing lent is written. */
+desk_word desk_check(uint32_t vars, uint32_t ops, uint32_t maps, const uint8_t *facts, size_t facts_len,
+                     const uint32_t *costs, size_t costs_len, const uint32_t *shares, size_t shares_len);
 
-/* The DISTANCES of a map at all its abstract states, into out (DESK_DISTANCES places at least): the least total share of any sequence from there to a goal
- * of the map's view, or DESK_NO_DISTANCE. DESK_DONE with the number of rounds; places of out beyond the map's abstract states are as they were.
+/* The DISTANCES of a map at all its abstract states, into out (DESK_DISTANCES places at least): the least total share
+ * of any sequence from there to a goal of the map's view, or DESK_NO_DISTANCE. DESK_DONE with the number of rounds;
+ * places of out beyond the map's abstract states are as they were.
  * Refusals: 8 (out first), faulty tables, 3 at place 0 (no such map). Then out is as it was. */
-desk_word desk_distances(uint32_t vars, uint32_t ops, uint32_t maps, const uint8_t *facts, size_t facts_len, const uint32_t *costs,
-                         size_t costs_len, const uint32_t *shares, size_t shares_len, uint32_t map, uint32_t *out, size_t out_len);
+desk_word desk_distances(uint32_t vars, uint32_t ops, uint32_t maps, const uint8_t *facts, size_t facts_len,
+                         const uint32_t *costs, size_t costs_len, const uint32_t *shares, size_t shares_len,
+                         uint32_t map, uint32_t *out, size_t out_len);
 
 /* The DISTANCE of a state's image in one map. DESK_DONE with the distance in seconds; DESK_NONE.
- * Refusals: faulty tables, 3 at place 0 (no such map), 8 (state too short), 9 (a value outside its variable) at the lowest such variable. */
-desk_word desk_distance_at(uint32_t vars, uint32_t ops, uint32_t maps, const uint8_t *facts, size_t facts_len, const uint32_t *costs,
-                           size_t costs_len, const uint32_t *shares, size_t shares_len, uint32_t map, const uint8_t *state,
-                           size_t state_len);
+ * Refusals: faulty tables, 3 at place 0 (no such map), 8 (state too short), 9 (a value outside its variable) at the
+ * lowest such variable. */
+desk_word desk_distance_at(uint32_t vars, uint32_t ops, uint32_t maps, const uint8_t *facts, size_t facts_len,
+                           const uint32_t *costs, size_t costs_len, const uint32_t *shares, size_t shares_len,
+                           uint32_t map, const uint8_t *state, size_t state_len);
 
-/* The summed BOUND of a state: at most the cost of every sequence from there to the goal, of any length. DESK_DONE with the sum in seconds;
- * DESK_NONE if every map says none, and then there is no such sequence. Refusals: faulty tables, 8 (state too short), 9. */
-desk_word desk_bound(uint32_t vars, uint32_t ops, uint32_t maps, const uint8_t *facts, size_t facts_len, const uint32_t *costs,
-                     size_t costs_len, const uint32_t *shares, size_t shares_len, const uint8_t *state, size_t state_len);
+/* The summed BOUND of a state: at most the cost of every sequence from there to the goal, of any length. DESK_DONE
+ * with the sum in seconds; DESK_NONE if every map says none, and then there is no such sequence.
+ * Refusals: faulty tables, 8 (state too short), 9. */
+desk_word desk_bound(uint32_t vars, uint32_t ops, uint32_t maps, const uint8_t *facts, size_t facts_len,
+                     const uint32_t *costs, size_t costs_len, const uint32_t *shares, size_t shares_len,
+                     const uint8_t *state, size_t state_len);
 
 /* JUDGES a list of steps from a state. DESK_DONE with its cost: every step may run and the end meets the goal.
- * Refusals: faulty tables, 8 (state too short), 9, 11 (more than DESK_STEPS steps), then the steps in order: 10 (no such operator) or 12 (it may not run) at
- * the step; 16 (the end doesn't meet the goal) at the list's length. */
-desk_word desk_judge(uint32_t vars, uint32_t ops, uint32_t maps, const uint8_t *facts, size_t facts_len, const uint32_t *costs,
-                     size_t costs_len, const uint32_t *shares, size_t shares_len, const uint8_t *state, size_t state_len,
-                     const uint32_t *list, size_t list_len);
+ * Refusals: faulty tables, 8 (state too short), 9, 11 (more than DESK_STEPS steps), then the steps in order: 10 (no
+ * such operator) or 12 (it may not run) at the step; 16 (the end doesn't meet the goal) at the list's length. */
+desk_word desk_judge(uint32_t vars, uint32_t ops, uint32_t maps, const uint8_t *facts, size_t facts_len,
+                     const uint32_t *costs, size_t costs_len, const uint32_t *shares, size_t shares_len,
+                     const uint8_t *state, size_t state_len, const uint32_t *list, size_t list_len);
 
-/* The CHEAPER of two lists of steps from a state, each judged up to the first moment a goal holds. DESK_FIRST or DESK_SECOND with the cost of that opening part;
- * DESK_NEITHER if both are out (more than DESK_STEPS steps, faulty before that moment, or never at a goal). Equal costs name the first.
+/* The CHEAPER of two lists of steps from a state, each judged up to the first moment a goal holds. DESK_FIRST or
+ * DESK_SECOND with the cost of that opening part; DESK_NEITHER if both are out (more than DESK_STEPS steps, faulty
+ * before that moment, or never at a goal). Equal costs name the first.
  * Refusals: faulty tables, 8 (state too short), 9. */
-desk_word desk_cheaper(uint32_t vars, uint32_t ops, uint32_t maps, const uint8_t *facts, size_t facts_len, const uint32_t *costs,
-                       size_t costs_len, const uint32_t *shares, size_t shares_len, const uint8_t *state, size_t state_len,
-                       const uint32_t *a, size_t a_len, const uint32_t *b, size_t b_len);
+desk_word desk_cheaper(uint32_t vars, uint32_t ops, uint32_t maps, const uint8_t *facts, size_t facts_len,
+                       const uint32_t *costs, size_t costs_len, const uint32_t *shares, size_t shares_len,
+                       const uint8_t *state, size_t state_len, const uint32_t *a, size_t a_len, const uint32_t *b,
+                       size_t b_len);
 
-/* The OPENING PART of the cheaper list: DESK_FIRST or DESK_SECOND, the list that it is of, with the number of its steps from that list's start.
- * For neither, and for input that desk_cheaper refuses, the empty part of the first list: DESK_FIRST with 0. It refuses nothing. */
-desk_word desk_opening(uint32_t vars, uint32_t ops, uint32_t maps, const uint8_t *facts, size_t facts_len, const uint32_t *costs,
-                       size_t costs_len, const uint32_t *shares, size_t shares_len, const uint8_t *state, size_t state_len,
-                       const uint32_t *a, size_t a_len, const uint32_t *b, size_t b_len);
+/* The OPENING PART of the cheaper list: DESK_FIRST or DESK_SECOND, the list that it is of, with the number of its
+ * steps from that list's start. For neither, and for input that desk_cheaper refuses, the empty part of the first
+ * list: DESK_FIRST with 0. It refuses nothing. */
+desk_word desk_opening(uint32_t vars, uint32_t ops, uint32_t maps, const uint8_t *facts, size_t facts_len,
+                       const uint32_t *costs, size_t costs_len, const uint32_t *shares, size_t shares_len,
+                       const uint8_t *state, size_t state_len, const uint32_t *a, size_t a_len, const uint32_t *b,
+                       size_t b_len);
 
 /* BEGINS a run from a state. DESK_DONE: the lent run has that start, no steps and columns of 0.
- * Refusals: 8 (the run's bytes or words too short), faulty tables, 8 (start too short), 9. Then the lent run is as it was. */
-desk_word desk_begin(uint32_t vars, uint32_t ops, uint32_t maps, const uint8_t *facts, size_t facts_len, const uint32_t *costs,
-                     size_t costs_len, const uint32_t *shares, size_t shares_len, const uint8_t *start, size_t start_len,
-                     uint8_t *run_bytes, size_t run_bytes_len, uint32_t *run_words, size_t run_words_len);
+ * The start may not lie in the lent run, which is written over: to go on from where a run is, in its own memory, copy
+ * its state now first.
+ * Refusals: 8 (the run's bytes or words too short), faulty tables, 8 (start too short), 9. Then the lent run is as it
+ * was. */
+desk_word desk_begin(uint32_t vars, uint32_t ops, uint32_t maps, const uint8_t *facts, size_t facts_len,
+                     const uint32_t *costs, size_t costs_len, const uint32_t *shares, size_t shares_len,
+                     const uint8_t *start, size_t start_len, uint8_t *run_bytes, size_t run_bytes_len,
+                     uint32_t *run_words, size_t run_words_len);
 
-/* OFFERS a step to the lent run: its number and its operator. DESK_DONE: accepted; the run has the step, its shares and what is unshared are booked.
- * DESK_REPEATED: this step was accepted before with this operator; the run is as it was. It is safe to send a timed-out offer again.
- * Refusals: 8 (the run's bytes or words too short), faulty tables, 17 (no offers could have left such a run), and at the offer's number: 10 (no such operator), 13 (number 0 or
- * beyond the next), 14 (an old number with another operator), 15 (the run is full), 12 (the operator may not run now). Then the lent run is as it was. */
-desk_word desk_offer(uint32_t vars, uint32_t ops, uint32_t maps, const uint8_t *facts, size_t facts_len, const uint32_t *costs,
-                     size_t costs_len, const uint32_t *shares, size_t shares_len, uint8_t *run_bytes, size_t run_bytes_len,
-                     uint32_t *run_words, size_t run_words_len, uint32_t number, uint32_t op);
+/* OFFERS a step to the lent run: its number and its operator. DESK_DONE: accepted; the run has the step, its shares
+ * and what is unshared are booked. DESK_REPEATED: this step was accepted before with this operator; the run is as it
+ * was. It is safe to send a timed-out offer again.
+ * Refusals: 8 (the run's bytes or words too short), faulty tables, 17 (no offers could have left such a run), and at
+ * the offer's number: 10 (no such operator), 13 (number 0 or beyond the next), 14 (an old number with another
+ * operator), 15 (the run is full), 12 (the operator may not run now). Then the lent run is as it was. */
+desk_word desk_offer(uint32_t vars, uint32_t ops, uint32_t maps, const uint8_t *facts, size_t facts_len,
+                     const uint32_t *costs, size_t costs_len, const uint32_t *shares, size_t shares_len,
+                     uint8_t *run_bytes, size_t run_bytes_len, uint32_t *run_words, size_t run_words_len,
+                     uint32_t number, uint32_t op);
 
-/* What a lent run tells: its steps' number, the operator of step number (from 1), what map m was paid, and what is unshared. */
-static inline uint32_t desk_run_steps(const uint32_t *run_words) { return run_words[DESK_STEPS]; }
-static inline uint32_t desk_run_op(const uint32_t *run_words, uint32_t number) { return run_words[number - 1]; }
-static inline uint32_t desk_run_paid(const uint32_t *run_words, uint32_t map) { return run_words[DESK_STEPS + 1 + map]; }
-static inline uint32_t desk_run_unshared(const uint32_t *run_words) { return run_words[DESK_STEPS + 9]; }
+/* WHAT A RUN TELLS, of its DESK_RUN_WORDS words; they may have any contents. */
+
+/* The number of its steps; DESK_STEPS where the words say more, so that the words can always be lent as a list of so
+ * many steps. */
+static inline uint32_t desk_run_steps(const uint32_t *run_words)
+{
+    return run_words[DESK_STEPS] < DESK_STEPS ? run_words[DESK_STEPS] : DESK_STEPS;
+}
+
+/* The operator of a step, which counts from 1; DESK_NO_OPERATOR for 0 and for a number beyond the run's steps. */
+static inline uint32_t desk_run_op(const uint32_t *run_words, uint32_t number)
+{
+    return number >= 1 && number <= desk_run_steps(run_words) ? run_words[number - 1] : DESK_NO_OPERATOR;
+}
+
+/* What a map was paid; 0 for a number that no map has, DESK_MAPS or more. */
+static inline uint32_t desk_run_paid(const uint32_t *run_words, uint32_t map)
+{
+    return map < DESK_MAPS ? run_words[DESK_STEPS + 1 + map] : 0;
+}
+
+/* What no map was paid. */
+static inline uint32_t desk_run_unshared(const uint32_t *run_words) { return run_words[DESK_STEPS + 1 + DESK_MAPS]; }
 
 #ifdef __cplusplus
 }

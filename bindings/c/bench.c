@@ -2,7 +2,7 @@
  *
  *     bench TASK-FILE [OPERATOR ..]
  *
- * Ends with status 0, with 1 if the desk refused the task or a step, and with 2 if there is no such file or the words are off. */
+ * Ends with status 0, with 1 if the desk refused the task or a step, and with 2 if the file can't be read or the words are off. */
 #include <stdio.h>
 #include <stdlib.h>
 #include "desk.h"
@@ -18,7 +18,7 @@ struct task {
 /* The parameters that every function about a task begins with. */
 #define TASK(t) (t)->counts[0], (t)->counts[1], (t)->counts[2], (t)->facts, DESK_FACTS, (t)->costs, DESK_COSTS, (t)->shares, DESK_SHARES
 
-/* A run. The first 8 bytes are its start, the others its state now. */
+/* A run. Its bytes are its start and, from DESK_RUN_NOW on, its state now. */
 struct run {
     uint8_t bytes[DESK_RUN_BYTES];
     uint32_t words[DESK_RUN_WORDS];
@@ -54,7 +54,7 @@ static int offer(const struct task *t, struct run *r, uint32_t number, uint32_t 
     for (uint32_t m = 0; m < t->counts[2]; m++)
         printf(" %u", (unsigned)desk_run_paid(r->words, m));
     printf("\n");
-    tell_bound(t, r->bytes + 8);
+    tell_bound(t, r->bytes + DESK_RUN_NOW);
     return 0;
 }
 
@@ -73,12 +73,15 @@ int main(int argc, char **argv)
         return 2;
     }
     size_t n = fread(text, 1, sizeof text, f);
+    if (ferror(f)) { /* a folder, for one: it can be opened */
+        perror(argv[1]);
+        return 2;
+    }
     fclose(f);
     desk_word w = desk_read(text, n, t.counts, DESK_COUNTS, t.facts, DESK_FACTS, t.costs, DESK_COSTS, t.shares, DESK_SHARES);
     if (desk_is_refusal(w))
         return refused("read", w);
-    /* the initial state is the second row of the facts */
-    const uint8_t *init = t.facts + 8;
+    const uint8_t *init = t.facts + DESK_INITIAL;
     tell_bound(&t, init);
     w = desk_begin(TASK(&t), init, t.counts[0], RUN(&r));
     if (desk_is_refusal(w))

@@ -1,5 +1,6 @@
-/* Tests of the desk from C: each function on case A, what is lent too short (a length of 0 with a pointer that leads nowhere too), and that a refusal leaves lent memory as
- * it was. Ends with status 1 at the first that fails. Reads the text of case A from the file that is named. */
+/* Tests of the desk from C: each function on case A, what is lent too short (a length of 0 with a pointer that leads
+ * nowhere too), that a refusal leaves lent memory as it was, and what the helpers tell of any run. Ends with status 1
+ * at the first that fails. Reads the text of case A from the file that is named. */
 #include <stdio.h>
 #include <stdlib.h>
 #include <string.h>
@@ -69,6 +70,21 @@ static void reads(void)
     EXPECT(s[0] == 1 && s[64 + 1] == 1 && s[64 + 2] == 1 && s[128 + 3] == 1 && s[128] == 0);
     EXPECT(desk_read(text, text_len, counts, DESK_COUNTS, TABLES) == word(DESK_DONE, 0));
     EXPECT(memcmp(counts, n, sizeof n) == 0 && memcmp(facts, f, DESK_FACTS) == 0);
+}
+
+/* The initial state stands where the header says, and can be lent from there. */
+static void initial_state(void)
+{
+    static uint8_t other[sizeof text];
+    const uint8_t elsewhere[8] = {1, 2, 0};
+    memcpy(other, text, text_len);
+    char *line = strstr((char *)other, "init=0,0,0\n");
+    EXPECT(line != NULL);
+    memcpy(line, "init=1,2,0\n", 11);
+    EXPECT(desk_read(other, text_len, counts, DESK_COUNTS, TABLES) == word(DESK_DONE, 0));
+    EXPECT(memcmp(facts + DESK_INITIAL, elsewhere, 8) == 0);
+    EXPECT(desk_bound(TASK, facts + DESK_INITIAL, counts[0]) == word(DESK_DONE, 1));
+    EXPECT(desk_read(text, text_len, counts, DESK_COUNTS, TABLES) == word(DESK_DONE, 0));
 }
 
 static void checks(void)
@@ -169,7 +185,8 @@ static void runs(void)
     for (size_t i = 0; i < DESK_RUN_WORDS; i++)
         EXPECT(words[i] == 0);
     EXPECT(desk_offer(TASK, RUN, 1, 0) == word(DESK_DONE, 0));
-    EXPECT(desk_run_steps(words) == 1 && desk_run_op(words, 1) == 0 && bytes[8] == 1);
+    EXPECT(desk_run_steps(words) == 1 && desk_run_op(words, 1) == 0 && bytes[DESK_RUN_NOW] == 1);
+    EXPECT(desk_run_op(words, 0) == DESK_NO_OPERATOR && desk_run_op(words, 2) == DESK_NO_OPERATOR);
     EXPECT(desk_run_paid(words, 0) == 1 && desk_run_paid(words, 1) == 0 && desk_run_paid(words, 2) == 0 && desk_run_unshared(words) == 0);
     KEEP;
     EXPECT(desk_offer(TASK, RUN, 1, 0) == word(DESK_REPEATED, 0) && KEPT);
@@ -191,8 +208,38 @@ static void runs(void)
     EXPECT(desk_offer(TASK, RUN, 3, 2) == word(DESK_DONE, 0));
     EXPECT(desk_offer(TASK, RUN, 4, 3) == word(DESK_DONE, 0));
     EXPECT(desk_run_steps(words) == 4 && desk_run_paid(words, 0) == 1 && desk_run_paid(words, 1) == 2 && desk_run_paid(words, 2) == 1);
-    EXPECT(desk_bound(TASK, bytes + 8, 3) == word(DESK_DONE, 0));
+    EXPECT(desk_bound(TASK, bytes + DESK_RUN_NOW, 3) == word(DESK_DONE, 0));
     EXPECT(desk_judge(TASK, bytes, 3, words, desk_run_steps(words)) == word(DESK_DONE, 4));
+    uint8_t from[3]; /* another run in the same memory, from where this one is */
+    memcpy(from, bytes + DESK_RUN_NOW, sizeof from);
+    EXPECT(desk_begin(TASK, from, 3, RUN) == word(DESK_DONE, 0));
+    EXPECT(desk_run_steps(words) == 0 && memcmp(bytes, from, 3) == 0 && memcmp(bytes + DESK_RUN_NOW, from, 3) == 0);
+}
+
+/* What the helpers tell of a run's words, of any contents: nothing beyond its steps, its 8 maps and its words. */
+static void run_helpers(void)
+{
+    static uint32_t words[DESK_RUN_WORDS];
+    for (uint32_t i = 0; i < DESK_RUN_WORDS; i++)
+        words[i] = 1000 + i;
+    words[DESK_STEPS] = 3;
+    EXPECT(desk_run_steps(words) == 3);
+    EXPECT(desk_run_op(words, 1) == 1000 && desk_run_op(words, 3) == 1002);
+    EXPECT(desk_run_op(words, 0) == DESK_NO_OPERATOR && desk_run_op(words, 4) == DESK_NO_OPERATOR);
+    EXPECT(desk_run_op(words, DESK_STEPS + 1) == DESK_NO_OPERATOR);
+    EXPECT(desk_run_op(words, UINT32_MAX) == DESK_NO_OPERATOR);
+    EXPECT(desk_run_paid(words, 0) == 1000 + DESK_STEPS + 1 && desk_run_paid(words, 7) == 1000 + DESK_STEPS + 8);
+    EXPECT(desk_run_paid(words, 8) == 0 && desk_run_paid(words, 9) == 0 && desk_run_paid(words, UINT32_MAX) == 0);
+    EXPECT(desk_run_unshared(words) == 1000 + DESK_STEPS + 9);
+    words[DESK_STEPS] = 0;
+    EXPECT(desk_run_steps(words) == 0 && desk_run_op(words, 1) == DESK_NO_OPERATOR);
+    words[DESK_STEPS] = DESK_STEPS;
+    EXPECT(desk_run_steps(words) == DESK_STEPS && desk_run_op(words, DESK_STEPS) == 1000 + DESK_STEPS - 1);
+    const uint32_t more[3] = {DESK_STEPS + 1, DESK_RUN_WORDS, UINT32_MAX}; /* more than a run has places for */
+    for (int i = 0; i < 3; i++) {
+        words[DESK_STEPS] = more[i];
+        EXPECT(desk_run_steps(words) == DESK_STEPS && desk_run_op(words, DESK_STEPS + 1) == DESK_NO_OPERATOR);
+    }
 }
 
 /* Tables as they are lent, each with its length. */
@@ -260,11 +307,13 @@ int main(int argc, char **argv)
     text_len = fread(text, 1, sizeof text, f);
     fclose(f);
     reads();
+    initial_state();
     checks();
     distances();
     bounds();
     sequences();
     runs();
+    run_helpers();
     short_tables();
     printf("C: %d expectations hold\n", tried);
     return 0;

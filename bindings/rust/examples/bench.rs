@@ -2,7 +2,7 @@
 //!
 //!     bench TASK-FILE [OPERATOR ..]
 //!
-//! Ends with status 0, with 1 if the desk refused the task or a step, and with 2 if there is no such file or the words are off.
+//! Ends with status 0, with 1 if the desk refused the task or a step, and with 2 if the file can't be read or the words are off.
 use mihaedop::{Answer, Map, Operator, Refusal, State, Task};
 use std::{env, fs, process};
 

@@ -50,7 +50,7 @@ impl Run {
         Step(self.words[STEPS].saturating_add(1))
     }
 
-    /// The operators of the steps that were really run.
+    /// The operators of the steps that were really run; at most [`STEPS`], whatever was stored.
     pub fn log(&self) -> Vec<Operator> {
         let steps = usize::try_from(self.words[STEPS]).map_or(STEPS, |n| n.min(STEPS));
         self.words[..steps].iter().map(|&op| Operator(op)).collect()

@@ -55,6 +55,7 @@ fn reads_and_refuses_texts() {
     let a = task(A);
     assert_eq!(a.counts(), Counts { variables: 3, operators: 4, maps: 3 });
     assert_eq!(a.initial(), State::of(&[0, 0, 0]));
+    assert_eq!(task(&A.replace("init=0,0,0", "init=1,2,0")).initial(), State::of(&[1, 2, 0]));
     assert_eq!(refusal(Task::read(b"")), (2, 1));
     assert_eq!(refusal(Task::read(&[b'e'; 16385])), (1, 0));
     assert_eq!(refusal(Task::read(&[0xff; 16384])), (2, 1));
@@ -170,6 +171,24 @@ fn a_run_and_its_ledger() {
 }
 
 #[test]
+fn a_run_of_any_contents_tells_nothing_beyond_its_steps_and_maps() {
+    let mut words = [0; RUN_WORDS];
+    for (place, word) in words.iter_mut().enumerate() {
+        *word = 1000 + place as u32;
+    }
+    words[STEPS] = 3;
+    let run = Run::of_parts([0; RUN_BYTES], words);
+    assert_eq!((run.log(), run.next()), (ops(&[1000, 1001, 1002]), Step(4)));
+    assert_eq!([0, 7].map(|map| run.paid(Map(map))), [1257, 1264].map(Seconds));
+    assert_eq!([8, 9, u32::MAX].map(|map| run.paid(Map(map))), [0; 3].map(Seconds));
+    assert_eq!(run.unshared(), Seconds(1265));
+    for more in [STEPS as u32, STEPS as u32 + 1, u32::MAX] {
+        words[STEPS] = more;
+        assert_eq!(Run::of_parts([0; RUN_BYTES], words).log().len(), STEPS);
+    }
+}
+
+#[test]
 fn a_run_is_full_after_256_steps() {
     let round = task("edition=1\nvars=1\ndom=2\ninit=0\ngoal=-\nops=2\nop=3;0:0;0:1\nop=5;0:1;0:0\nmaps=1\nmap=0,1\nshare=1,2\n");
     let mut run = round.begin(&round.initial()).expect("a start");
@@ -180,4 +199,6 @@ fn a_run_is_full_after_256_steps() {
     assert_eq!(refusal(run.offer(&round, Step(257), Operator(0))), (15, 257));
     assert_eq!(run.offer(&round, Step(256), Operator(1)), Ok(Answer::Repeated));
     assert_eq!(round.judge(&round.initial(), &run.log()), Ok(Seconds(128 * 8)));
+    let mut next = round.begin(&run.now(&round)).expect("a start");
+    assert_eq!(next.offer(&round, Step(1), Operator(0)), Ok(Answer::Accepted));
 }
