@@ -18,9 +18,12 @@ use tables::Counts;
 use tables::classes::Classes;
 use tables::classes::classes_of;
 use tables::classes::word_of;
+use tables::readers::COSTS_ROOM;
 use tables::readers::DOM_ROW;
+use tables::readers::FACTS_ROOM;
 use tables::readers::GOAL_ROW;
 use tables::readers::INIT_ROW;
+use tables::readers::SHARES_ROOM;
 use tables::readers::byte_at;
 use tables::readers::class_row;
 use tables::readers::cost_at;
@@ -42,13 +45,6 @@ const STATES_MOST: u32 = 4096;
 
 // The most that an operator costs, or costs in a map, in seconds.
 const COST_MOST: u32 = 1000000;
-
-// The room for the largest task, in places.
-const FACTS_ROOM: usize = 1624;
-
-const COSTS_ROOM: usize = 64;
-
-const SHARES_ROOM: usize = 512;
 
 // What a scan finds: nothing, or the first fault.
 pub enum Found {

@@ -12,6 +12,13 @@ pub const INIT_ROW: u32 = 1;
 
 pub const GOAL_ROW: u32 = 2;
 
+// The room for the largest task, in places.
+pub const FACTS_ROOM: usize = 1624;
+
+pub const COSTS_ROOM: usize = 64;
+
+pub const SHARES_ROOM: usize = 512;
+
 // The row of an operator's preconditions.
 pub fn pre_row(o: OpNo) -> u32
     requires { ⌜ o .0 < 64 ⌝ }
