@@ -14,7 +14,8 @@ use lib.Bits.{bitOr, or-block, or-zero-r}
 use lib.Count.{ones, onesIn, leadingZeros, ones-cat, leading-unique}
 use Rattle.meaning.specs.Views.{every}
 use Rattle.meaning.specs.Split.{countOf}
-use Rattle.tables.specs.Classes.{someHas, noneMissing, maskOf}
+use Rattle.tables.specs.Classes.{someHas, noneMissing}
+use Rattle.tables.specs.Inside.Masks.{maskOf}
 
 -- ---- the number whose bit c is set exactly if f c, for each c below n
 

@@ -4,7 +4,7 @@ ghost use Prim.Native.Nat.{ℕ, _-_, _<_, _≤_};
 ghost use lib.Count.{leadingZeros};
 ghost use Rattle.meaning.specs.Split.{countOf};
 ghost use Rattle.tables.specs.Layout.{rowAt};
-ghost use Rattle.tables.specs.Classes.{maskFound, classesOf};
+ghost use Rattle.tables.specs.Inside.Masks.{maskFound, classesOf};
 use crate::readers::row_at;
 
 // The classes of a row as a mask, or a class beyond them all.
