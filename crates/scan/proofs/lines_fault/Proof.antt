@@ -1,6 +1,7 @@
--- `scan::lines_fault` meets its contract: each walk's rules passed so far are clean, and a break hands on the first fault of them all. Assumes nothing.
+-- `lines_fault` meets its contract: each walk's rules passed so far are clean, and a break hands on the first fault of them all. What holds
+-- after each part is said once, at its place. Assumes nothing.
 use Prim.Native.Nat.{ℕ, _≤_, _-_}
-use mathlib.Core.Path.{_≡_, sym, _∙_}
+use mathlib.Core.Path.{_≡_, ap, sym, _∙_}
 use mathlib.Core.Bool.{Bool, true, false}
 use mathlib.Core.List.{List, []}
 use native.Mathlib.Omega.{arith}
@@ -9,18 +10,20 @@ use borrow.Author.Needs.{needs}
 use borrow.Author.Tests.{not-true, not-false}
 use Rattle.refusals.specs.declared.Refusal.{Refusal}
 use Rattle.refusals.specs.declared.Refusal.the-variants.{OutOfRange}
+use Rattle.meaning.specs.Limits.{mostOps, mostCost, mostMaps}
 use Rattle.meaning.specs.Split.{Task}
 use Rattle.tables.specs.declared.Counts.{Counts}
-use Rattle.scan.specs.declared.Found.the-variants.{Clean, Fault}
-use Rattle.tables.specs.Layout.{rowAt, domAt, preRow, effRow, costAt}
+use Rattle.tables.specs.Layout.{rowAt, domAt, preRow, effRow}
+use Rattle.tables.specs.Lines.{lineOfOp}
 use Rattle.tables.specs.Task.{tables, taskOf}
+use Rattle.scan.specs.declared.Found.the-variants.{Clean, Fault}
 use Rattle.scan.specs.Scan.{each, within, factsFault, operatorFault, classesFault, mapFault}
+use Rattle.scan.specs.Inside.Parts.{linesFault}
 use Rattle.scan.proofs.Walks.{tests, tests-more, tests-here, walk-none, walk-more, walk-here, walk-end}
-use Rattle.scan.proofs.Rules.{head-clean, within-says}
-use Rattle.scan.proofs.Lines.{cost-decides, pre-decides, eff-decides, operators-decide, count-decides, maps-decide}
+use Rattle.scan.proofs.Rules.{within-says, few-ops}
+use Rattle.scan.proofs.Decides.{cost-decides, pre-decides, eff-decides, operator-decides, count-decides, maps-decide}
 use Rattle.scan.proofs.lines_fault.Statement.{statement}
 use Rattle.scan.proofs.lines_fault.Tie as tie
-use Rattle.tables.specs.Lines.{lineOfOp}
 
 abbrev spelled : Counts → List ℕ → List ℕ → Task
 spelled c facts costs = taskOf (tables c facts costs [])
@@ -32,16 +35,16 @@ abbrev said : ℕ → ℕ → Refusal
 said o v = OutOfRange (lineOfOp o)
 
 abbrev Pre : tie.InvT-loop2
-Pre c facts costs vars ops maps o p₀ p = (p ≤ vars) × (each (tests (fits facts (preRow o)) (said o)) p 0 ≡ Clean)
+Pre c facts costs vars ops maps o line p₀ p = (p ≤ vars) × (each (tests (fits facts (preRow o)) (said o)) p 0 ≡ Clean)
 
 abbrev μ-pre : tie.MeasureT-loop2
-μ-pre c facts costs vars ops maps o p₀ p = vars - p
+μ-pre c facts costs vars ops maps o line p₀ p = vars - p
 
 abbrev Eff : tie.InvT-loop3
-Eff c facts costs vars ops maps o p e₀ e = (e ≤ vars) × (each (tests (fits facts (effRow o)) (said o)) e 0 ≡ Clean)
+Eff c facts costs vars ops maps o line p e₀ e = (e ≤ vars) × (each (tests (fits facts (effRow o)) (said o)) e 0 ≡ Clean)
 
 abbrev μ-eff : tie.MeasureT-loop3
-μ-eff c facts costs vars ops maps o p e₀ e = vars - e
+μ-eff c facts costs vars ops maps o line p e₀ e = vars - e
 
 abbrev Ops : tie.InvT-loop
 Ops c facts costs vars ops maps o₀ o = (o ≤ ops) × (each (operatorFault (spelled c facts costs)) o 0 ≡ Clean)
@@ -61,214 +64,145 @@ Scan c facts costs vars ops maps = Unit
 abbrev μ-scan : tie.MeasureT-scan
 μ-scan c facts costs vars ops maps = 0
 
-loop-holds : tie.Need-loop-holds Pre μ-pre Eff μ-eff Ops μ-ops Maps μ-maps Scan μ-scan
-loop-holds c =
-    let args = c .before .before .before .args in
-    (omega arith, walk-none (operatorFault (spelled (args .c) (args .facts .now) (args .costs .now))))
+-- ---- at the walk over the operators: the task, the operator, and the tests of its facts
 
-add-t17 : tie.Need-add-t17 Pre μ-pre Eff μ-eff Ops μ-ops Maps μ-maps Scan μ-scan
-add-t17 c =
-    let args = c .before .before .before .before .before .before .before .args in
-    let pre = c .before .before .before .before .before .before .before .pre in
-    omega (arith, head-clean (spelled (args .c) (args .facts .now) []) pre .ops)
+abbrev AtOps : Type 0
+AtOps = tie.At-loop Pre μ-pre Eff μ-eff Ops μ-ops Maps μ-maps Scan μ-scan
 
-loop2-holds : tie.Need-loop2-holds Pre μ-pre Eff μ-eff Ops μ-ops Maps μ-maps Scan μ-scan
-loop2-holds c =
-    let args = c .before .before .before .before .before .before .before .args in
-    let run = c .before .before .before .loop in
-    (omega arith, walk-none (tests (fits (args .facts .now) (preRow (run .o))) (said (run .o))))
+abbrev task : AtOps → Task
+task l = let a = l .before .before .before .before .args in spelled (a .c) (a .facts .now) (a .costs .now)
 
-pre-row-requires : tie.Need-pre-row-requires Pre μ-pre Eff μ-eff Ops μ-ops Maps μ-maps Scan μ-scan
-pre-row-requires c κs =
-    let args = c .before .before .before .before .before .before .before .before .before .args in
-    let pre = c .before .before .before .before .before .before .before .before .before .pre in
-    omega (arith, head-clean (spelled (args .c) (args .facts .now) []) pre .ops)
+abbrev pre : AtOps → ℕ → Bool
+pre l = fits (l .before .before .before .before .args .facts .now) (preRow (l .loop .o))
 
-add-t23 : tie.Need-add-t23 Pre μ-pre Eff μ-eff Ops μ-ops Maps μ-maps Scan μ-scan
-add-t23 c =
-    let args = c .before .before .before .before .before .before .before .before .before .before .before .before .args in
-    let pre = c .before .before .before .before .before .before .before .before .before .before .before .before .pre in
-    omega (arith, head-clean (spelled (args .c) (args .facts .now) []) pre .ops)
+abbrev eff : AtOps → ℕ → Bool
+eff l = fits (l .before .before .before .before .args .facts .now) (effRow (l .loop .o))
+
+few : (l : AtOps) → task l .sas .ops ≤ mostOps
+few l = let x = l .before .before .before .before in few-ops (spelled (x .args .c) (x .args .facts .now) []) (x .pre)
+
+-- ---- in an operator: a fault of it is the first of all; its cost; its preconditions, passed; its effects, passed
+
+stops : (x : tie.After-op-line Pre μ-pre Eff μ-eff Ops μ-ops Maps μ-maps Scan μ-scan)
+    → let l = x .before .before in
+    operatorFault (task l) (l .loop .o) ≡ Fault (said (l .loop .o) 0) → Fault (OutOfRange (x .op-line .result)) ≡ linesFault (task l)
+stops x h =
+    let l = x .before .before in
+    ap (λ (n : ℕ). Fault (OutOfRange n)) (x .op-line .ensures)
+    ∙ sym (operator-decides (task l) (l .loop .o) (said (l .loop .o) 0) (l .loop .inv .1) (x .before .loop-test .taken) h)
+
+low : (x : tie.Else1 Pre μ-pre Eff μ-eff Ops μ-ops Maps μ-maps Scan μ-scan) → let l = x .before .before .before .before in task l .sas .cost (l .loop .o) ≤ mostCost
+low x = omega (arith, x .before .cost-at .ensures, x .if1 .left)
+
+abbrev AtPre : Type 0
+AtPre = tie.At-loop2 Pre μ-pre Eff μ-eff Ops μ-ops Maps μ-maps Scan μ-scan
+
+abbrev op : AtPre → AtOps
+op p = p .before .before .before .before .before
+
+pres : (x : tie.After-loop2 Pre μ-pre Eff μ-eff Ops μ-ops Maps μ-maps Scan μ-scan)
+    → let l = op (x .before) in factsFault (task l) (task l .sas .pre (l .loop .o)) (lineOfOp (l .loop .o)) ≡ Clean
+unfolding factsFault
+pres x =
+    let p = x .before in
+    walk-end (tests (pre (op p)) (said (op p .loop .o))) (task (op p) .sas .vars) (p .loop2 .p) (p .loop2 .inv .1) (omega arith) (omega arith)
+
+passed : (x : tie.After-loop3 Pre μ-pre Eff μ-eff Ops μ-ops Maps μ-maps Scan μ-scan)
+    → let l = op (x .before .before .before) in operatorFault (task l) (l .loop .o) ≡ Clean
+unfolding factsFault
+passed x =
+    let e = x .before in
+    let p = e .before .before in
+    let l = op p in
+    let effs = walk-end (tests (eff l) (said (l .loop .o))) (task l .sas .vars) (e .loop3 .e) (e .loop3 .inv .1) (omega arith) (omega arith) in
+    eff-decides (task l) (l .loop .o) Clean (low (p .before)) (pres (e .before)) effs
+
+-- ---- after the operators: they are clean; after the count of maps: it is in range
+
+operators : (x : tie.After-loop Pre μ-pre Eff μ-eff Ops μ-ops Maps μ-maps Scan μ-scan) → let T = task (x .before) in each (operatorFault T) (T .sas .ops) 0 ≡ Clean
+operators x =
+    let l = x .before in
+    walk-end (operatorFault (task l)) (task l .sas .ops) (l .loop .o) (l .loop .inv .1) (omega arith) (omega arith)
+
+counted : (x : tie.Else4 Pre μ-pre Eff μ-eff Ops μ-ops Maps μ-maps Scan μ-scan) → within 1 mostMaps (task (x .before .before .before) .maps) ≡ true
+counted x = sym (x .before .lies-within .ensures) ∙ not-false (x .before .lies-within .result) (x .if4 .left)
+
+-- ---- the needs
 
 loop2-again : tie.Need-loop2-again Pre μ-pre Eff μ-eff Ops μ-ops Maps μ-maps Scan μ-scan
 loop2-again c =
-    let args = c .before .before .before .before .before .before .before .before .before .before .before .before .args in
-    let run = c .before .before .before .before .before .before .before .before .loop in
-    let loop2 = c .before .before .before .before .loop2 in
-    let pre-row = c .before .before .pre-row in
-    let fact-fits = c .before .fact-fits in
-    let if2 = c .if2 in
-    let held : fits (args .facts .now) (preRow (run .o)) (loop2 .p) ≡ true = cc (pre-row .ensures, fact-fits .ensures, not-false (fact-fits .result) (if2 .left)) in
-    (omega arith, tests-more (fits (args .facts .now) (preRow (run .o))) (said (run .o)) (loop2 .p) (loop2 .inv .1) held)
-
-loop3-holds : tie.Need-loop3-holds Pre μ-pre Eff μ-eff Ops μ-ops Maps μ-maps Scan μ-scan
-loop3-holds c =
-    let args = c .before .before .before .before .before .before .before .before .before .args in
-    let run = c .before .before .before .before .before .loop in
-    (omega arith, walk-none (tests (fits (args .facts .now) (effRow (run .o))) (said (run .o))))
-
-eff-row-requires : tie.Need-eff-row-requires Pre μ-pre Eff μ-eff Ops μ-ops Maps μ-maps Scan μ-scan
-eff-row-requires c κs =
-    let args = c .before .before .before .before .before .before .before .before .before .before .before .args in
-    let pre = c .before .before .before .before .before .before .before .before .before .before .before .pre in
-    omega (arith, head-clean (spelled (args .c) (args .facts .now) []) pre .ops)
-
-add-t29 : tie.Need-add-t29 Pre μ-pre Eff μ-eff Ops μ-ops Maps μ-maps Scan μ-scan
-add-t29 c =
-    let args = c .before .before .before .before .before .before .before .before .before .before .before .before .before .before .args in
-    let pre = c .before .before .before .before .before .before .before .before .before .before .before .before .before .before .pre in
-    omega (arith, head-clean (spelled (args .c) (args .facts .now) []) pre .ops)
+    let p = c .before .before .before .before in
+    let fits′ = c .before .fact-fits in
+    let held : pre (op p) (p .loop2 .p) ≡ true = cc (c .before .before .pre-row .ensures, fits′ .ensures, not-false (fits′ .result) (c .if2 .left)) in
+    (omega arith, tests-more (pre (op p)) (said (op p .loop .o)) (p .loop2 .p) (p .loop2 .inv .1) held)
 
 loop3-again : tie.Need-loop3-again Pre μ-pre Eff μ-eff Ops μ-ops Maps μ-maps Scan μ-scan
 loop3-again c =
-    let args = c .before .before .before .before .before .before .before .before .before .before .before .before .before .before .args in
-    let run = c .before .before .before .before .before .before .before .before .before .before .loop in
-    let loop3 = c .before .before .before .before .loop3 in
-    let eff-row = c .before .before .eff-row in
-    let fact-fits2 = c .before .fact-fits2 in
-    let if3 = c .if3 in
-    let held : fits (args .facts .now) (effRow (run .o)) (loop3 .e) ≡ true = cc (eff-row .ensures, fact-fits2 .ensures, not-false (fact-fits2 .result) (if3 .left)) in
-    (omega arith, tests-more (fits (args .facts .now) (effRow (run .o))) (said (run .o)) (loop3 .e) (loop3 .inv .1) held)
+    let e = c .before .before .before .before in
+    let l = op (e .before .before) in
+    let fits′ = c .before .fact-fits2 in
+    let held : eff l (e .loop3 .e) ≡ true = cc (c .before .before .eff-row .ensures, fits′ .ensures, not-false (fits′ .result) (c .if3 .left)) in
+    (omega arith, tests-more (eff l) (said (l .loop .o)) (e .loop3 .e) (e .loop3 .inv .1) held)
 
 loop-again : tie.Need-loop-again Pre μ-pre Eff μ-eff Ops μ-ops Maps μ-maps Scan μ-scan
-unfolding factsFault
 loop-again c =
-    let args = c .before .before .before .before .before .before .before .before .before .before .before .args in
-    let run = c .before .before .before .before .before .before .before .loop in
-    let cost-at = c .before .before .before .before .before .cost-at in
-    let if1 = c .before .before .before .before .if1 in
-    let loop2 = c .before .before .before .loop2 in
-    let loop3 = c .before .loop3 in
-    let T : Task = spelled (args .c) (args .facts .now) (args .costs .now) in
-    let low : costAt (args .costs .now) (run .o) ≤ 1000000 = omega (arith, cost-at .ensures, if1 .left) in
-    let pres = walk-end (tests (fits (args .facts .now) (preRow (run .o))) (said (run .o))) (args .c .vars) (loop2 .p) (loop2 .inv .1) (omega arith) (omega arith) in
-    let effs = walk-end (tests (fits (args .facts .now) (effRow (run .o))) (said (run .o))) (args .c .vars) (loop3 .e) (loop3 .inv .1) (omega arith) (omega arith) in
-    (omega arith, walk-more (operatorFault T) (run .o) (run .inv .1) (eff-decides T (run .o) Clean low pres effs))
-
-add-t33 : tie.Need-add-t33 Pre μ-pre Eff μ-eff Ops μ-ops Maps μ-maps Scan μ-scan
-add-t33 c =
-    let args = c .before .before .before .before .before .before .before .args in
-    let pre = c .before .before .before .before .before .before .before .pre in
-    omega (arith, head-clean (spelled (args .c) (args .facts .now) []) pre .ops)
-
-loop4-holds : tie.Need-loop4-holds Pre μ-pre Eff μ-eff Ops μ-ops Maps μ-maps Scan μ-scan
-loop4-holds c =
-    let args = c .before .before .before .before .before .before .before .args in
-    (omega arith, walk-none (mapFault (spelled (args .c) (args .facts .now) (args .costs .now))))
-
-map-fault-requires : tie.Need-map-fault-requires Pre μ-pre Eff μ-eff Ops μ-ops Maps μ-maps Scan μ-scan
-map-fault-requires c κs =
-    let args = c .before .before .before .before .before .before .before .before .before .args in
-    let lies-within = c .before .before .before .lies-within in
-    let if4 = c .before .before .if4 in
-    let pre = c .before .before .before .before .before .before .before .before .before .pre in
-    let few : within 1 8 (args .c .maps) ≡ true = sym (lies-within .ensures) ∙ not-false (lies-within .result) (if4 .left) in
-    (pre, omega (arith, within-says 1 8 (args .c .maps) few))
-
-enum-told : tie.Need-enum-told Pre μ-pre Eff μ-eff Ops μ-ops Maps μ-maps Scan μ-scan
-enum-told c = search needs
+    let l = op (c .before .before .before) in
+    (omega arith, walk-more (operatorFault (task l)) (l .loop .o) (l .loop .inv .1) (passed c))
 
 loop4-again : tie.Need-loop4-again Pre μ-pre Eff μ-eff Ops μ-ops Maps μ-maps Scan μ-scan
 unfolding mapFault classesFault
 loop4-again c =
-    let args = c .before .before .before .before .before .before .before .before .before .before .before .before .args in
-    let loop4 = c .before .before .before .before .loop4 in
-    let map-fault = c .before .before .map-fault in
-    let enum-told = c .enum-told in
-    let T : Task = spelled (args .c) (args .facts .now) (args .costs .now) in
-    (omega arith, walk-more (mapFault T) (loop4 .m) (loop4 .inv .1) (sym (map-fault .ensures) ∙ enum-told .given .1))
+    let q = c .before .before .before .before in
+    (omega arith, walk-more (mapFault (task (q .before .before .before .before))) (q .loop4 .m) (q .loop4 .inv .1) (sym (c .before .before .map-fault .ensures) ∙ c .enum-told .given .1))
 
 returns : tie.Need-returns Pre μ-pre Eff μ-eff Ops μ-ops Maps μ-maps Scan μ-scan
 returns c =
-    let args = c .before .before .before .before .before .before .before .args in
-    let run = c .before .before .before .loop in
-    let cost-at = c .before .cost-at in
-    let if1 = c .if1 in
-    let loop-test = c .before .before .loop-test in
-    let T : Task = spelled (args .c) (args .facts .now) (args .costs .now) in
-    let here = cost-decides T (run .o) (omega (arith, cost-at .ensures, if1 .taken)) in
-    sym (operators-decide T (OutOfRange (lineOfOp (run .o))) (walk-here (operatorFault T) (args .c .ops) (run .o) (OutOfRange (lineOfOp (run .o))) (run .inv .1) (loop-test .taken) here))
+    let x = c .before .before in
+    stops x (cost-decides (task (x .before .before)) (x .before .before .loop .o) (omega (arith, c .before .cost-at .ensures, c .if1 .taken)))
 
 returns-2 : tie.Need-returns-2 Pre μ-pre Eff μ-eff Ops μ-ops Maps μ-maps Scan μ-scan
 unfolding factsFault
 returns-2 c =
-    let args = c .before .before .before .before .before .before .before .before .before .before .before .before .args in
-    let run = c .before .before .before .before .before .before .before .before .loop in
-    let cost-at = c .before .before .before .before .before .before .cost-at in
-    let if1 = c .before .before .before .before .before .if1 in
-    let loop2 = c .before .before .before .before .loop2 in
-    let pre-row = c .before .before .pre-row in
-    let fact-fits = c .before .fact-fits in
-    let if2 = c .if2 in
-    let loop2-test = c .before .before .before .loop2-test in
-    let loop-test = c .before .before .before .before .before .before .before .loop-test in
-    let T : Task = spelled (args .c) (args .facts .now) (args .costs .now) in
-    let low : costAt (args .costs .now) (run .o) ≤ 1000000 = omega (arith, cost-at .ensures, if1 .left) in
-    let out : fits (args .facts .now) (preRow (run .o)) (loop2 .p) ≡ false = cc (pre-row .ensures, fact-fits .ensures, not-true (fact-fits .result) (if2 .taken)) in
-    let fact = tests-here (fits (args .facts .now) (preRow (run .o))) (said (run .o)) (args .c .vars) (loop2 .p) (loop2 .inv .1) (loop2-test .taken) out in
-    let here = pre-decides T (run .o) (OutOfRange (lineOfOp (run .o))) low fact in
-    sym (operators-decide T (OutOfRange (lineOfOp (run .o))) (walk-here (operatorFault T) (args .c .ops) (run .o) (OutOfRange (lineOfOp (run .o))) (run .inv .1) (loop-test .taken) here))
+    let p = c .before .before .before .before in
+    let l = op p in
+    let fits′ = c .before .fact-fits in
+    let out : pre l (p .loop2 .p) ≡ false = cc (c .before .before .pre-row .ensures, fits′ .ensures, not-true (fits′ .result) (c .if2 .taken)) in
+    let fact = tests-here (pre l) (said (l .loop .o)) (task l .sas .vars) (p .loop2 .p) (p .loop2 .inv .1) (c .before .before .before .loop2-test .taken) out in
+    stops (p .before .before .before) (pre-decides (task l) (l .loop .o) (said (l .loop .o) 0) (low (p .before)) fact)
 
 returns-3 : tie.Need-returns-3 Pre μ-pre Eff μ-eff Ops μ-ops Maps μ-maps Scan μ-scan
 unfolding factsFault
 returns-3 c =
-    let args = c .before .before .before .before .before .before .before .before .before .before .before .before .before .before .args in
-    let run = c .before .before .before .before .before .before .before .before .before .before .loop in
-    let cost-at = c .before .before .before .before .before .before .before .before .cost-at in
-    let if1 = c .before .before .before .before .before .before .before .if1 in
-    let loop2 = c .before .before .before .before .before .before .loop2 in
-    let loop3 = c .before .before .before .before .loop3 in
-    let eff-row = c .before .before .eff-row in
-    let fact-fits2 = c .before .fact-fits2 in
-    let if3 = c .if3 in
-    let loop3-test = c .before .before .before .loop3-test in
-    let loop-test = c .before .before .before .before .before .before .before .before .before .loop-test in
-    let T : Task = spelled (args .c) (args .facts .now) (args .costs .now) in
-    let low : costAt (args .costs .now) (run .o) ≤ 1000000 = omega (arith, cost-at .ensures, if1 .left) in
-    let pres = walk-end (tests (fits (args .facts .now) (preRow (run .o))) (said (run .o))) (args .c .vars) (loop2 .p) (loop2 .inv .1) (omega arith) (omega arith) in
-    let out : fits (args .facts .now) (effRow (run .o)) (loop3 .e) ≡ false = cc (eff-row .ensures, fact-fits2 .ensures, not-true (fact-fits2 .result) (if3 .taken)) in
-    let fact = tests-here (fits (args .facts .now) (effRow (run .o))) (said (run .o)) (args .c .vars) (loop3 .e) (loop3 .inv .1) (loop3-test .taken) out in
-    let here = eff-decides T (run .o) (Fault (OutOfRange (lineOfOp (run .o)))) low pres fact in
-    sym (operators-decide T (OutOfRange (lineOfOp (run .o))) (walk-here (operatorFault T) (args .c .ops) (run .o) (OutOfRange (lineOfOp (run .o))) (run .inv .1) (loop-test .taken) here))
+    let e = c .before .before .before .before in
+    let p = e .before .before in
+    let l = op p in
+    let fits′ = c .before .fact-fits2 in
+    let out : eff l (e .loop3 .e) ≡ false = cc (c .before .before .eff-row .ensures, fits′ .ensures, not-true (fits′ .result) (c .if3 .taken)) in
+    let fact = tests-here (eff l) (said (l .loop .o)) (task l .sas .vars) (e .loop3 .e) (e .loop3 .inv .1) (c .before .before .before .loop3-test .taken) out in
+    stops (p .before .before .before) (eff-decides (task l) (l .loop .o) (Fault (said (l .loop .o) 0)) (low (p .before)) (pres (e .before)) fact)
 
 returns-4 : tie.Need-returns-4 Pre μ-pre Eff μ-eff Ops μ-ops Maps μ-maps Scan μ-scan
 returns-4 c =
-    let args = c .before .before .before .before .before .before .before .args in
-    let run = c .before .before .before .loop in
-    let lies-within = c .before .lies-within in
-    let if4 = c .if4 in
-    let T : Task = spelled (args .c) (args .facts .now) (args .costs .now) in
-    let ops = walk-end (operatorFault T) (args .c .ops) (run .o) (run .inv .1) (omega arith) (omega arith) in
-    sym (count-decides T ops (sym (lies-within .ensures) ∙ not-true (lies-within .result) (if4 .taken)))
+    let w = c .before .before .lies-within in
+    let x = c .before .before .before in
+    ap (λ (n : ℕ). Fault (OutOfRange n)) (c .maps-line .ensures)
+    ∙ sym (count-decides (task (x .before)) (operators x) (sym (w .ensures) ∙ not-true (w .result) (c .before .if4 .taken)))
 
 returns-5 : tie.Need-returns-5 Pre μ-pre Eff μ-eff Ops μ-ops Maps μ-maps Scan μ-scan
 unfolding mapFault classesFault
 returns-5 c =
-    let args = c .before .before .before .before .before .before .before .before .before .before .before .before .args in
-    let run = c .before .before .before .before .before .before .before .before .loop in
-    let lies-within = c .before .before .before .before .before .before .lies-within in
-    let if4 = c .before .before .before .before .before .if4 in
-    let loop4 = c .before .before .before .before .loop4 in
-    let enum-told2 = c .enum-told2 in
-    let loop4-test = c .before .before .before .loop4-test in
-    let map-fault = c .before .before .map-fault in
-    let T : Task = spelled (args .c) (args .facts .now) (args .costs .now) in
-    let ops = walk-end (operatorFault T) (args .c .ops) (run .o) (run .inv .1) (omega arith) (omega arith) in
-    let few : within 1 8 (args .c .maps) ≡ true = sym (lies-within .ensures) ∙ not-false (lies-within .result) (if4 .left) in
-    let here = walk-here (mapFault T) (args .c .maps) (loop4 .m) (enum-told2 .given .0 .0) (loop4 .inv .1) (loop4-test .taken) (sym (map-fault .ensures) ∙ enum-told2 .given .1) in
-    sym (maps-decide T (map-fault .result) ops few (here ∙ sym (enum-told2 .given .1)))
+    let q = c .before .before .before .before in
+    let T = task (q .before .before .before .before) in
+    let found = c .before .before .map-fault in
+    let e = c .enum-told2 .given in
+    let here = walk-here (mapFault T) (T .maps) (q .loop4 .m) (e .0 .0) (q .loop4 .inv .1) (c .before .before .before .loop4-test .taken) (sym (found .ensures) ∙ e .1) in
+    sym (maps-decide T (operators (q .before .before .before)) (found .result) (counted (q .before)) (here ∙ sym (e .1)))
 
 returns-6 : tie.Need-returns-6 Pre μ-pre Eff μ-eff Ops μ-ops Maps μ-maps Scan μ-scan
 returns-6 c =
-    let args = c .before .before .before .before .before .before .before .before .before .args in
-    let run = c .before .before .before .before .before .loop in
-    let lies-within = c .before .before .before .lies-within in
-    let if4 = c .before .before .if4 in
-    let loop4 = c .before .loop4 in
-    let T : Task = spelled (args .c) (args .facts .now) (args .costs .now) in
-    let ops = walk-end (operatorFault T) (args .c .ops) (run .o) (run .inv .1) (omega arith) (omega arith) in
-    let few : within 1 8 (args .c .maps) ≡ true = sym (lies-within .ensures) ∙ not-false (lies-within .result) (if4 .left) in
-    sym (maps-decide T Clean ops few (walk-end (mapFault T) (args .c .maps) (loop4 .m) (loop4 .inv .1) (omega arith) (omega arith)))
+    let q = c .before in
+    let T = task (q .before .before .before .before) in
+    sym (maps-decide T (operators (q .before .before .before)) Clean (counted (q .before)) (walk-end (mapFault T) (T .maps) (q .loop4 .m) (q .loop4 .inv .1) (omega arith) (omega arith)))
 
 pub lines-fault-spec : {M : Type 1} → statement M
 lines-fault-spec =
@@ -285,20 +219,18 @@ lines-fault-spec =
     Scan
     μ-scan
     (λ c. search needs)
-    loop-holds
+    (λ c. let a = c .before .before .before .args in (omega arith, walk-none (operatorFault (spelled (a .c) (a .facts .now) (a .costs .now)))))
+    (λ c κs. omega (arith, few (c .before)))
     (λ c κs. search needs)
-    add-t17
-    loop2-holds
-    pre-row-requires
+    (λ c. let l = c .before .before .before .before in (omega arith, walk-none (tests (pre l) (said (l .loop .o)))))
+    (λ c κs. omega (arith, few (op (c .before))))
     (λ c κs. search needs)
-    add-t23
     (λ c. search needs)
     (λ c. search needs)
     loop2-again
-    loop3-holds
-    eff-row-requires
+    (λ c. let l = op (c .before) in (omega arith, walk-none (tests (eff l) (said (l .loop .o)))))
+    (λ c κs. omega (arith, few (op (c .before .before .before))))
     (λ c κs. search needs)
-    add-t29
     (λ c. search needs)
     (λ c. search needs)
     loop3-again
@@ -306,10 +238,10 @@ lines-fault-spec =
     (λ c. search needs)
     loop-again
     (λ c κs. search needs)
-    add-t33
-    loop4-holds
-    map-fault-requires
-    enum-told
+    (λ c κs. few (c .before .before .before))
+    (λ c. (omega arith, walk-none (mapFault (task (c .before .before .before)))))
+    (λ c κs. (c .before .before .before .before .before .before .before .before .before .pre, omega (arith, within-says 1 mostMaps (task (c .before .before .before .before .before) .maps) (counted (c .before .before)))))
+    (λ c. search needs)
     (λ c. search needs)
     (λ c. search needs)
     (λ c. search needs)
