@@ -1,7 +1,7 @@
 -- The first fault of an operator's line, and of the lines of operators and maps: which part decides. Assumes nothing.
 use Prim.Native.Nat.{ℕ, _≤_, _<_}
-use mathlib.Core.Path.{_≡_, sym}
-use mathlib.Core.Bool.{true, false}
+use mathlib.Core.Path.{_≡_, sym, _∙_}
+use mathlib.Core.Bool.{true, false, _&&_}
 use lib.Dec.{leb}
 use borrow.Author.Tests.{lt-leb, le-leb}
 use Rattle.refusals.specs.declared.Refusal.{Refusal}
@@ -13,24 +13,23 @@ use Rattle.scan.specs.declared.Found.{Found}
 use Rattle.scan.specs.declared.Found.the-variants.{Clean, Fault}
 use Rattle.scan.specs.Scan.{unless, each, within, factsFault, operatorFault, classesFault, mapFault}
 use Rattle.scan.specs.Inside.Parts.{linesFault}
-use Rattle.scan.proofs.Walks.{walk-here}
+use Rattle.scan.proofs.Walks.{tests, one-walk, walk-here}
 use Rattle.tables.specs.Lines.{lineOfOp, lineOfMaps, lineOfMap}
 
 module _ (T : Task) where
-  -- ---- an operator's line: its cost, its preconditions, its effects
+  -- ---- an operator's line: its cost, then its facts
 
   pub cost-decides : (o : ℕ) → mostCost < T .sas .cost o → operatorFault T o ≡ Fault (OutOfRange (lineOfOp o))
   unfolding operatorFault
   cost-decides o h = rw (lt-leb (T .sas .cost o) mostCost h)
 
-  pub pre-decides : (o : ℕ) (r : Refusal) → T .sas .cost o ≤ mostCost → factsFault T (T .sas .pre o) (lineOfOp o) ≡ Fault r → operatorFault T o ≡ Fault r
-  unfolding operatorFault
-  pre-decides o r h p = rw (le-leb (T .sas .cost o) mostCost h, p)
-
-  pub eff-decides : (o : ℕ) (r : Found) → T .sas .cost o ≤ mostCost → factsFault T (T .sas .pre o) (lineOfOp o) ≡ Clean
-      → factsFault T (T .sas .eff o) (lineOfOp o) ≡ r → operatorFault T o ≡ r
-  unfolding operatorFault
-  eff-decides o r h p q = rw (le-leb (T .sas .cost o) mostCost h, p, q)
+  pub facts-decide : (o : ℕ) (r : Found) → T .sas .cost o ≤ mostCost
+      → each (tests (λ v. leb (T .sas .pre o v) (T .sas .dom v) && leb (T .sas .eff o v) (T .sas .dom v)) (λ v. OutOfRange (lineOfOp o))) (T .sas .vars) 0 ≡ r
+      → operatorFault T o ≡ r
+  unfolding operatorFault factsFault
+  facts-decide o r h p =
+      rw (le-leb (T .sas .cost o) mostCost h)
+      (one-walk (λ v. leb (T .sas .pre o v) (T .sas .dom v)) (λ v. leb (T .sas .eff o v) (T .sas .dom v)) (OutOfRange (lineOfOp o)) (T .sas .vars) ∙ p)
 
   -- ---- a map's line: its variables, then how many abstract states
 

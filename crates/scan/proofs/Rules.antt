@@ -2,7 +2,7 @@
 -- Assumes nothing.
 use Prim.Native.Nat.{ℕ, zero, suc, _≤_, _<_}
 use mathlib.Core.Path.{_≡_, ap, sym, _∙_}
-use mathlib.Core.Bool.{Bool, true, false, false≢true, or-true}
+use mathlib.Core.Bool.{true, false, false≢true, or-true}
 use mathlib.Core.Logic.{_↔_}
 use native.Mathlib.Omega.{arith}
 use lib.Dec.{leb, ltb}
@@ -13,9 +13,8 @@ use Rattle.meaning.specs.Limits.{mostVars, mostValues, mostOps, mostCost, mostM
 use Rattle.meaning.specs.Views.{abstractStates}
 use Rattle.meaning.specs.Split.{Task, countOf, sum, view}
 use Rattle.meaning.proofs.Facts.{and-left, and-right, every-true, true-every}
-use Rattle.scan.specs.declared.Found.{Found}
 use Rattle.scan.specs.declared.Found.the-variants.{Clean}
-use Rattle.scan.specs.Scan.{_then_, each, within, factsFault, operatorFault, classesFault, mapFault, sharesFault, splitFault, taskFault}
+use Rattle.scan.specs.Scan.{_then_, within, factsFault, operatorFault, classesFault, mapFault, sharesFault, splitFault, taskFault}
 use Rattle.scan.specs.Inside.Parts.{headFault, linesFault, chargesFault, bodyFault}
 use Rattle.scan.proofs.Walks.{then-then, rule-is, then-is, walk-is}
 use Rattle.tables.specs.Classes.{someHas, noneMissing}

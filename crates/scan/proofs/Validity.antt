@@ -1,5 +1,5 @@
--- The scan accepts tables exactly if there is room and the task that they spell is valid, and a state exactly if it is long enough and one of the task's; any two results that meet a contract of the scan are equal.
--- Assumes nothing.
+-- The scan accepts tables exactly if there is room and the task that they spell is valid, and a state exactly if it is long enough and one of
+-- the task's; any two results that meet a contract of the scan are equal. Assumes nothing.
 use Prim.Native.Nat.{ℕ, _≤_}
 use mathlib.Core.Path.{_≡_, sym, _∙_}
 use mathlib.Core.Bool.{true}

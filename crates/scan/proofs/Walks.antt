@@ -1,8 +1,8 @@
--- Laws of a walk over rules, one after another, that is left at the first fault: what a counting loop asks (one turn more, a fault here, the end), and that a walk is clean exactly if each of its rules is.
--- Assumes nothing.
+-- Laws of a walk over rules, one after another, that is left at the first fault: what a counting loop asks (one turn more, a fault here, the
+-- end), and that a walk is clean exactly if each of its rules is. Assumes nothing.
 use Prim.Native.Nat.{ℕ, zero, suc, _+_, _≤_, _<_}
 use mathlib.Core.Path.{_≡_, refl, ap, sym, _∙_}
-use mathlib.Core.Bool.{Bool, true, false, _&&_}
+use mathlib.Core.Bool.{Bool, true, false, _&&_, and-false}
 use mathlib.Core.List.{List, [], _∷_}
 use mathlib.Core.Logic.{_↔_}
 use native.Mathlib.Nat.{add-zero}
@@ -138,6 +138,22 @@ both-tests false b r = refl
 pub one-rule : (test : ℕ → Bool) (r : Refusal) (n : ℕ) → each (tests test (λ x. r)) n 0 ≡ unless (every test n) r
 one-rule test r zero = walk-none (tests test (λ x. r))
 one-rule test r (suc n) = each-last (tests test (λ x. r)) n ∙ rw (one-rule test r n) (both-tests (every test n) (test n) r)
+
+-- and two walks with one refusal are one walk
+and-and : (p q r s : Bool) → (p && q) && (r && s) ≡ (p && r) && (q && s)
+and-and false q r s = refl
+and-and true true r s = refl
+and-and true false r s = sym (and-false r)
+
+every-both : (f g : ℕ → Bool) (n : ℕ) → (every f n && every g n) ≡ every (λ i. f i && g i) n
+every-both f g zero = refl
+every-both f g (suc n) = and-and (every f n) (f n) (every g n) (g n) ∙ ap (λ (b : Bool). b && (f n && g n)) (every-both f g n)
+
+pub one-walk : (f g : ℕ → Bool) (r : Refusal) (n : ℕ)
+    → each (tests f (λ i. r)) n 0 then each (tests g (λ i. r)) n 0 ≡ each (tests (λ i. f i && g i) (λ i. r)) n 0
+one-walk f g r n =
+    rw (one-rule f r n, one-rule g r n, one-rule (λ i. f i && g i) r n)
+    (both-tests (every f n) (every g n) r ∙ ap (λ (b : Bool). unless b r) (every-both f g n))
 
 -- ---- rules and what they say: a rule, one after another, a walk, each clean exactly if what is asked holds
 

@@ -12,7 +12,7 @@ ghost use Rattle.scan.specs.declared.Found.the-variants.{Clean};
 ghost use Rattle.tables.specs.Layout.{rowAt, domAt, shareAt, factsRoom, costsRoom, sharesRoom};
 ghost use Rattle.tables.specs.Task.{tables, taskOf, lent};
 ghost use Rattle.scan.specs.Scan.{unless, each, within, mapFault, sharesFault, splitFault, taskFault, tablesFault, stateFault, inputFault};
-ghost use Rattle.scan.specs.Inside.Parts.{variableHolds, opsFault, goalFault, initFault, domFault, headFault, linesFault, chargesFault, bodyFault};
+ghost use Rattle.scan.specs.Inside.Parts.{factsFit, variableHolds, opsFault, goalFault, initFault, domFault, headFault, linesFault, chargesFault, bodyFault};
 use meaning::OpNo;
 use meaning::limits::COST_MOST;
 use meaning::limits::MAPS_MOST;
@@ -61,6 +61,14 @@ fn fact_fits(facts: &[u8], row: u32, v: u32) -> bool
     row_at(facts, row, v) <= row_at(facts, DOM_ROW, v)
 }
 
+// What an operator asks of a variable, and what it does to it, is a value of the variable, or nothing.
+fn facts_fit(facts: &[u8], o: OpNo, v: u32) -> bool
+    requires { ⌜ o .0 < mostOps ⌝ }
+    ensures { λ r. ⌜ r ≡ factsFit (now (facts .entry)) (o .0) v ⌝ }
+{
+    if fact_fits(facts, pre_row(o), v) { fact_fits(facts, eff_row(o), v) } else { false }
+}
+
 // The variable has the value x.
 fn value_fits(facts: &[u8], v: u32, x: u8) -> bool
     ensures { λ r. ⌜ r ≡ ltb x (domAt (now (facts .entry)) v) ⌝ }
@@ -92,12 +100,10 @@ fn variable_holds(facts: &[u8], line: u32, v: u32) -> bool
 fn variables_fault(vars: u32, facts: &[u8], line: u32) -> Found
     ensures { λ r. ⌜ r ≡ each (λ v. unless (variableHolds (now (facts .entry)) line v) (OutOfRange line)) vars 0 ⌝ }
 {
-    let mut v = 0;
-    while v < vars {
+    for v in 0..vars {
         if !variable_holds(facts, line, v) {
             return Found::Fault(Refusal::OutOfRange(line));
         }
-        v += 1;
     }
     Found::Clean
 }
@@ -163,15 +169,13 @@ fn map_fault(c: Counts, facts: &[u8], m: u32) -> Found
     let line = map_line(c.ops, m);
     let vars = c.vars;
     let mut states = 1u32;
-    let mut v = 0;
-    while v < vars {
+    for v in 0..vars {
         let found = classes_of(facts, word_of(facts, DOM_ROW, v), class_row(m, v));
         match found {
             Classes::Count(k) => states = states * k,
             Classes::Missing => return Found::Fault(Refusal::ClassMissing(line)),
             Classes::Outside => return Found::Fault(Refusal::OutOfRange(line)),
         }
-        v += 1;
     }
     if STATES_MOST < states {
         return Found::Fault(Refusal::TooManyStates(line));
@@ -188,38 +192,26 @@ fn lines_fault(c: Counts, facts: &[u8], costs: &[u32]) -> Found
     let ops = c.ops;
     let maps = c.maps;
     let found = 'scan: loop {
-        let mut o = 0;
-        while o < ops {
+        for o in 0..ops {
             let line = op_line(OpNo(o));
             if COST_MOST < cost_at(costs, OpNo(o)) {
                 break 'scan Found::Fault(Refusal::OutOfRange(line));
             }
-            let mut p = 0;
-            while p < vars {
-                if !fact_fits(facts, pre_row(OpNo(o)), p) {
+            // both lists in one walk: whichever fact is outside, it is the same number at the same line
+            for v in 0..vars {
+                if !facts_fit(facts, OpNo(o), v) {
                     break 'scan Found::Fault(Refusal::OutOfRange(line));
                 }
-                p += 1;
             }
-            let mut e = 0;
-            while e < vars {
-                if !fact_fits(facts, eff_row(OpNo(o)), e) {
-                    break 'scan Found::Fault(Refusal::OutOfRange(line));
-                }
-                e += 1;
-            }
-            o += 1;
         }
         if !lies_within(1, MAPS_MOST, maps) {
             break Found::Fault(Refusal::OutOfRange(maps_line(ops)));
         }
-        let mut m = 0;
-        while m < maps {
+        for m in 0..maps {
             let map = map_fault(c, facts, m);
             let Found::Clean = map else {
                 break 'scan map;
             };
-            m += 1;
         }
         break Found::Clean;
     };
@@ -233,16 +225,12 @@ fn shares_fault(c: Counts, shares: &[u32]) -> Found
 {
     let ops = c.ops;
     let maps = c.maps;
-    let mut m = 0;
-    while m < maps {
-        let mut o = 0;
-        while o < ops {
+    for m in 0..maps {
+        for o in 0..ops {
             if COST_MOST < share_at(shares, m, OpNo(o)) {
                 return Found::Fault(Refusal::OutOfRange(shares_line(ops, maps, m)));
             }
-            o += 1;
         }
-        m += 1;
     }
     Found::Clean
 }
@@ -252,10 +240,8 @@ fn share_total(maps: u32, shares: &[u32], o: OpNo) -> u64
     ensures { λ r. ⌜ r ≡ sum (λ m. shareAt (now (shares .entry)) m (o .0)) maps ⌝ }
 {
     let mut total = 0u64;
-    let mut m = 0;
-    while m < maps {
+    for m in 0..maps {
         total = total + share_at(shares, m, o) as u64;
-        m += 1;
     }
     total
 }
@@ -267,13 +253,11 @@ fn split_fault(c: Counts, costs: &[u32], shares: &[u32]) -> Found
 {
     let ops = c.ops;
     let maps = c.maps;
-    let mut o = 0;
-    while o < ops {
+    for o in 0..ops {
         let cost = cost_at(costs, OpNo(o)) as u64;
         if cost < share_total(maps, shares, OpNo(o)) {
             return Found::Fault(Refusal::SharesAboveCost(op_line(OpNo(o))));
         }
-        o += 1;
     }
     Found::Clean
 }
@@ -344,12 +328,10 @@ pub fn state_fault(c: Counts, facts: &[u8], s: &[u8]) -> Found
     if s.len() < vars as usize {
         return Found::Fault(Refusal::TableTooShort);
     }
-    let mut v = 0;
-    while v < vars {
+    for v in 0..vars {
         if !value_fits(facts, v, byte_at(s, v as usize)) {
             return Found::Fault(Refusal::ValueOutside(v));
         }
-        v += 1;
     }
     Found::Clean
 }

@@ -43,14 +43,17 @@ abbrev μ-loop : tie.MeasureT-loop
 abbrev At : Type 0
 At = tie.At-loop Inv-loop μ-loop
 
+abbrev facts : At → List ℕ
+facts l = l .before .before .before .args .facts .now
+
 abbrev map : At → ℕ
 map l = l .before .before .before .args .m
 
 abbrev task : At → Task
-task l = let a = l .before .before .before .args in taskOf (tables (a .c) (a .facts .now) [] [])
+task l = taskOf (tables (l .before .before .before .args .c) (facts l) [] [])
 
 abbrev rule : At → ℕ → Found
-rule l = ruleOf (l .before .before .before .args .facts .now) (map l) (l .before .map-line .result)
+rule l = ruleOf (facts l) (map l) (l .before .map-line .result)
 
 head : (l : At) → headFault (task l) ≡ Clean
 head l = l .before .before .before .pre .0
@@ -61,32 +64,34 @@ abbrev at : tie.After-classes-of Inv-loop μ-loop → At
 at x = x .before .before .before .before
 
 told : (x : tie.After-classes-of Inv-loop μ-loop) {k : Classes} → x .classes-of .result ≡ k → rule (at x) (at x .loop .v) ≡ faultIn k (at x .before .map-line .result)
-told x p = found-fault (at x .before .before .before .args .facts .now) (x .classes-of .ensures) (x .before .class-row .ensures) (x .before .before .word-of .ensures) (at x .before .map-line .result) p
+told x p = found-fault (facts (at x)) (x .classes-of .ensures) (x .before .class-row .ensures) (x .before .before .word-of .ensures) (at x .before .map-line .result) p
 
 stops : (x : tie.After-classes-of Inv-loop μ-loop) (r : Refusal) → rule (at x) (at x .loop .v) ≡ Fault r → Fault r ≡ mapFault (task (at x)) (map (at x))
 unfolding classesFault
 stops x r p =
     let l = at x in
-    classes-decide (task l) (map l) (l .before .map-line .ensures) r (walk-here (rule l) (task l .sas .vars) (l .loop .v) r (l .loop .inv .1) (x .before .before .before .loop-test .taken) p)
+    classes-decide (task l) (map l) (l .before .map-line .ensures) r
+    (walk-here (rule l) (task l .sas .vars) (l .loop .v) r (l .loop .inv .1) (x .before .before .before .loop-test .taken) p)
 
 count : (c : tie.After-known-told Inv-loop μ-loop)
     → let l = at (c .before .before .before) in
     let k = c .before .found .given .0 .0 in
-    (k ≡ counts (l .before .before .before .args .facts .now) (map l) (l .loop .v)) × (k ≤ mostValues)
+    (k ≡ counts (facts l) (map l) (l .loop .v)) × (k ≤ mostValues)
 count c =
     let x = c .before .before .before in
     let l = at x in
-    let q = found-count (l .before .before .before .args .facts .now) (x .classes-of .ensures) (x .before .class-row .ensures) (x .before .before .word-of .ensures) (c .before .found .given .0 .0) (c .before .found .given .1) in
+    let q = found-count (facts l) (x .classes-of .ensures) (x .before .class-row .ensures) (x .before .before .word-of .ensures) (c .before .found .given .0 .0) (c .before .found .given .1) in
     (q .0, omega (arith, q .1, few-values (task l) (head l) (l .loop .v) (x .before .before .before .loop-test .taken)))
 
 -- where the walk has ended, all variables are clean and their counts multiply to the map's states
-ended : (c : tie.After-loop Inv-loop μ-loop) → unless (leb (c .before .loop .states) mostStates) (TooManyStates (c .before .before .map-line .result)) ≡ mapFault (task (c .before)) (map (c .before))
+ended : (c : tie.After-loop Inv-loop μ-loop)
+    → unless (leb (c .before .loop .states) mostStates) (TooManyStates (c .before .before .map-line .result)) ≡ mapFault (task (c .before)) (map (c .before))
 unfolding classesFault
 ended c =
     let l = c .before in
     let all : l .loop .v ≡ task l .sas .vars = omega arith in
     states-decide (task l) (map l) (l .before .map-line .ensures) (walk-end (rule l) (task l .sas .vars) (l .loop .v) (l .loop .inv .1) (omega arith) (omega arith))
-    (l .loop .inv .2 ∙ ap (size (counts (l .before .before .before .args .facts .now) (map l))) all)
+    (l .loop .inv .2 ∙ ap (size (counts (facts l) (map l))) all)
 
 -- ---- the needs
 

@@ -1,13 +1,13 @@
 -- The parts of the scan, as the program walks them.
 use Prim.Native.Nat.{ℕ}
-use mathlib.Core.Bool.{Bool, cond}
+use mathlib.Core.Bool.{Bool, cond, _&&_}
 use mathlib.Core.List.{List}
 use lib.Dec.{leb, ltb, eqb}
 use Rattle.refusals.specs.declared.Refusal.the-variants.{OutOfRange}
 use Rattle.meaning.specs.Limits.{mostVars, mostValues, mostOps, mostMaps}
 use Rattle.meaning.specs.Split.{Task}
 use Rattle.scan.specs.declared.Found.{Found}
-use Rattle.tables.specs.Layout.{domAt, initAt, goalAt}
+use Rattle.tables.specs.Layout.{domAt, initAt, goalAt, preAt, effAt}
 use Rattle.scan.specs.Scan.{unless, _then_, each, within, factsFault, operatorFault, mapFault, sharesFault, splitFault}
 use Rattle.tables.specs.Lines.{lineOfVars, lineOfDom, lineOfInit, lineOfGoal, lineOfOps, lineOfMaps}
 
@@ -16,6 +16,10 @@ abbrev pub variableHolds : List ℕ → ℕ → ℕ → Bool
 variableHolds facts line v =
     cond (eqb line lineOfDom) (within 1 mostValues (domAt facts v))
     (cond (eqb line lineOfInit) (ltb (initAt facts v) (domAt facts v)) (leb (goalAt facts v) (domAt facts v)))
+
+-- what operator o's line asks at variable v: what it asks of it, and what it does to it, is a value of v, or nothing
+abbrev pub factsFit : List ℕ → ℕ → ℕ → Bool
+factsFit facts o v = leb (preAt facts o v) (domAt facts v) && leb (effAt facts o v) (domAt facts v)
 
 -- the lines before the operators: each link is its own line and then the next link
 abbrev pub opsFault : ℕ → Found
