@@ -66,7 +66,11 @@ fn facts_fit(facts: &[u8], o: OpNo, v: u32) -> bool
     requires { ⌜ o .0 < mostOps ⌝ }
     ensures { λ r. ⌜ r ≡ factsFit (now (facts .entry)) (o .0) v ⌝ }
 {
-    if fact_fits(facts, pre_row(o), v) { fact_fits(facts, eff_row(o), v) } else { false }
+    if fact_fits(facts, pre_row(o), v) {
+        fact_fits(facts, eff_row(o), v)
+    } else {
+        false
+    }
 }
 
 // The variable has the value x.

@@ -1,5 +1,5 @@
 -- The class rule: the classes of a variable's values are 0 to k - 1 with none missing.
-use mathlib.Core.Bool.{Bool, true, false, _||_}
+use mathlib.Core.Bool.{Bool, false, _||_}
 use Prim.Native.Nat.{ℕ, zero, suc}
 use lib.Dec.{eqb}
 use Rattle.meaning.specs.Views.{every}

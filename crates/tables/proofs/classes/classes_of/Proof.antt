@@ -23,13 +23,15 @@ returns-2 c =
     let y = c .before .before .before in
     let x = y .before .before in
     let width = c .before .width in
-    ap Count (width .ensures) ∙ width-counts (class x) (x .before .before .args .dom) 32 (y .found .given .0 .0) (omega arith) (sym (x .mask-of .ensures) ∙ y .found .given .1) (sym (width .ensures) ∙ c .if1 .taken)
+    let bits = sym (x .mask-of .ensures) ∙ y .found .given .1 in
+    ap Count (width .ensures) ∙ width-counts (class x) (x .before .before .args .dom) 32 (y .found .given .0 .0) (omega arith) bits (sym (width .ensures) ∙ c .if1 .taken)
 
 returns-3 : tie.Need-returns-3
 returns-3 c =
     let y = c .before .before .before in
     let x = y .before .before in
-    width-misses (class x) (x .before .before .args .dom) 32 (y .found .given .0 .0) (omega arith) (sym (x .mask-of .ensures) ∙ y .found .given .1) (λ e. c .if1 .left (c .before .width .ensures ∙ e))
+    let bits = sym (x .mask-of .ensures) ∙ y .found .given .1 in
+    width-misses (class x) (x .before .before .args .dom) 32 (y .found .given .0 .0) (omega arith) bits (λ e. c .if1 .left (c .before .width .ensures ∙ e))
 
 pub classes-of-spec : {M : Type 1} → statement M
 classes-of-spec =
