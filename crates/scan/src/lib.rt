@@ -66,11 +66,9 @@ fn facts_fit(facts: &[u8], o: OpNo, v: u32) -> bool
     requires { ⌜ o .0 < mostOps ⌝ }
     ensures { λ r. ⌜ r ≡ factsFit (now (facts .entry)) (o .0) v ⌝ }
 {
-    if fact_fits(facts, pre_row(o), v) {
-        fact_fits(facts, eff_row(o), v)
-    } else {
-        false
-    }
+    let pre = pre_row(o);
+    let eff = eff_row(o);
+    if fact_fits(facts, pre, v) { fact_fits(facts, eff, v) } else { false }
 }
 
 // The variable has the value x.
