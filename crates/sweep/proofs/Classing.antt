@@ -6,6 +6,7 @@ use native.Mathlib.Nat.{le-refl, mod-eq-of-lt, mul-add-mod-self-right}
 use native.Mathlib.Numerals.{add-one}
 use native.Mathlib.Omega.{arith}
 use lib.ListN.{getD}
+use Rattle.meaning.specs.Limits.{mostVars, mostStates}
 use Rattle.meaning.specs.Numbering.{size, Positive, Digits}
 use Rattle.meaning.specs.Sas.{IsState}
 use Rattle.meaning.specs.Views.{seen, image}
@@ -14,8 +15,8 @@ use Rattle.meaning.proofs.Bounds.{view-onto}
 use Rattle.tables.specs.declared.Counts.{Counts}
 use Rattle.tables.specs.Layout.{rowAt, domAt, classRow, classAt}
 use Rattle.tables.specs.Task.{stateOf}
-use Rattle.sweep.specs.Sweeps.{Made}
-use Rattle.sweep.specs.Classes.{unpriced, viewOf, SeenAt, Classed}
+use Rattle.sweep.specs.Inside.Sweeps.{Made}
+use Rattle.sweep.specs.Inside.Classes.{unpriced, viewOf, seenPlaces, SeenAt, Classed}
 use Rattle.sweep.proofs.Walking.{size-le, Numbered, numbered-small, numbered-next}
 
 -- ---- a fact seen by classes
@@ -42,14 +43,14 @@ count-some c (suc n) l = omega arith
 pub product-more : (K : ℕ → ℕ) (v n k : ℕ) → n ≡ size K v → k ≡ K v → n * k ≡ size K (v + 1)
 product-more K v n k e h = rw add-one (ap₂ _*_ e h)
 
-pub product-small : (K : ℕ → ℕ) (m v n k : ℕ) → Positive K m → size K m ≤ 4096 → v < m → n ≡ size K v → k ≡ K v → n * k ≤ 4096
+pub product-small : (K : ℕ → ℕ) (m v n k : ℕ) → Positive K m → size K m ≤ mostStates → v < m → n ≡ size K v → k ≡ K v → n * k ≤ mostStates
 product-small K m v n k p s l e h = omega (arith, product-more K v n k e h, size-le K (v + 1) m (omega arith) p)
 
 -- ---- the table of the task of classes
 
 module _ (c : Counts) (facts : List ℕ) (m : ℕ) where
   -- rows of facts seen by classes, and then the numbers of classes in the first row
-  pub classed : (t₀ t : List ℕ) → c .vars ≤ 8 → ((i : ℕ) → i < 1048 → SeenAt facts m i (getD t₀ i 0))
+  pub classed : (t₀ t : List ℕ) → c .vars ≤ mostVars → ((i : ℕ) → i < seenPlaces → SeenAt facts m i (getD t₀ i 0))
       → Made (λ v x. x ≡ countOf (classAt facts m v) (domAt facts v)) (c .vars) t₀ t → Classed c facts m t
   classed t₀ t few s made =
       record {
@@ -94,12 +95,12 @@ module _ (c : Counts) (facts : List ℕ) (m : ℕ) (ok : Valid (unpriced c facts
 
   -- the numbers stay small on the way to an image, and so do those of the next turn
   pub image-small : (s : List ℕ) → IsState (unpriced c facts .sas) (stateOf s) → (v stride b : ℕ)
-      → Numbered (viewOf facts m [] .classes) (image (viewOf facts m []) (stateOf s)) (c .vars) v stride b → (stride ≤ 4096) × (b < 4096)
+      → Numbered (viewOf facts m [] .classes) (image (viewOf facts m []) (stateOf s)) (c .vars) v stride b → (stride ≤ mostStates) × (b < mostStates)
   image-small s h =
       numbered-small (viewOf facts m [] .classes) (image (viewOf facts m []) (stateOf s)) (c .vars) counts-positive (image-digits s h) (ok .few-states m lm)
 
   pub image-next : (s : List ℕ) → IsState (unpriced c facts .sas) (stateOf s) → (v stride b : ℕ)
       → Numbered (viewOf facts m [] .classes) (image (viewOf facts m []) (stateOf s)) (c .vars) v stride b → v < c .vars → (x k : ℕ)
-      → x ≡ image (viewOf facts m []) (stateOf s) v → k ≡ viewOf facts m [] .classes v → (stride * k ≤ 4096) × (b + x * stride < 4096)
+      → x ≡ image (viewOf facts m []) (stateOf s) v → k ≡ viewOf facts m [] .classes v → (stride * k ≤ mostStates) × (b + x * stride < mostStates)
   image-next s h =
       numbered-next (viewOf facts m [] .classes) (image (viewOf facts m []) (stateOf s)) (c .vars) counts-positive (image-digits s h) (ok .few-states m lm)

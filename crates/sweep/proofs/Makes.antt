@@ -7,7 +7,7 @@ use native.Mathlib.Omega.{arith}
 use borrow.Author.Count.{below-more}
 use lib.ListN.{length, getD, set, length-set}
 use lib.Seq.{getD-set-same, getD-set-other}
-use Rattle.sweep.specs.Sweeps.{Made}
+use Rattle.sweep.specs.Inside.Sweeps.{Made}
 
 module _ (P : ℕ → ℕ → Type 0) (t₀ : List ℕ) where
   pub made-none : Made P 0 t₀ t₀

@@ -14,21 +14,22 @@ use Rattle.graph.proofs.Leasts.{least-zero, least-suc}
 use Rattle.graph.proofs.Settles.{best-same}
 use Rattle.graph.proofs.Rounded.{settled-at}
 use Rattle.graph.proofs.Sizes.{least-most}
+use Rattle.meaning.specs.Limits.{mostCost, mostStates}
 use Rattle.tables.specs.declared.Counts.{Counts}
-use Rattle.sweep.specs.Said.{said, read}
-use Rattle.sweep.specs.Walks.{spaceOf, Walkable}
-use Rattle.sweep.specs.Sweeps.{Priced, Within, Filled, Copied, Swept, Held, Counted}
+use Rattle.sweep.specs.Said.{said, saidAt}
+use Rattle.sweep.specs.Inside.Walks.{spaceOf, Walkable}
+use Rattle.sweep.specs.Inside.Sweeps.{PricesSmall, Addable, Filled, Copied, Swept, Held, Counted}
 use Rattle.sweep.proofs.Saids.{said-lt, said-inj}
 use Rattle.sweep.proofs.Walking.{walkable-closed, walkable-some}
 
 -- a graph with few states and small costs whose steps stay inside
 pub record Good (G : Graph) : Type 0 where
   pub some : 1 ≤ G .states
-  pub few : G .states ≤ 4096
+  pub few : G .states ≤ mostStates
   pub closed : Closed G
-  pub small : (o : ℕ) → o < G .ops → G .cost o ≤ 1000000
+  pub small : (o : ℕ) → o < G .ops → G .cost o ≤ mostCost
 
-pub walkable-good : (c : Counts) (facts prices : List ℕ) → Walkable c facts → Priced c prices → Good (spaceOf c facts prices)
+pub walkable-good : (c : Counts) (facts prices : List ℕ) → Walkable c facts → PricesSmall c prices → Good (spaceOf c facts prices)
 walkable-good c facts prices W P =
     record { some = walkable-some c facts prices W; few = W .few; closed = walkable-closed c facts prices W; small = P }
 
@@ -40,14 +41,14 @@ pub record Turn (G : Graph) (t₀ w₀ t w : List ℕ) (r : ℕ) : Type 0 where
   pub first : (i : ℕ) → 1 ≤ i → i ≤ r → Unchanged G i → ⊥
 
 module _ (G : Graph) (good : Good G) where
-  pub held-within : (t₀ t : List ℕ) (r : ℕ) → r < G .states → Held G t₀ t r → Within (G .states) t
+  pub held-within : (t₀ t : List ℕ) (r : ℕ) → r < G .states → Held G t₀ t r → Addable (G .states) t
   held-within t₀ t r l h a k s =
       omega
-      (arith, good .few, least-most G 1000000 (good .small) r a (getD t a 0) (sym (h .made a k) ∙ said-lt (getD t a 0) s))
+      (arith, good .few, least-most G mostCost (good .small) r a (getD t a 0) (sym (h .made a k) ∙ said-lt (getD t a 0) s))
 
 -- n is the number of states
 module _ (G : Graph) (good : Good G) (n : ℕ) (is : n ≡ G .states) where
-  pub turn-within : (t₀ w₀ t w : List ℕ) (r : ℕ) → Turn G t₀ w₀ t w r → Within n t
+  pub turn-within : (t₀ w₀ t w : List ℕ) (r : ℕ) → Turn G t₀ w₀ t w r → Addable n t
   turn-within t₀ w₀ t w r turn = rw is (held-within G good t₀ t r (turn .less) (turn .table))
 
   pub turn-none : (t₀ t w : List ℕ) → Filled n G t₀ t → Turn G t w t w 0
@@ -64,10 +65,10 @@ module _ (G : Graph) (good : Good G) (n : ℕ) (is : n ≡ G .states) where
     sw : Swept (G .states) G t w w′ changed
     sw = subst (λ (k : ℕ). Swept k G t w w′ changed) is swept
 
-    next-made : (a : ℕ) → a < G .states → read w′ a ≡ least G (r + 1) a
+    next-made : (a : ℕ) → a < G .states → saidAt w′ a ≡ least G (r + 1) a
     next-made a l =
         rw add-one
-        (sw .table .made a l ∙ best-same G (good .closed) (read t) (least G r) (turn .table .made) a l (G .ops) (le-refl (G .ops))
+        (sw .table .made a l ∙ best-same G (good .closed) (saidAt t) (least G r) (turn .table .made) a l (G .ops) (le-refl (G .ops))
         ∙ sym (least-suc G r a))
 
     back : r + 1 - 1 ≡ r

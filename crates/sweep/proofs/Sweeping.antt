@@ -10,13 +10,13 @@ use lib.ListN.{length, getD, set}
 use lib.Seq.{getD-set-same, getD-set-other}
 use Rattle.graph.specs.Graph.{Graph}
 use Rattle.graph.specs.Least.{best}
-use Rattle.sweep.specs.Said.{said, read}
-use Rattle.sweep.specs.Sweeps.{Swept}
+use Rattle.sweep.specs.Said.{said, saidAt}
+use Rattle.sweep.specs.Inside.Sweeps.{Swept}
 use Rattle.sweep.proofs.Makes.{made-none, made-more, made-end}
 
 module _ (G : Graph) (old new₀ : List ℕ) where
   Cell : ℕ → ℕ → Type 0
-  Cell a x = said x ≡ best G (read old) a (G .ops)
+  Cell a x = said x ≡ best G (saidAt old) a (G .ops)
 
   pub swept-none : Swept 0 G old new₀ new₀ false
   unfolding Cell
@@ -31,7 +31,7 @@ module _ (G : Graph) (old new₀ : List ℕ) where
         differs = λ e f. s .differs e (λ a l. f a (omega arith));
       }
 
-  module _ (k v : ℕ) (new : List ℕ) (inside : k < length new) (made : said v ≡ best G (read old) k (G .ops)) where
+  module _ (k v : ℕ) (new : List ℕ) (inside : k < length new) (made : said v ≡ best G (saidAt old) k (G .ops)) where
     here : getD (set new k v) k 0 ≡ v
     here = getD-set-same new k v 0 inside
 

@@ -4,6 +4,7 @@ use mathlib.Core.List.{List, []}
 use Prim.Native.Nat.{ℕ, _-_, _≤_, _<_, zero-le}
 use native.Mathlib.Omega.{arith}
 use lib.ListN.{getD}
+use Rattle.meaning.specs.Limits.{mostOps}
 use Rattle.meaning.specs.Sas.{IsState}
 use Rattle.meaning.specs.Views.{seen, Onto, classTask, viewGraph}
 use Rattle.meaning.specs.Split.{countOf, view, Valid}
@@ -15,16 +16,16 @@ use Rattle.meaning.proofs.Bounds.{view-onto}
 use Rattle.tables.specs.declared.Counts.{Counts}
 use Rattle.tables.specs.Layout.{rowAt, domAt, goalAt, preAt, effAt, goalRow, preRow, effRow, classAt, shareAt}
 use Rattle.tables.specs.Task.{sasOf, taskOf, tables, stateOf}
-use Rattle.sweep.specs.Said.{said, read}
-use Rattle.sweep.specs.Walks.{spaceOf, Walkable}
-use Rattle.sweep.specs.Sweeps.{Priced, Counted}
-use Rattle.sweep.specs.Classes.{unpriced, viewOf, viewGraphOf, SharesSmall, imageOf, Classed}
+use Rattle.sweep.specs.Said.{said, saidAt}
+use Rattle.sweep.specs.Inside.Walks.{spaceOf, Walkable}
+use Rattle.sweep.specs.Inside.Sweeps.{PricesSmall, Counted}
+use Rattle.sweep.specs.Inside.Classes.{seenRows, unpriced, viewOf, viewGraphOf, SharesSmall, imageOf, Classed}
 use Rattle.sweep.proofs.Classing.{counts-positive}
 use Rattle.sweep.proofs.Alike.{Alike, size-alike, spaces-alike, counted-alike}
 
 module _ (c : Counts) (facts : List ℕ) (m : ℕ) (ok : Valid (unpriced c facts)) (lm : m < c .maps) (r : List ℕ) (C : Classed c facts m r) where
   -- an accepted row of facts is seen by classes
-  row-seen : (row v : ℕ) → 1 ≤ row → row < 131 → v < c .vars → rowAt facts row v ≤ domAt facts v
+  row-seen : (row v : ℕ) → 1 ≤ row → row < seenRows → v < c .vars → rowAt facts row v ≤ domAt facts v
       → rowAt r row v ≡ seen (classAt facts m v) (rowAt facts row v)
   row-seen row v lo hi l f =
       C .rows row v lo hi (omega (arith, ok .vars .1))
@@ -69,8 +70,8 @@ module _ (c : Counts) (facts costs shares : List ℕ) (m : ℕ) (prices : List �
       spaces-alike (classTask (sasOf (tables c facts [] [])) (viewOf facts m prices)) (S .dom) (S .init) (S .goal) (S .pre) (S .eff) (S .cost)
       (λ v l. refl) (λ v l. refl) (λ o v lo l. refl) (λ o v lo l. refl) row
 
-pub shares-priced : (c : Counts) (shares : List ℕ) (m : ℕ) (prices : List ℕ) → c .ops ≤ 64 → ((o : ℕ) → o < 64 → getD prices o 0 ≡ shareAt shares m o)
-    → SharesSmall c shares m → Priced c prices
+pub shares-priced : (c : Counts) (shares : List ℕ) (m : ℕ) (prices : List ℕ) → c .ops ≤ mostOps → ((o : ℕ) → o < mostOps → getD prices o 0 ≡ shareAt shares m o)
+    → SharesSmall c shares m → PricesSmall c prices
 shares-priced c shares m prices few row small o l = rw (row o (omega arith)) (small o l)
 
 -- what the counted table says of a state's image is its distance in the map
@@ -89,7 +90,7 @@ module _ (c : Counts) (facts shares : List ℕ) (m : ℕ) (ok : Valid (unpriced 
       let G = viewGraph (T .sas) (view T m) in
       let D : Counted G t₀ t r = counted-alike (viewGraphOf c facts m prices) G (priced-alike c facts [] shares m prices row) t₀ t r C in
       let i = imageOf c facts m (stateOf s) in
-      ap (read t) e ∙ D .table .made i (image-below s h)
+      ap (saidAt t) e ∙ D .table .made i (image-below s h)
       ∙ round-distance (unpriced c facts .sas) (view T m) (ok .proper) shared-onto r (D .rounds) i (image-below s h)
 
 -- an accepted task is accepted whatever it costs

@@ -2,7 +2,7 @@
 use borrow.Author.Needs.{needs}
 use mathlib.Core.Path.{sym, _∙_}
 use Rattle.tables.specs.Task.{tables}
-use Rattle.views.specs.Sums.{sumSaid}
+use Rattle.views.specs.Inside.Sums.{sumSaid}
 use Rattle.sweep.proofs.Viewing.{valid-unpriced}
 use Rattle.views.proofs.Judging.{bound-clean, given-bound-refused, given-bound}
 use Rattle.views.proofs.bound.Statement.{statement}
@@ -14,23 +14,23 @@ enum-told c = search needs
 sum-of-requires : tie.Need-sum-of-requires
 sum-of-requires c κs =
     let a = c .before .before .before .before .before .before .before .args in
-    let bound-fault = c .before .before .bound-fault in
-    let q = bound-clean (tables (a .c) (a .facts .now) (a .costs .now) (a .shares .now)) (a .s .now) (sym (bound-fault .ensures) ∙ c .enum-told .given .1) in
+    let input-fault = c .before .before .input-fault in
+    let q = bound-clean (tables (a .c) (a .facts .now) (a .costs .now) (a .shares .now)) (a .s .now) (sym (input-fault .ensures) ∙ c .enum-told .given .1) in
     (valid-unpriced (a .c) (a .facts .now) (a .costs .now) (a .shares .now) (q .0), (λ m lm o l. q .0 .shares m o lm l), q .1)
 
 returns : tie.Need-returns
 returns c =
     let a = c .before .before .before .before .before .before .before .before .args in
-    let bound-fault = c .before .before .before .bound-fault in
-    given-bound-refused (tables (a .c) (a .facts .now) (a .costs .now) (a .shares .now)) (a .s .now) (c .before .found .given .0 .0) (sym (bound-fault .ensures) ∙ c .before .found .given .1)
+    let input-fault = c .before .before .before .input-fault in
+    given-bound-refused (tables (a .c) (a .facts .now) (a .costs .now) (a .shares .now)) (a .s .now) (c .before .found .given .0 .0) (sym (input-fault .ensures) ∙ c .before .found .given .1)
 
 returns-2 : tie.Need-returns-2
 returns-2 c =
     let a = c .before .before .before .before .before .before .before .before .before .args in
-    let bound-fault = c .before .before .before .before .bound-fault in
+    let input-fault = c .before .before .before .before .input-fault in
     let enum-told = c .before .before .enum-told in
     given-bound (a .c) (a .facts .now) (a .costs .now) (a .shares .now) (a .s .now) (sumSaid (c .before .sum-of .result)) (c .as-bound .result)
-    (sym (bound-fault .ensures) ∙ enum-told .given .1) (c .before .sum-of .ensures) (c .as-bound .ensures)
+    (sym (input-fault .ensures) ∙ enum-told .given .1) (c .before .sum-of .ensures) (c .as-bound .ensures)
 
 pub bound-spec : {M : Type 1} → statement M
 bound-spec =

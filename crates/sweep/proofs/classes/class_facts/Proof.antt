@@ -6,7 +6,7 @@ use native.Mathlib.Omega.{arith}
 use lib.ListN.{length}
 use Rattle.meaning.specs.Split.{countOf}
 use Rattle.tables.specs.Layout.{domAt, classAt}
-use Rattle.sweep.specs.Sweeps.{Made}
+use Rattle.sweep.specs.Inside.Sweeps.{Made}
 use Rattle.sweep.proofs.Makes.{made-none, made-more, made-end}
 use Rattle.sweep.proofs.Classing.{classed}
 use Rattle.sweep.proofs.classes.class_facts.Statement.{statement}

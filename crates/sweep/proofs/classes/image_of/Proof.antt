@@ -6,7 +6,7 @@ use mathlib.Core.List.{[]}
 use native.Mathlib.Omega.{arith}
 use Rattle.meaning.specs.Views.{image}
 use Rattle.tables.specs.Task.{stateOf}
-use Rattle.sweep.specs.Classes.{viewOf}
+use Rattle.sweep.specs.Inside.Classes.{viewOf}
 use Rattle.sweep.proofs.Walking.{Numbered, numbered-none, numbered-more, numbered-all}
 use Rattle.sweep.proofs.Classing.{class-is, image-next, image-small}
 use Rattle.sweep.proofs.classes.image_of.Statement.{statement}

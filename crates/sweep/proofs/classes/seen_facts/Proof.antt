@@ -6,8 +6,8 @@ use native.Mathlib.Omega.{arith}
 use lib.ListN.{length}
 use Rattle.meaning.specs.Views.{seen}
 use Rattle.tables.specs.Layout.{classAt}
-use Rattle.sweep.specs.Sweeps.{Made}
-use Rattle.sweep.specs.Classes.{SeenAt}
+use Rattle.sweep.specs.Inside.Sweeps.{Made}
+use Rattle.sweep.specs.Inside.Classes.{SeenAt}
 use Rattle.sweep.proofs.Makes.{made-none, made-more}
 use Rattle.sweep.proofs.classes.seen_facts.Statement.{statement}
 use Rattle.sweep.proofs.classes.seen_facts.Tie as tie

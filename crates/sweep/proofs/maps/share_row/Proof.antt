@@ -5,7 +5,7 @@ use mathlib.Core.Path.{_≡_, refl}
 use native.Mathlib.Omega.{arith}
 use lib.ListN.{length}
 use Rattle.tables.specs.Layout.{shareAt}
-use Rattle.sweep.specs.Sweeps.{Made}
+use Rattle.sweep.specs.Inside.Sweeps.{Made}
 use Rattle.sweep.proofs.Makes.{made-none, made-more}
 use Rattle.sweep.proofs.maps.share_row.Statement.{statement}
 use Rattle.sweep.proofs.maps.share_row.Tie as tie

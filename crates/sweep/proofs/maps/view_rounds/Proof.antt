@@ -1,8 +1,8 @@
 -- `maps::view_rounds` meets its contract: what is counted on the task of classes is counted on the view. Assumes nothing.
 use borrow.Author.Needs.{needs}
 use native.Mathlib.Omega.{arith}
-use Rattle.sweep.specs.Walks.{spaceOf}
-use Rattle.sweep.specs.Classes.{viewGraphOf}
+use Rattle.sweep.specs.Inside.Walks.{spaceOf}
+use Rattle.sweep.specs.Inside.Classes.{viewGraphOf}
 use Rattle.sweep.proofs.Alike.{counted-alike}
 use Rattle.sweep.proofs.Viewing.{classed-walkable, classed-alike}
 use Rattle.sweep.proofs.maps.view_rounds.Statement.{statement}

@@ -4,8 +4,8 @@ use Prim.Native.Nat.{ℕ, _≤_, _-_}
 use mathlib.Core.Path.{_≡_, ap, _∙_, subst}
 use native.Mathlib.Omega.{arith}
 use Rattle.graph.specs.Least.{atGoal, best}
-use Rattle.sweep.specs.Said.{said, read}
-use Rattle.sweep.specs.Walks.{spaceOf, Spells, nextOf}
+use Rattle.sweep.specs.Said.{said, saidAt}
+use Rattle.sweep.specs.Inside.Walks.{spaceOf, HasDigits, nextOf}
 use Rattle.sweep.proofs.Saids.{cell-more}
 use Rattle.sweep.proofs.Walking.{step-is, goal-is, spelt-digits, relax-fits}
 use Rattle.sweep.proofs.rounds.cell.Statement.{statement}
@@ -13,7 +13,7 @@ use Rattle.sweep.proofs.rounds.cell.Tie as tie
 
 abbrev Inv-loop : tie.InvT-loop
 Inv-loop c facts prices old s ops least₀ o₀ least o =
-    (o ≤ ops) × ((a : ℕ) → Spells (c .vars) facts a s → said least ≡ best (spaceOf c facts prices) (read old) a o)
+    (o ≤ ops) × ((a : ℕ) → HasDigits (c .vars) facts a s → said least ≡ best (spaceOf c facts prices) (saidAt old) a o)
 
 abbrev μ-loop : tie.MeasureT-loop
 μ-loop c facts prices old s ops least₀ o₀ least o = ops - o
@@ -70,7 +70,7 @@ returns c =
     let digits = c .before .before .before .before .before .digits in
     let l = c .before .loop in
     let e : l .o ≡ x .c .ops = omega (arith, l .inv .0, c .loop-test .left) in
-    subst (λ (k : ℕ). said (l .least) ≡ best (spaceOf (x .c) (x .facts .now) (x .prices .now)) (read (x .old .now)) (x .a .0) k) e
+    subst (λ (k : ℕ). said (l .least) ≡ best (spaceOf (x .c) (x .facts .now) (x .prices .now)) (saidAt (x .old .now)) (x .a .0) k) e
     (l .inv .1 (x .a .0) (digits .ensures))
 
 pub cell-spec : {M : Type 1} → statement M

@@ -3,7 +3,7 @@ use borrow.Author.Needs.{needs}
 use Prim.Native.Nat.{_-_}
 use native.Mathlib.Omega.{arith}
 use borrow.Author.Tests.{not-true, not-false}
-use Rattle.sweep.specs.Walks.{spaceOf}
+use Rattle.sweep.specs.Inside.Walks.{spaceOf}
 use Rattle.sweep.proofs.Rounding.{Turn, walkable-good, turn-within, turn-none, ends, goes-on}
 use Rattle.sweep.proofs.rounds.count_rounds.Statement.{statement}
 use Rattle.sweep.proofs.rounds.count_rounds.Tie as tie

@@ -6,8 +6,8 @@ use mathlib.Core.List.{[]}
 use native.Mathlib.Omega.{arith}
 use lib.ListN.{length}
 use Rattle.graph.specs.Least.{atGoal}
-use Rattle.sweep.specs.Walks.{spaceOf}
-use Rattle.sweep.specs.Sweeps.{Filled}
+use Rattle.sweep.specs.Inside.Walks.{spaceOf}
+use Rattle.sweep.specs.Inside.Sweeps.{Filled}
 use Rattle.sweep.proofs.Makes.{made-none, made-more, made-end}
 use Rattle.sweep.proofs.Walking.{goal-is}
 use Rattle.sweep.proofs.rounds.fill.Statement.{statement}

@@ -5,8 +5,8 @@ use mathlib.Core.Path.{subst}
 use mathlib.Core.Logic.{⊎-elim}
 use native.Mathlib.Omega.{arith}
 use lib.ListN.{length}
-use Rattle.sweep.specs.Walks.{spaceOf}
-use Rattle.sweep.specs.Sweeps.{Within, Swept}
+use Rattle.sweep.specs.Inside.Walks.{spaceOf}
+use Rattle.sweep.specs.Inside.Sweeps.{Addable, Swept}
 use Rattle.sweep.proofs.Sweeping.{swept-none, swept-same, swept-diff, swept-end}
 use Rattle.sweep.proofs.rounds.sweep.Statement.{statement}
 use Rattle.sweep.proofs.rounds.sweep.Tie as tie
@@ -24,7 +24,7 @@ cell-requires : tie.Need-cell-requires Inv-loop μ-loop
 cell-requires c κs =
     let args = c .before .before .before .before .before .before .args in
     let p = c .before .before .before .before .before .before .pre in
-    (p .0 .0, p .0 .1, omega (arith, c .loop-test .taken, p .0 .2), subst (λ (k : ℕ). Within k (args .old .now)) (p .0 .2) (p .1 .2))
+    (p .0 .0, p .0 .1, omega (arith, c .loop-test .taken, p .0 .2), subst (λ (k : ℕ). Addable k (args .old .now)) (p .0 .2) (p .1 .2))
 
 mul-if1 : tie.Need-mul-if1 Inv-loop μ-loop
 mul-if1 c =

@@ -7,7 +7,7 @@ use native.Mathlib.Omega.{arith}
 use lib.ListN.{length}
 use Rattle.meaning.specs.Numbering.{size, digit}
 use Rattle.tables.specs.Layout.{domAt}
-use Rattle.sweep.specs.Sweeps.{Made}
+use Rattle.sweep.specs.Inside.Sweeps.{Made}
 use Rattle.sweep.proofs.Makes.{made-none, made-more}
 use Rattle.sweep.proofs.Walking.{rest-more, rest-digit}
 use Rattle.sweep.proofs.walk.digits.Statement.{statement}

@@ -6,14 +6,15 @@ use mathlib.Core.List.{[]}
 use native.Mathlib.Omega.{arith}
 use Rattle.meaning.specs.Bound.{away, summed}
 use Rattle.tables.specs.Task.{taskOf, tables, stateOf}
-use Rattle.views.specs.Sums.{sumSaid}
+use Rattle.sweep.specs.Said.{NONE}
+use Rattle.views.specs.Inside.Sums.{sumSaid}
 use Rattle.views.proofs.Summing.{sum-more}
 use Rattle.views.proofs.sums.sum_of.Statement.{statement}
 use Rattle.views.proofs.sums.sum_of.Tie as tie
 
 abbrev Inv-loop : tie.InvT-loop
 Inv-loop c facts shares s maps sum₀ m₀ sum m =
-    (m ≤ maps) × (sum .total ≤ m * 4294967295) × (sumSaid sum ≡ summed (away (taskOf (tables c facts [] shares)) (stateOf s)) m)
+    (m ≤ maps) × (sum .total ≤ m * NONE) × (sumSaid sum ≡ summed (away (taskOf (tables c facts [] shares)) (stateOf s)) m)
 
 abbrev μ-loop : tie.MeasureT-loop
 μ-loop c facts shares s maps sum₀ m₀ sum m = maps - m
@@ -26,8 +27,8 @@ away-of-requires c κs =
     let pre = c .before .before .before .before .before .pre in
     (pre .0, c .loop-test .taken, pre .1 (c .before .loop .m) (c .loop-test .taken), pre .2)
 
-joined-requires : tie.Need-joined-requires Inv-loop μ-loop
-joined-requires c κs =
+with-distance-requires : tie.Need-with-distance-requires Inv-loop μ-loop
+with-distance-requires c κs =
     let pre = c .before .before .before .before .before .before .pre in
     let loop = c .before .before .loop in
     omega (arith, loop .inv .1, c .before .loop-test .taken, pre .0 .maps .1)
@@ -39,8 +40,8 @@ loop-again c =
     let loop-test = c .before .before .loop-test in
     let f = away (taskOf (tables (a .c) (a .facts .now) [] (a .shares .now))) (stateOf (a .s .now)) in (
       omega (arith, loop-test .taken),
-      omega (arith, l .inv .1, c .joined .ensures .1),
-      sum-more f (l .m) (sumSaid (l .sum)) (sumSaid (c .joined .result)) (c .before .away-of .result) (l .inv .2) (c .before .away-of .ensures) (c .joined .ensures .0),
+      omega (arith, l .inv .1, c .with-distance .ensures .1),
+      sum-more f (l .m) (sumSaid (l .sum)) (sumSaid (c .with-distance .result)) (c .before .away-of .result) (l .inv .2) (c .before .away-of .ensures) (c .with-distance .ensures .0),
     )
 
 returns : tie.Need-returns Inv-loop μ-loop
@@ -58,7 +59,7 @@ sum-of-spec =
     μ-loop
     loop-holds
     away-of-requires
-    joined-requires
+    with-distance-requires
     (λ c. search needs)
     (λ c. search needs)
     loop-again
