@@ -7,7 +7,7 @@ use native.Mathlib.Numerals.{add-one}
 use native.Mathlib.Omega.{arith}
 use lib.ListN.{getD}
 use Rattle.meaning.specs.Limits.{mostVars, mostStates}
-use Rattle.meaning.specs.Numbering.{size, Positive, Digits}
+use Rattle.meaning.specs.Numbering.{size, Positive}
 use Rattle.meaning.specs.Sas.{IsState}
 use Rattle.meaning.specs.Views.{seen, image}
 use Rattle.meaning.specs.Split.{countOf, Valid}
@@ -17,7 +17,7 @@ use Rattle.tables.specs.Layout.{rowAt, domAt, classRow, classAt}
 use Rattle.tables.specs.Task.{stateOf}
 use Rattle.sweep.specs.Inside.Sweeps.{Made}
 use Rattle.sweep.specs.Inside.Classes.{unpriced, viewOf, seenPlaces, SeenAt, Classed}
-use Rattle.sweep.proofs.Walking.{size-le, Numbered, numbered-small, numbered-next}
+use Rattle.sweep.proofs.Walking.{size-le, Digital}
 
 -- ---- a fact seen by classes
 
@@ -84,23 +84,12 @@ module _ (c : Counts) (facts : List ℕ) (m : ℕ) (ok : Valid (unpriced c facts
   pub counts-positive : Positive (viewOf facts m [] .classes) (c .vars)
   counts-positive v l = count-some (classAt facts m v) (domAt facts v) (ok .proper .values v l)
 
-  pub image-digits : (s : List ℕ) → IsState (unpriced c facts .sas) (stateOf s)
-      → Digits (viewOf facts m [] .classes) (image (viewOf facts m []) (stateOf s)) (c .vars)
-  image-digits s h v l = view-onto (unpriced c facts) ok m lm .inside v (stateOf s v) l (h v l)
-
-  -- a state's class, read from the tables
-  pub class-is : (s : List ℕ) (v x row y z : ℕ) → row ≡ classRow m v → x ≡ stateOf s v → y ≡ rowAt facts row x → z ≡ y
-      → z ≡ image (viewOf facts m []) (stateOf s) v
-  class-is s v x row y z r e h g = g ∙ h ∙ ap₂ (rowAt facts) r e
-
-  -- the numbers stay small on the way to an image, and so do those of the next turn
-  pub image-small : (s : List ℕ) → IsState (unpriced c facts .sas) (stateOf s) → (v stride b : ℕ)
-      → Numbered (viewOf facts m [] .classes) (image (viewOf facts m []) (stateOf s)) (c .vars) v stride b → (stride ≤ mostStates) × (b < mostStates)
-  image-small s h =
-      numbered-small (viewOf facts m [] .classes) (image (viewOf facts m []) (stateOf s)) (c .vars) counts-positive (image-digits s h) (ok .few-states m lm)
-
-  pub image-next : (s : List ℕ) → IsState (unpriced c facts .sas) (stateOf s) → (v stride b : ℕ)
-      → Numbered (viewOf facts m [] .classes) (image (viewOf facts m []) (stateOf s)) (c .vars) v stride b → v < c .vars → (x k : ℕ)
-      → x ≡ image (viewOf facts m []) (stateOf s) v → k ≡ viewOf facts m [] .classes v → (stride * k ≤ mostStates) × (b + x * stride < mostStates)
-  image-next s h =
-      numbered-next (viewOf facts m [] .classes) (image (viewOf facts m []) (stateOf s)) (c .vars) counts-positive (image-digits s h) (ok .few-states m lm)
+  -- the classes of a state are digits of its image
+  pub image-digital : (s : List ℕ) → IsState (unpriced c facts .sas) (stateOf s)
+      → Digital (viewOf facts m [] .classes) (image (viewOf facts m []) (stateOf s)) (c .vars)
+  image-digital s h =
+      record {
+        positive = counts-positive;
+        below = λ v l. view-onto (unpriced c facts) ok m lm .inside v (stateOf s v) l (h v l);
+        few = ok .few-states m lm;
+      }

@@ -93,7 +93,7 @@ beyond-within n old (to b) v h i e l =
     omega (arith, h b (i b refl) (omega arith))
 
 -- one operator more
-pub cell-more : (G : Graph) (old : List ℕ) (a o acc k v r : ℕ) (s : Next) → said acc ≡ best G (saidAt old) a o → s ≡ G .succ o a → k ≡ G .cost o
+pub cell-more : (G : Graph) (old : List ℕ) {a o k : ℕ} {s : Next} (acc v r : ℕ) → said acc ≡ best G (saidAt old) a o → s ≡ G .succ o a → k ≡ G .cost o
     → said v ≡ afterStep (saidAt old) s → said r ≡ lower (said acc) (plus k (said v)) → said r ≡ best G (saidAt old) a (o + 1)
-cell-more G old a o acc k v r s h₁ h₂ h₃ h₄ h₅ =
+cell-more G old acc v r h₁ h₂ h₃ h₄ h₅ =
     rw add-one (h₅ ∙ ap₂ (λ x y. lower x y) h₁ (ap₂ plus h₃ (h₄ ∙ ap (afterStep (saidAt old)) h₂)))

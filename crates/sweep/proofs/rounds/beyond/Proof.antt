@@ -1,4 +1,4 @@
--- `sweep::beyond` meets its contract. Assumes nothing.
+-- `rounds::beyond` meets its contract. Assumes nothing.
 use borrow.Author.Needs.{needs}
 use mathlib.Core.Path.{ap, sym, _∙_}
 use Prim.Native.Nat.{ℕ}

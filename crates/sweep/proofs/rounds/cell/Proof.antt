@@ -1,4 +1,4 @@
--- `sweep::cell` meets its contract: over the operators passed so far the cost is the least. Assumes nothing.
+-- `rounds::cell` meets its contract: over the operators passed so far the cost is the least. Assumes nothing.
 use borrow.Author.Needs.{needs}
 use Prim.Native.Nat.{ℕ, _≤_, _-_}
 use mathlib.Core.Path.{_≡_, ap, _∙_, subst}
@@ -42,11 +42,10 @@ relax-requires c κs =
     let pre = c .before .before .before .before .before .before .before .before .before .before .before .before .before .pre in
     let x = c .before .before .before .before .before .before .before .before .before .before .before .before .before .args in
     let digits = c .before .before .before .before .before .before .before .before .before .digits in
-    let loop = c .before .before .before .before .before .loop in
     let loop-test = c .before .before .before .before .loop-test in
     let cost-at = c .before .before .before .cost-at in
-    relax-fits (x .c) (x .facts .now) (x .prices .now) (pre .0) (x .old .now) (digits .result) (x .a .0) (loop .o) (cost-at .result) (c .beyond .result)
-    (nextOf (c .before .step-from .result)) (pre .1) (pre .2) (loop-test .taken) (pre .3) (digits .ensures) (c .before .step-from .ensures) (cost-at .ensures) (c .beyond .ensures)
+    relax-fits (x .c) (x .facts .now) (x .prices .now) (pre .0) (x .old .now) (digits .result) (pre .1) (pre .2) (loop-test .taken) (pre .3) (digits .ensures)
+    (c .before .step-from .ensures) (cost-at .ensures) (c .beyond .ensures)
 
 loop-again : tie.Need-loop-again Inv-loop μ-loop
 loop-again c =
@@ -59,8 +58,7 @@ loop-again c =
     let s = digits .result in (
       omega (arith, loop-test .taken),
       λ a h.
-          cell-more (spaceOf (x .c) (x .facts .now) (x .prices .now)) (x .old .now) a (l .o) (l .least) (cost-at .result) (c .before .beyond .result) (c .relax .result)
-          (nextOf (step-from .result)) (l .inv .1 a h) (step-from .ensures ∙ step-is (x .c) (x .facts .now) (x .prices .now) a (l .o) s h)
+          cell-more (spaceOf (x .c) (x .facts .now) (x .prices .now)) (x .old .now) (l .least) (c .before .beyond .result) (c .relax .result) (l .inv .1 a h) (step-from .ensures ∙ step-is (x .c) (x .facts .now) (x .prices .now) a (l .o) s h)
           (cost-at .ensures) (c .before .beyond .ensures) (c .relax .ensures),
     )
 
