@@ -3,11 +3,10 @@ use mathlib.Core.Path.{_≡_, refl, sym, ap, ap₂, _∙_, subst}
 use mathlib.Core.List.{List, []}
 use Prim.Native.Nat.{ℕ, zero, suc, _+_, _*_, _-_, _%_, _≤_, _<_, zero-le}
 use native.Mathlib.Nat.{le-refl, mod-eq-of-lt, mul-add-mod-self-right}
-use native.Mathlib.Numerals.{add-one}
 use native.Mathlib.Omega.{arith}
 use lib.ListN.{getD}
-use Rattle.meaning.specs.Limits.{mostVars, mostStates}
-use Rattle.meaning.specs.Numbering.{size, Positive}
+use Rattle.meaning.specs.Limits.{mostVars}
+use Rattle.meaning.specs.Numbering.{Positive}
 use Rattle.meaning.specs.Sas.{IsState}
 use Rattle.meaning.specs.Views.{seen, image}
 use Rattle.meaning.specs.Split.{countOf, Valid}
@@ -17,7 +16,7 @@ use Rattle.tables.specs.Layout.{rowAt, domAt, classRow, classAt}
 use Rattle.tables.specs.Task.{stateOf}
 use Rattle.sweep.specs.Inside.Sweeps.{Made}
 use Rattle.sweep.specs.Inside.Classes.{unpriced, viewOf, seenPlaces, SeenAt, Classed}
-use Rattle.sweep.proofs.Walking.{size-le, Digital}
+use Rattle.sweep.proofs.Walking.{Digital}
 
 -- ---- a fact seen by classes
 
@@ -37,14 +36,6 @@ count-most c (suc n) k h = omega (arith, count-most c n k (λ x l. h x (omega ar
 pub count-some : (c : ℕ → ℕ) (n : ℕ) → 1 ≤ n → 1 ≤ countOf c n
 count-some c zero l = l
 count-some c (suc n) l = omega arith
-
--- ---- a product of numbers of values
-
-pub product-more : (K : ℕ → ℕ) (v n k : ℕ) → n ≡ size K v → k ≡ K v → n * k ≡ size K (v + 1)
-product-more K v n k e h = rw add-one (ap₂ _*_ e h)
-
-pub product-small : (K : ℕ → ℕ) (m v n k : ℕ) → Positive K m → size K m ≤ mostStates → v < m → n ≡ size K v → k ≡ K v → n * k ≤ mostStates
-product-small K m v n k p s l e h = omega (arith, product-more K v n k e h, size-le K (v + 1) m (omega arith) p)
 
 -- ---- the table of the task of classes
 

@@ -82,13 +82,12 @@ module _ (c : Counts) (facts shares : List ℕ) (m : ℕ) (ok : Valid (unpriced 
   pub image-below : (s : List ℕ) → IsState (unpriced c facts .sas) (stateOf s) → imageOf c facts m (stateOf s) < viewGraphOf c facts m [] .states
   image-below s h = α-below (unpriced c facts .sas) (view (taskOf (tables c facts [] shares)) m) (ok .proper) shared-onto (stateOf s) h
 
-  pub away-said : (prices t₀ t s : List ℕ) (r a : ℕ) → ((o : ℕ) → o < c .ops → getD prices o 0 ≡ shareAt shares m o)
+  pub away-said : (prices s : List ℕ) {t₀ t : List ℕ} {r a : ℕ} → ((o : ℕ) → o < c .ops → getD prices o 0 ≡ shareAt shares m o)
       → Counted (viewGraphOf c facts m prices) t₀ t r → IsState (unpriced c facts .sas) (stateOf s) → a ≡ imageOf c facts m (stateOf s)
       → said (getD t a 0) ≡ away (taskOf (tables c facts [] shares)) (stateOf s) m
-  away-said prices t₀ t s r a row C h e =
+  away-said prices s {t₀ = t₀} {t = t} {r = r} row C h e =
       let T = taskOf (tables c facts [] shares) in
-      let G = viewGraph (T .sas) (view T m) in
-      let D : Counted G t₀ t r = counted-alike (viewGraphOf c facts m prices) G (priced-alike c facts [] shares m prices row) t₀ t r C in
+      let D : Counted (viewGraph (T .sas) (view T m)) t₀ t r = counted-alike (priced-alike c facts [] shares m prices row) C in
       let i = imageOf c facts m (stateOf s) in
       ap (saidAt t) e ∙ D .table .made i (image-below s h)
       ∙ round-distance (unpriced c facts .sas) (view T m) (ok .proper) shared-onto r (D .rounds) i (image-below s h)

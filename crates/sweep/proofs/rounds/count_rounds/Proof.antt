@@ -4,7 +4,6 @@ use Prim.Native.Nat.{_≤_, _-_}
 use native.Mathlib.Omega.{arith}
 use borrow.Author.Tests.{not-true, not-false}
 use lib.ListN.{length}
-use Rattle.graph.specs.Graph.{Graph}
 use Rattle.sweep.specs.Inside.Walks.{spaceOf}
 use Rattle.sweep.proofs.Rounding.{Turn, Good, walkable-good, turn-within, turn-none, ends, goes-on}
 use Rattle.sweep.proofs.rounds.count_rounds.Statement.{statement}
