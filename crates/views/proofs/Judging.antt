@@ -11,8 +11,7 @@ use Rattle.refusals.specs.declared.Refusal.{Refusal}
 use Rattle.refusals.specs.declared.Refusal.the-variants.{OutOfRange, TableTooShort}
 use Rattle.meaning.specs.Limits.{mostStates}
 use Rattle.meaning.specs.Sas.{IsState}
-use Rattle.meaning.specs.Views.{viewGraph}
-use Rattle.meaning.specs.Split.{view, Valid}
+use Rattle.meaning.specs.Split.{Valid}
 use Rattle.meaning.specs.Bound.{away, bound}
 use Rattle.tables.specs.declared.Counts.{Counts}
 use Rattle.scan.specs.declared.Found.{Found}
@@ -105,12 +104,12 @@ module _ (c : Counts) (facts costs shares : List ℕ) where
   abbrev lent : Tables
   lent = tables c facts costs shares
 
-  pub given-rounds : (m : ℕ) (prices out out′ : List ℕ) (r : ℕ) → ((o : ℕ) → o < c .ops → getD prices o 0 ≡ shareAt shares m o) → mostStates ≤ length out
+  pub given-rounds : (m : ℕ) (prices : List ℕ) {out out′ : List ℕ} {r : ℕ} → ((o : ℕ) → o < c .ops → getD prices o 0 ≡ shareAt shares m o) → mostStates ≤ length out
       → askedFault lent m ≡ Clean → Counted (viewGraphOf c facts m prices) out out′ r → DistancesGiven lent m out (distances.Rounds r) out′
-  given-rounds m prices out out′ r row l e C =
+  given-rounds m prices {out = out} {out′ = out′} {r = r} row l e C =
       let asked = asked-clean lent m e in
       let T = taskOf lent in
-      let D = counted-alike (viewGraphOf c facts m prices) (viewGraph (T .sas) (view T m)) (priced-alike c facts costs shares m prices row) out out′ r C in
+      let D = counted-alike (priced-alike c facts costs shares m prices row) C in
       by-clean (distancesFault lent m out) _ _ (distances-asked lent m out l ∙ e)
       (r, refl, D .rounds, counted-distances T (asked .0) m (asked .1) out out′ r D)
 

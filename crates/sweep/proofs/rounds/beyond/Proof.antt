@@ -1,4 +1,4 @@
--- `rounds::beyond` meets its contract. Assumes nothing.
+-- `rounds::beyond` meets its contract: where a step leads on, the table is read; where it stops, there is none. Assumes nothing.
 use borrow.Author.Needs.{needs}
 use mathlib.Core.Path.{ap, sym, _∙_}
 use Prim.Native.Nat.{ℕ}

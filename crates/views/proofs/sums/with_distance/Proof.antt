@@ -1,4 +1,4 @@
--- `sums::with_distance` meets its contract. Assumes nothing.
+-- `sums::with_distance` meets its contract: none adds nothing, the first number stands alone, any other is added. Assumes nothing.
 use borrow.Author.Needs.{needs}
 use native.Mathlib.Omega.{arith}
 use Rattle.views.specs.Inside.Sums.{sumSaid}
