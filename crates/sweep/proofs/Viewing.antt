@@ -14,7 +14,7 @@ use Rattle.meaning.proofs.Distances.{round-distance}
 use Rattle.meaning.proofs.Sums.{sum-zero}
 use Rattle.meaning.proofs.Bounds.{view-onto}
 use Rattle.tables.specs.declared.Counts.{Counts}
-use Rattle.tables.specs.Layout.{rowAt, domAt, goalAt, preAt, effAt, goalRow, preRow, effRow, classAt, shareAt}
+use Rattle.tables.specs.Layout.{Tables, rowAt, domAt, goalAt, preAt, effAt, goalRow, preRow, effRow, classAt, shareAt}
 use Rattle.tables.specs.Task.{sasOf, taskOf, tables, stateOf}
 use Rattle.sweep.specs.Said.{said, saidAt}
 use Rattle.sweep.specs.Inside.Walks.{spaceOf, Walkable}
@@ -93,8 +93,8 @@ module _ (c : Counts) (facts shares : List ℕ) (m : ℕ) (ok : Valid (unpriced 
       ∙ round-distance (unpriced c facts .sas) (view T m) (ok .proper) shared-onto r (D .rounds) i (image-below s h)
 
 -- an accepted task is accepted whatever it costs
-pub valid-unpriced : (c : Counts) (facts costs shares : List ℕ) → Valid (taskOf (tables c facts costs shares)) → Valid (unpriced c facts)
-valid-unpriced c facts costs shares ok =
+pub valid-unpriced : (t : Tables) → Valid (taskOf t) → Valid (unpriced (t .counts) (t .facts))
+valid-unpriced t ok =
     let P = ok .proper in
     record {
       vars = ok .vars;
@@ -107,5 +107,5 @@ valid-unpriced c facts costs shares ok =
       none-missing = ok .none-missing;
       few-states = ok .few-states;
       shares = λ m o lm lo. zero-le;
-      split = λ o l. omega (arith, sum-zero (c .maps));
+      split = λ o l. omega (arith, sum-zero (t .counts .maps));
     }

@@ -11,9 +11,8 @@ use Rattle.refusals.specs.declared.Refusal.{Refusal}
 use Rattle.refusals.specs.declared.Refusal.the-variants.{OutOfRange, TableTooShort}
 use Rattle.meaning.specs.Limits.{mostStates}
 use Rattle.meaning.specs.Sas.{IsState}
-use Rattle.meaning.specs.Split.{Valid}
+use Rattle.meaning.specs.Split.{Task, Valid}
 use Rattle.meaning.specs.Bound.{away, bound}
-use Rattle.tables.specs.declared.Counts.{Counts}
 use Rattle.scan.specs.declared.Found.{Found}
 use Rattle.scan.specs.declared.Found.the-variants.{Clean, Fault}
 use Rattle.tables.specs.Layout.{Tables, shareAt}
@@ -100,29 +99,29 @@ module _ (t : Tables) (s : List ℕ) where
 
 -- ---- accepted
 
-module _ (c : Counts) (facts costs shares : List ℕ) where
-  abbrev lent : Tables
-  lent = tables c facts costs shares
+-- what the sweep gives, whatever the task costs, is promised of the task
+module _ (t : Tables) where
+  abbrev costless : Task
+  costless = taskOf (tables (t .counts) (t .facts) [] (t .shares))
 
-  pub given-rounds : (m : ℕ) (prices : List ℕ) {out out′ : List ℕ} {r : ℕ} → ((o : ℕ) → o < c .ops → getD prices o 0 ≡ shareAt shares m o) → mostStates ≤ length out
-      → askedFault lent m ≡ Clean → Counted (viewGraphOf c facts m prices) out out′ r → DistancesGiven lent m out (distances.Rounds r) out′
+  pub given-rounds : (m : ℕ) (prices : List ℕ) {out out′ : List ℕ} {r : ℕ}
+      → ((o : ℕ) → o < t .counts .ops → getD prices o 0 ≡ shareAt (t .shares) m o) → mostStates ≤ length out → askedFault t m ≡ Clean
+      → Counted (viewGraphOf (t .counts) (t .facts) m prices) out out′ r → DistancesGiven t m out (distances.Rounds r) out′
   given-rounds m prices {out = out} {out′ = out′} {r = r} row l e C =
-      let asked = asked-clean lent m e in
-      let T = taskOf lent in
-      let D = counted-alike (priced-alike c facts costs shares m prices row) C in
-      by-clean (distancesFault lent m out) _ _ (distances-asked lent m out l ∙ e)
-      (r, refl, D .rounds, counted-distances T (asked .0) m (asked .1) out out′ r D)
+      let asked = asked-clean t m e in
+      let D = counted-alike (priced-alike (t .counts) (t .facts) (t .costs) (t .shares) m prices row) C in
+      by-clean (distancesFault t m out) _ _ (distances-asked t m out l ∙ e)
+      (r, refl, D .rounds, counted-distances (taskOf t) (asked .0) m (asked .1) out out′ r D)
 
-  pub given-distance : (m : ℕ) (s : List ℕ) (d : ℕ) (answer : DistanceAnswer) → distanceFault lent m s ≡ Clean
-      → said d ≡ away (taskOf (tables c facts [] shares)) (stateOf s) m → answer ≡ distanceSaid (said d) → DistanceGiven lent m s answer
-  given-distance m s d answer e h a =
-      let q = distance-clean lent m s e in
-      by-clean (distanceFault lent m s) _ _ e
-      (away (taskOf lent) (stateOf s) m, a ∙ ap distanceSaid h, away-is (taskOf lent) (q .0) m (q .1) (stateOf s) (q .2))
+  pub given-distance : (m : ℕ) (s : List ℕ) (d : ℕ) {answer : DistanceAnswer} → distanceFault t m s ≡ Clean
+      → said d ≡ away costless (stateOf s) m → answer ≡ distanceSaid (said d) → DistanceGiven t m s answer
+  given-distance m s d e h a =
+      let q = distance-clean t m s e in
+      by-clean (distanceFault t m s) _ _ e
+      (away (taskOf t) (stateOf s) m, a ∙ ap distanceSaid h, away-is (taskOf t) (q .0) m (q .1) (stateOf s) (q .2))
 
-  pub given-bound : (s : List ℕ) (v : Cost) (answer : BoundAnswer) → inputFault lent s ≡ Clean
-      → v ≡ bound (taskOf (tables c facts [] shares)) (stateOf s) → answer ≡ boundSaid v → BoundGiven lent s answer
-  given-bound s v answer e h a =
-      let q = bound-clean lent s e in
-      by-clean (inputFault lent s) _ _ e
-      (bound (taskOf lent) (stateOf s), a ∙ ap boundSaid h, bound-is (taskOf lent) (q .0) (stateOf s) (q .1))
+  pub given-bound : (s : List ℕ) {v : Cost} {answer : BoundAnswer} → inputFault t s ≡ Clean → v ≡ bound costless (stateOf s)
+      → answer ≡ boundSaid v → BoundGiven t s answer
+  given-bound s e h a =
+      let q = bound-clean t s e in
+      by-clean (inputFault t s) _ _ e (bound (taskOf t) (stateOf s), a ∙ ap boundSaid h, bound-is (taskOf t) (q .0) (stateOf s) (q .1))

@@ -20,6 +20,7 @@ use Rattle.tables.specs.Task.{sasOf, taskOf, stateOf}
 use Rattle.views.specs.declared.DistancesAnswer.{DistancesAnswer}
 use Rattle.views.specs.declared.DistancesAnswer.the-variants as distances
 use Rattle.views.specs.declared.DistanceAnswer.{DistanceAnswer}
+use Rattle.views.specs.declared.DistanceAnswer.the-variants as distance
 use Rattle.views.specs.declared.BoundAnswer.{BoundAnswer}
 use Rattle.views.specs.declared.BoundAnswer.the-variants as bounds
 use Rattle.sweep.specs.Said.{saidAt}
@@ -28,11 +29,11 @@ use Rattle.scan.specs.Scan.{inputFault}
 use Rattle.views.proofs.Answers.{image-inside, distances-only, away-only, bound-is, bound-only}
 use Rattle.views.proofs.Judging.{by-clean, distances-clean, distance-clean, bound-clean}
 
--- two outcomes that are judged alike are the same: refused they are told by the fault, and accepted they are settled
-by-fault-only : {A : Type 0} (x y : A) (g : Found) (R S : Refusal → Type 0) (P Q : Type 0) → ((f : Refusal) → R f → S f → x ≡ y)
-    → (g ≡ Clean → P → Q → x ≡ y) → ByFault g R P → ByFault g S Q → x ≡ y
-by-fault-only x y Clean R S P Q no-doubt settled p q = settled refl p q
-by-fault-only x y (Fault f) R S P Q no-doubt settled p q = no-doubt f p q
+-- two outcomes that are judged by one fault are the same: refused they are told by the fault, and accepted they are settled
+by-fault-only : {A : Type 0} (g : Found) (R : A → Refusal → Type 0) (P : A → Type 0) → ((x y : A) (f : Refusal) → R x f → R y f → x ≡ y)
+    → ((x y : A) → g ≡ Clean → P x → P y → x ≡ y) → (x y : A) → ByFault g (R x) (P x) → ByFault g (R y) (P y) → x ≡ y
+by-fault-only Clean R P told settled x y p q = settled x y refl p q
+by-fault-only (Fault f) R P told settled x y p q = told x y f p q
 
 -- what an answer of `distances` and the table after it are, together
 pub record Outcome : Type 0 where
@@ -45,30 +46,28 @@ outcome p q = λ i. record { answer = p i; table = q i }
 -- no second answer, count of rounds or table
 pub distances-unique : (t : Tables) (m : ℕ) (out : List ℕ) (x y : Outcome) → DistancesGiven t m out (x .answer) (x .table)
     → DistancesGiven t m out (y .answer) (y .table) → x ≡ y
-distances-unique t m out x y =
-    by-fault-only x y (distancesFault t m out) (λ f. (x .answer ≡ distances.Refused f) × (x .table ≡ out))
-    (λ f. (y .answer ≡ distances.Refused f) × (y .table ≡ out))
-    ((r : ℕ) × (x .answer ≡ distances.Rounds r) × RoundsOf (taskOf t) m r × DistancesOf (taskOf t) m out (x .table))
-    ((r : ℕ) × (y .answer ≡ distances.Rounds r) × RoundsOf (taskOf t) m r × DistancesOf (taskOf t) m out (y .table))
-    (λ f p q. outcome (p .0 ∙ sym (q .0)) (p .1 ∙ sym (q .1)))
-    (λ e p q.
+distances-unique t m out =
+    by-fault-only (distancesFault t m out) (λ x f. (x .answer ≡ distances.Refused f) × (x .table ≡ out))
+    (λ x. (r : ℕ) × (x .answer ≡ distances.Rounds r) × RoundsOf (taskOf t) m r × DistancesOf (taskOf t) m out (x .table))
+    (λ x y f p q. outcome (p .0 ∙ sym (q .0)) (p .1 ∙ sym (q .1)))
+    (λ x y e p q.
     let c = distances-clean t m out e in
     outcome (p .1 ∙ ap distances.Rounds (rounds-unique (viewGraph (sasOf t) (view (taskOf t) m)) (p .0) (q .0) (p .2) (q .2)) ∙ sym (q .1))
     (distances-only (taskOf t) (c .0) m (c .1) out (x .table) (y .table) (p .3) (q .3)))
 
 pub distance-at-unique : (t : Tables) (m : ℕ) (s : List ℕ) (x y : DistanceAnswer) → DistanceGiven t m s x → DistanceGiven t m s y → x ≡ y
-distance-at-unique t m s x y =
-    by-fault-only x y (distanceFault t m s) _ _ ((v : Cost) × (x ≡ distanceSaid v) × IsAway (taskOf t) (stateOf s) m v)
-    ((v : Cost) × (y ≡ distanceSaid v) × IsAway (taskOf t) (stateOf s) m v) (λ f p q. p ∙ sym q)
-    (λ e p q.
+distance-at-unique t m s =
+    by-fault-only (distanceFault t m s) (λ x f. x ≡ distance.Refused f) (λ x. (v : Cost) × (x ≡ distanceSaid v) × IsAway (taskOf t) (stateOf s) m v)
+    (λ x y f p q. p ∙ sym q)
+    (λ x y e p q.
     let c = distance-clean t m s e in
     p .1 ∙ ap distanceSaid (away-only (taskOf t) (c .0) m (c .1) (stateOf s) (p .0) (q .0) (c .2) (p .2) (q .2)) ∙ sym (q .1))
 
 pub bound-unique : (t : Tables) (s : List ℕ) (x y : BoundAnswer) → BoundGiven t s x → BoundGiven t s y → x ≡ y
-bound-unique t s x y =
-    by-fault-only x y (inputFault t s) _ _ ((v : Cost) × (x ≡ boundSaid v) × IsBound (taskOf t) (stateOf s) v)
-    ((v : Cost) × (y ≡ boundSaid v) × IsBound (taskOf t) (stateOf s) v) (λ f p q. p ∙ sym q)
-    (λ e p q.
+bound-unique t s =
+    by-fault-only (inputFault t s) (λ x f. x ≡ bounds.Refused f) (λ x. (v : Cost) × (x ≡ boundSaid v) × IsBound (taskOf t) (stateOf s) v)
+    (λ x y f p q. p ∙ sym q)
+    (λ x y e p q.
     let c = bound-clean t s e in
     p .1 ∙ ap boundSaid (bound-only (taskOf t) (c .0) (stateOf s) (c .1) (p .0) (q .0) (p .2) (q .2)) ∙ sym (q .1))
 

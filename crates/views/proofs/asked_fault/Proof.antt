@@ -10,36 +10,25 @@ use Rattle.views.proofs.Judging.{map-there, map-missing}
 use Rattle.views.proofs.asked_fault.Statement.{statement}
 use Rattle.views.proofs.asked_fault.Tie as tie
 
--- what was handed in, once the tables are looked at
-abbrev start : tie.After-tables-fault → tie.Start
-start c = c .before .before .before .before
+-- what was handed in
+abbrev t : tie.Start → Tables
+t c = tables (c .args .c) (c .args .facts .now) (c .args .costs .now) (c .args .shares .now)
 
-abbrev t : tie.After-tables-fault → Tables
-t c = let a = start c .args in tables (a .c) (a .facts .now) (a .costs .now) (a .shares .now)
-
--- where they have no fault, the map decides
-decides : (c : tie.After-enum-told) → noSuchMap (t (c .before .before)) (start (c .before .before) .args .map) ≡ askedFault (t (c .before .before)) (start (c .before .before) .args .map)
+-- where the tables have no fault, the map decides
+decides : (c : tie.After-enum-told) → let s = c .before .before .before .before .before .before in noSuchMap (t s) (s .args .map) ≡ askedFault (t s) (s .args .map)
 unfolding askedFault
 decides c =
     let f = c .before .before in
-    goes-on (tablesFault (t f)) (noSuchMap (t f) (start f .args .map)) (f .tables-fault .result) (f .tables-fault .ensures) (c .enum-told .given .1)
+    let s = f .before .before .before .before in
+    goes-on (tablesFault (t s)) (noSuchMap (t s) (s .args .map)) (f .tables-fault .result) (f .tables-fault .ensures) (c .enum-told .given .1)
 
 returns : tie.Need-returns
 unfolding askedFault
 returns c =
     let f = c .before .before in
+    let s = f .before .before .before .before in
     let e = c .enum-told2 .given in
-    hands-on (tablesFault (t f)) (noSuchMap (t f) (start f .args .map)) (f .tables-fault .result) (e .0 .0) (f .tables-fault .ensures) (e .1)
-
-returns-2 : tie.Need-returns-2
-returns-2 c =
-    let f = c .before .before .before .before in
-    map-there (t f) (start f .args .map) (c .if1 .taken) ∙ decides (c .before .before)
-
-returns-3 : tie.Need-returns-3
-returns-3 c =
-    let f = c .before .before .before .before in
-    map-missing (t f) (start f .args .map) (c .if1 .left) ∙ decides (c .before .before)
+    hands-on (tablesFault (t s)) (noSuchMap (t s) (s .args .map)) (f .tables-fault .result) (e .0 .0) (f .tables-fault .ensures) (e .1)
 
 pub asked-fault-spec : {M : Type 1} → statement M
 asked-fault-spec =
@@ -48,5 +37,5 @@ asked-fault-spec =
     (λ c. search needs)
     (λ c. search needs)
     returns
-    returns-2
-    returns-3)
+    (λ c. map-there (t (c .before .before .before .before .before .before .before .before)) _ (c .if1 .taken) ∙ decides (c .before .before))
+    (λ c. map-missing (t (c .before .before .before .before .before .before .before .before)) _ (c .if1 .left) ∙ decides (c .before .before)))

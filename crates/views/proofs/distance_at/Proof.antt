@@ -10,36 +10,33 @@ use Rattle.views.proofs.Judging.{distance-clean, given-distance-refused
 use Rattle.views.proofs.distance_at.Statement.{statement}
 use Rattle.views.proofs.distance_at.Tie as tie
 
--- what was handed in, once the faults are looked for
+-- what was handed in, and that it has no fault
+abbrev t : tie.Start → Tables
+t c = tables (c .args .c) (c .args .facts .now) (c .args .costs .now) (c .args .shares .now)
+
 abbrev start : tie.After-distance-fault → tie.Start
 start c = c .before .before .before .before .before
 
-abbrev t : tie.After-distance-fault → Tables
-t c = let a = start c .args in tables (a .c) (a .facts .now) (a .costs .now) (a .shares .now)
-
--- there is none
-clean : (c : tie.After-enum-told) → distanceFault (t (c .before .before)) (start (c .before .before) .args .map) (start (c .before .before) .args .s .now) ≡ Clean
+clean : (c : tie.After-enum-told) → let s = start (c .before .before) in distanceFault (t s) (s .args .map) (s .args .s .now) ≡ Clean
 clean c = sym (c .before .before .distance-fault .ensures) ∙ c .enum-told .given .1
 
 away-of-requires : tie.Need-away-of-requires
 away-of-requires c κs =
-    let f = c .before .before in
-    let a = start f .args in
-    let q = distance-clean (t f) (a .map) (a .s .now) (clean c) in
-    (valid-unpriced (a .c) (a .facts .now) (a .costs .now) (a .shares .now) (q .0), q .1, (λ o l. q .0 .shares (a .map) o (q .1) l), q .2)
+    let s = start (c .before .before) in
+    let q = distance-clean (t s) (s .args .map) (s .args .s .now) (clean c) in
+    (valid-unpriced (t s) (q .0), q .1, (λ o l. q .0 .shares (s .args .map) o (q .1) l), q .2)
 
 returns : tie.Need-returns
 returns c =
     let f = c .before .before .before in
     let e = c .before .found .given in
-    given-distance-refused (t f) (start f .args .map) (start f .args .s .now) (e .0 .0) (sym (f .distance-fault .ensures) ∙ e .1)
+    given-distance-refused (t (start f)) (start f .args .map) (start f .args .s .now) (e .0 .0) (sym (f .distance-fault .ensures) ∙ e .1)
 
 returns-2 : tie.Need-returns-2
 returns-2 c =
-    let e = c .before .before in
-    let a = start (e .before .before) .args in
-    given-distance (a .c) (a .facts .now) (a .costs .now) (a .shares .now) (a .map) (a .s .now) (c .before .away-of .result) (c .as-distance .result)
-    (clean e) (c .before .away-of .ensures) (c .as-distance .ensures)
+    let s = start (c .before .before .before .before) in
+    let d = c .before .away-of in
+    given-distance (t s) (s .args .map) (s .args .s .now) (d .result) (clean (c .before .before)) (d .ensures) (c .as-distance .ensures)
 
 pub distance-at-spec : {M : Type 1} → statement M
 distance-at-spec =
