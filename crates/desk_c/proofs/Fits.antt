@@ -17,7 +17,7 @@ use Rattle.tables.specs.Layout.{Tables}
 use Rattle.tables.specs.Task.{taskOf, stateOf}
 use Rattle.views.specs.declared.BoundAnswer.{BoundAnswer}
 use Rattle.views.specs.declared.BoundAnswer.the-variants as bounds
-use Rattle.views.specs.Entries.{Judged, IsBound, boundSaid, BoundGiven}
+use Rattle.views.specs.Entries.{ByFault, IsBound, boundSaid, BoundGiven}
 use Rattle.scan.specs.Scan.{inputFault}
 use Rattle.views.proofs.Answers.{image-inside, bound-is, bound-only}
 use Rattle.views.proofs.Judging.{bound-clean}
@@ -63,7 +63,7 @@ pub sum-fits : (t : Tables) (s : List ℕ) (a : BoundAnswer) → BoundGiven t s 
 sum-fits t s a = at (inputFault t s) refl
   where
     at : (g : Found) → inputFault t s ≡ g
-        → Judged g (λ f. a ≡ bounds.Refused f) ((v : Cost) × (a ≡ boundSaid v) × IsBound (taskOf t) (stateOf s) v) → SumFits a
+        → ByFault g (λ f. a ≡ bounds.Refused f) ((v : Cost) × (a ≡ boundSaid v) × IsBound (taskOf t) (stateOf s) v) → SumFits a
     at Clean e p =
         let c = bound-clean t s e in
         let T = taskOf t in

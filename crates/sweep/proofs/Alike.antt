@@ -13,7 +13,7 @@ use Rattle.meaning.specs.Numbering.{size, number, digit}
 use Rattle.meaning.specs.Sas.{Facts, Sas, put}
 use Rattle.meaning.specs.Views.{holds, every, toIf, space}
 use Rattle.meaning.proofs.Facts.{every-same}
-use Rattle.sweep.specs.Sweeps.{Counted}
+use Rattle.sweep.specs.Inside.Sweeps.{Counted}
 
 pub record Alike (G H : Graph) : Type 0 where
   pub states : G .states ≡ H .states
@@ -26,7 +26,7 @@ after-same : (T U : ℕ → Cost) → ((b : ℕ) → T b ≡ U b) → (s : Next)
 after-same T U h stop = refl
 after-same T U h (to b) = h b
 
-module _ (G H : Graph) (same : Alike G H) where
+module _ {G H : Graph} (same : Alike G H) where
   best-alike : (T U : ℕ → Cost) → ((b : ℕ) → T b ≡ U b) → (a k : ℕ) → k ≤ G .ops → best G T a k ≡ best H U a k
   best-alike T U h a zero l = ap atGoal (same .goal a)
   best-alike T U h a (suc k) l =
@@ -53,8 +53,8 @@ module _ (G H : Graph) (same : Alike G H) where
         smallest = λ i p l u. R .smallest i p l (unchanged-from i u);
       }
 
-  pub counted-alike : (t₀ t : List ℕ) (r : ℕ) → Counted G t₀ t r → Counted H t₀ t r
-  counted-alike t₀ t r c =
+  pub counted-alike : {t₀ t : List ℕ} {r : ℕ} → Counted G t₀ t r → Counted H t₀ t r
+  counted-alike {r = r} c =
       record {
         rounds = rounds-alike r (c .rounds);
         table =

@@ -3,10 +3,10 @@ use mathlib.Core.Path.{_≡_, refl, sym, ap, ap₂, _∙_, subst}
 use mathlib.Core.List.{List, []}
 use Prim.Native.Nat.{ℕ, zero, suc, _+_, _*_, _-_, _%_, _≤_, _<_, zero-le}
 use native.Mathlib.Nat.{le-refl, mod-eq-of-lt, mul-add-mod-self-right}
-use native.Mathlib.Numerals.{add-one}
 use native.Mathlib.Omega.{arith}
 use lib.ListN.{getD}
-use Rattle.meaning.specs.Numbering.{size, Positive, Digits}
+use Rattle.meaning.specs.Limits.{mostVars}
+use Rattle.meaning.specs.Numbering.{Positive}
 use Rattle.meaning.specs.Sas.{IsState}
 use Rattle.meaning.specs.Views.{seen, image}
 use Rattle.meaning.specs.Split.{countOf, Valid}
@@ -14,9 +14,9 @@ use Rattle.meaning.proofs.Bounds.{view-onto}
 use Rattle.tables.specs.declared.Counts.{Counts}
 use Rattle.tables.specs.Layout.{rowAt, domAt, classRow, classAt}
 use Rattle.tables.specs.Task.{stateOf}
-use Rattle.sweep.specs.Sweeps.{Made}
-use Rattle.sweep.specs.Classes.{unpriced, viewOf, SeenAt, Classed}
-use Rattle.sweep.proofs.Walking.{size-le, Numbered, numbered-small, numbered-next}
+use Rattle.sweep.specs.Inside.Sweeps.{Made}
+use Rattle.sweep.specs.Inside.Classes.{unpriced, viewOf, seenPlaces, SeenAt, Classed}
+use Rattle.sweep.proofs.Walking.{Digital}
 
 -- ---- a fact seen by classes
 
@@ -37,19 +37,11 @@ pub count-some : (c : ℕ → ℕ) (n : ℕ) → 1 ≤ n → 1 ≤ countOf c n
 count-some c zero l = l
 count-some c (suc n) l = omega arith
 
--- ---- a product of numbers of values
-
-pub product-more : (K : ℕ → ℕ) (v n k : ℕ) → n ≡ size K v → k ≡ K v → n * k ≡ size K (v + 1)
-product-more K v n k e h = rw add-one (ap₂ _*_ e h)
-
-pub product-small : (K : ℕ → ℕ) (m v n k : ℕ) → Positive K m → size K m ≤ 4096 → v < m → n ≡ size K v → k ≡ K v → n * k ≤ 4096
-product-small K m v n k p s l e h = omega (arith, product-more K v n k e h, size-le K (v + 1) m (omega arith) p)
-
 -- ---- the table of the task of classes
 
 module _ (c : Counts) (facts : List ℕ) (m : ℕ) where
   -- rows of facts seen by classes, and then the numbers of classes in the first row
-  pub classed : (t₀ t : List ℕ) → c .vars ≤ 8 → ((i : ℕ) → i < 1048 → SeenAt facts m i (getD t₀ i 0))
+  pub classed : (t₀ t : List ℕ) → c .vars ≤ mostVars → ((i : ℕ) → i < seenPlaces → SeenAt facts m i (getD t₀ i 0))
       → Made (λ v x. x ≡ countOf (classAt facts m v) (domAt facts v)) (c .vars) t₀ t → Classed c facts m t
   classed t₀ t few s made =
       record {
@@ -83,23 +75,12 @@ module _ (c : Counts) (facts : List ℕ) (m : ℕ) (ok : Valid (unpriced c facts
   pub counts-positive : Positive (viewOf facts m [] .classes) (c .vars)
   counts-positive v l = count-some (classAt facts m v) (domAt facts v) (ok .proper .values v l)
 
-  pub image-digits : (s : List ℕ) → IsState (unpriced c facts .sas) (stateOf s)
-      → Digits (viewOf facts m [] .classes) (image (viewOf facts m []) (stateOf s)) (c .vars)
-  image-digits s h v l = view-onto (unpriced c facts) ok m lm .inside v (stateOf s v) l (h v l)
-
-  -- a state's class, read from the tables
-  pub class-is : (s : List ℕ) (v x row y z : ℕ) → row ≡ classRow m v → x ≡ stateOf s v → y ≡ rowAt facts row x → z ≡ y
-      → z ≡ image (viewOf facts m []) (stateOf s) v
-  class-is s v x row y z r e h g = g ∙ h ∙ ap₂ (rowAt facts) r e
-
-  -- the numbers stay small on the way to an image, and so do those of the next turn
-  pub image-small : (s : List ℕ) → IsState (unpriced c facts .sas) (stateOf s) → (v stride b : ℕ)
-      → Numbered (viewOf facts m [] .classes) (image (viewOf facts m []) (stateOf s)) (c .vars) v stride b → (stride ≤ 4096) × (b < 4096)
-  image-small s h =
-      numbered-small (viewOf facts m [] .classes) (image (viewOf facts m []) (stateOf s)) (c .vars) counts-positive (image-digits s h) (ok .few-states m lm)
-
-  pub image-next : (s : List ℕ) → IsState (unpriced c facts .sas) (stateOf s) → (v stride b : ℕ)
-      → Numbered (viewOf facts m [] .classes) (image (viewOf facts m []) (stateOf s)) (c .vars) v stride b → v < c .vars → (x k : ℕ)
-      → x ≡ image (viewOf facts m []) (stateOf s) v → k ≡ viewOf facts m [] .classes v → (stride * k ≤ 4096) × (b + x * stride < 4096)
-  image-next s h =
-      numbered-next (viewOf facts m [] .classes) (image (viewOf facts m []) (stateOf s)) (c .vars) counts-positive (image-digits s h) (ok .few-states m lm)
+  -- the classes of a state are digits of its image
+  pub image-digital : (s : List ℕ) → IsState (unpriced c facts .sas) (stateOf s)
+      → Digital (viewOf facts m [] .classes) (image (viewOf facts m []) (stateOf s)) (c .vars)
+  image-digital s h =
+      record {
+        positive = counts-positive;
+        below = λ v l. view-onto (unpriced c facts) ok m lm .inside v (stateOf s v) l (h v l);
+        few = ok .few-states m lm;
+      }

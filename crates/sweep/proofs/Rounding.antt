@@ -14,21 +14,22 @@ use Rattle.graph.proofs.Leasts.{least-zero, least-suc}
 use Rattle.graph.proofs.Settles.{best-same}
 use Rattle.graph.proofs.Rounded.{settled-at}
 use Rattle.graph.proofs.Sizes.{least-most}
+use Rattle.meaning.specs.Limits.{mostCost, mostStates}
 use Rattle.tables.specs.declared.Counts.{Counts}
-use Rattle.sweep.specs.Said.{said, read}
-use Rattle.sweep.specs.Walks.{spaceOf, Walkable}
-use Rattle.sweep.specs.Sweeps.{Priced, Within, Filled, Copied, Swept, Held, Counted}
+use Rattle.sweep.specs.Said.{said, saidAt}
+use Rattle.sweep.specs.Inside.Walks.{spaceOf, Walkable}
+use Rattle.sweep.specs.Inside.Sweeps.{PricesSmall, Addable, Filled, Copied, Swept, Held, Counted}
 use Rattle.sweep.proofs.Saids.{said-lt, said-inj}
 use Rattle.sweep.proofs.Walking.{walkable-closed, walkable-some}
 
 -- a graph with few states and small costs whose steps stay inside
 pub record Good (G : Graph) : Type 0 where
   pub some : 1 ≤ G .states
-  pub few : G .states ≤ 4096
+  pub few : G .states ≤ mostStates
   pub closed : Closed G
-  pub small : (o : ℕ) → o < G .ops → G .cost o ≤ 1000000
+  pub small : (o : ℕ) → o < G .ops → G .cost o ≤ mostCost
 
-pub walkable-good : (c : Counts) (facts prices : List ℕ) → Walkable c facts → Priced c prices → Good (spaceOf c facts prices)
+pub walkable-good : (c : Counts) (facts prices : List ℕ) → Walkable c facts → PricesSmall c prices → Good (spaceOf c facts prices)
 walkable-good c facts prices W P =
     record { some = walkable-some c facts prices W; few = W .few; closed = walkable-closed c facts prices W; small = P }
 
@@ -39,19 +40,10 @@ pub record Turn (G : Graph) (t₀ w₀ t w : List ℕ) (r : ℕ) : Type 0 where
   pub work : length w ≡ length w₀
   pub first : (i : ℕ) → 1 ≤ i → i ≤ r → Unchanged G i → ⊥
 
-module _ (G : Graph) (good : Good G) where
-  pub held-within : (t₀ t : List ℕ) (r : ℕ) → r < G .states → Held G t₀ t r → Within (G .states) t
-  held-within t₀ t r l h a k s =
-      omega
-      (arith, good .few, least-most G 1000000 (good .small) r a (getD t a 0) (sym (h .made a k) ∙ said-lt (getD t a 0) s))
-
 -- n is the number of states
-module _ (G : Graph) (good : Good G) (n : ℕ) (is : n ≡ G .states) where
-  pub turn-within : (t₀ w₀ t w : List ℕ) (r : ℕ) → Turn G t₀ w₀ t w r → Within n t
-  turn-within t₀ w₀ t w r turn = rw is (held-within G good t₀ t r (turn .less) (turn .table))
-
-  pub turn-none : (t₀ t w : List ℕ) → Filled n G t₀ t → Turn G t w t w 0
-  turn-none t₀ t w filled =
+module _ {G : Graph} (good : Good G) {n : ℕ} (is : n ≡ G .states) where
+  pub turn-none : {t₀ t w : List ℕ} → Filled n G t₀ t → Turn G t w t w 0
+  turn-none {t₀ = t₀} {t = t} filled =
       let f : Filled (G .states) G t₀ t = subst (λ (k : ℕ). Filled k G t₀ t) is filled in
       record {
         less = good .some;
@@ -60,14 +52,20 @@ module _ (G : Graph) (good : Good G) (n : ℕ) (is : n ≡ G .states) where
         first = λ i p l. absurd (not-suc-le-zero (let z : 1 ≤ 0 = omega arith in z));
       }
 
-  module _ (t₀ w₀ t w w′ : List ℕ) (r : ℕ) (changed : Bool) (turn : Turn G t₀ w₀ t w r) (swept : Swept n G t w w′ changed) where
+  -- after fewer rounds than states the numbers leave room for one price more
+  pub turn-within : {t₀ w₀ t w : List ℕ} {r : ℕ} → Turn G t₀ w₀ t w r → Addable n t
+  turn-within {t = t} {r = r} turn a k s =
+      let d = sym (turn .table .made a (omega (arith, is))) ∙ said-lt (getD t a 0) s in
+      omega (arith, good .few, turn .less, least-most G mostCost (good .small) r a (getD t a 0) d)
+
+  module _ {t₀ w₀ t w w′ : List ℕ} {r : ℕ} {changed : Bool} (turn : Turn G t₀ w₀ t w r) (swept : Swept n G t w w′ changed) where
     sw : Swept (G .states) G t w w′ changed
     sw = subst (λ (k : ℕ). Swept k G t w w′ changed) is swept
 
-    next-made : (a : ℕ) → a < G .states → read w′ a ≡ least G (r + 1) a
+    next-made : (a : ℕ) → a < G .states → saidAt w′ a ≡ least G (r + 1) a
     next-made a l =
         rw add-one
-        (sw .table .made a l ∙ best-same G (good .closed) (read t) (least G r) (turn .table .made) a l (G .ops) (le-refl (G .ops))
+        (sw .table .made a l ∙ best-same G (good .closed) (saidAt t) (least G r) (turn .table .made) a l (G .ops) (le-refl (G .ops))
         ∙ sym (least-suc G r a))
 
     back : r + 1 - 1 ≡ r
@@ -82,8 +80,8 @@ module _ (G : Graph) (good : Good G) (n : ℕ) (is : n ≡ G .states) where
         (λ a l. said-inj (getD w′ a 0) (getD t a 0) (next-made a l ∙ (rw back at (s a l)) ∙ sym (turn .table .made a l)))
 
     -- the last round
-    pub ends : (u₀ : List ℕ) → Filled n G u₀ t₀ → changed ≡ false → Counted G u₀ t (r + 1)
-    ends u₀ filled e =
+    pub ends : {u₀ : List ℕ} → Filled n G u₀ t₀ → changed ≡ false → Counted G u₀ t (r + 1)
+    ends {u₀ = u₀} filled e =
         let f : Filled (G .states) G u₀ t₀ = subst (λ (k : ℕ). Filled k G u₀ t₀) is filled in
         record {
           rounds = record { positive = omega arith; unchanged = so-unchanged e; smallest = λ i p l. turn .first i p (omega arith) };
@@ -113,8 +111,8 @@ module _ (G : Graph) (good : Good G) (n : ℕ) (is : n ≡ G .states) where
             (settled-at G (good .closed) (G .states) (good .some) (le-refl (G .states))))
 
     -- any other round
-    pub goes-on : (t′ : List ℕ) → Copied n w′ t t′ → changed ≡ true → Turn G t₀ w₀ t′ w′ (r + 1)
-    goes-on t′ copied e =
+    pub goes-on : {t′ : List ℕ} → Copied n w′ t t′ → changed ≡ true → Turn G t₀ w₀ t′ w′ (r + 1)
+    goes-on {t′ = t′} copied e =
         let cp : Copied (G .states) w′ t t′ = subst (λ (k : ℕ). Copied k w′ t t′) is copied in
         record {
           less = less-more e;

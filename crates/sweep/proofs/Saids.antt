@@ -11,8 +11,8 @@ use borrow.Author.Tests.{ne-eqb, eq-eqb}
 use Rattle.graph.specs.Cost.{Cost, none, fin, lower, plus}
 use Rattle.graph.specs.Graph.{Next, stop, to, Graph}
 use Rattle.graph.specs.Least.{atGoal, afterStep, best}
-use Rattle.sweep.specs.Said.{NONE, costIf, said, read}
-use Rattle.sweep.specs.Sweeps.{Within}
+use Rattle.sweep.specs.Said.{NONE, costIf, said, saidAt}
+use Rattle.sweep.specs.Inside.Sweeps.{mostAddable, Addable}
 
 pub said-none : (x : ℕ) → x ≡ NONE → said x ≡ none
 unfolding said
@@ -82,8 +82,8 @@ relax-keep best price beyond l s h = rw (said-lt beyond l) (sym (lower-keep best
 -- ---- one operator
 
 -- where a step leads to one of the states of a table, a number found there is small enough for one price more
-pub beyond-within : (n : ℕ) (old : List ℕ) (s : Next) (v : ℕ) → Within n old → ((b : ℕ) → s ≡ to b → b < n)
-    → said v ≡ afterStep (read old) s → v < NONE → v ≤ 4290000000
+pub beyond-within : (n : ℕ) (old : List ℕ) (s : Next) (v : ℕ) → Addable n old → ((b : ℕ) → s ≡ to b → b < n)
+    → said v ≡ afterStep (saidAt old) s → v < NONE → v ≤ mostAddable
 beyond-within n old stop v h i e l =
     let z : none ≡ fin v = sym e ∙ said-lt v l in
     let w : _≡_ {A = ℕ} 0 1 = cc in
@@ -93,7 +93,7 @@ beyond-within n old (to b) v h i e l =
     omega (arith, h b (i b refl) (omega arith))
 
 -- one operator more
-pub cell-more : (G : Graph) (old : List ℕ) (a o acc k v r : ℕ) (s : Next) → said acc ≡ best G (read old) a o → s ≡ G .succ o a → k ≡ G .cost o
-    → said v ≡ afterStep (read old) s → said r ≡ lower (said acc) (plus k (said v)) → said r ≡ best G (read old) a (o + 1)
-cell-more G old a o acc k v r s h₁ h₂ h₃ h₄ h₅ =
-    rw add-one (h₅ ∙ ap₂ (λ x y. lower x y) h₁ (ap₂ plus h₃ (h₄ ∙ ap (afterStep (read old)) h₂)))
+pub cell-more : (G : Graph) (old : List ℕ) {a o k : ℕ} {s : Next} (acc v r : ℕ) → said acc ≡ best G (saidAt old) a o → s ≡ G .succ o a → k ≡ G .cost o
+    → said v ≡ afterStep (saidAt old) s → said r ≡ lower (said acc) (plus k (said v)) → said r ≡ best G (saidAt old) a (o + 1)
+cell-more G old acc v r h₁ h₂ h₃ h₄ h₅ =
+    rw add-one (h₅ ∙ ap₂ (λ x y. lower x y) h₁ (ap₂ plus h₃ (h₄ ∙ ap (afterStep (saidAt old)) h₂)))

@@ -11,6 +11,7 @@ use native.Mathlib.Omega.{arith}
 use lib.ListN.{getD}
 use Rattle.graph.specs.Graph.{Next, stop, to, Closed}
 use Rattle.graph.specs.Least.{afterStep}
+use Rattle.meaning.specs.Limits.{mostStates}
 use Rattle.meaning.specs.Numbering.{size, number, digit, Positive, Digits}
 use Rattle.meaning.specs.Sas.{put, after}
 use Rattle.meaning.specs.Views.{complies, toIf}
@@ -22,9 +23,9 @@ use Rattle.tables.specs.Layout.{domAt, effAt, effRow}
 use Rattle.tables.specs.Task.{sasOf, tables, stateOf}
 use Rattle.tables.specs.Steps.{mayRun, meetsGoal, valueAfter}
 use Rattle.tables.proofs.Meant.{may-run-is, meets-goal-is}
-use Rattle.sweep.specs.Said.{NONE, said, read}
-use Rattle.sweep.specs.Walks.{spaceOf, Walkable, Spells, numberAfter, nextFrom}
-use Rattle.sweep.specs.Sweeps.{Priced, Within}
+use Rattle.sweep.specs.Said.{NONE, said, saidAt}
+use Rattle.sweep.specs.Inside.Walks.{spaceOf, Walkable, HasDigits, numberAfter, nextFrom}
+use Rattle.sweep.specs.Inside.Sweeps.{PricesSmall, Addable}
 use Rattle.sweep.proofs.Saids.{beyond-within}
 
 -- a stride is at most a later one
@@ -47,40 +48,40 @@ rest-digit K a v rest k h e = ap₂ _%_ h e
 
 -- ---- a number by its strides
 
+-- radices, and digits below them, of a number that stays small
+pub record Digital (K D : ℕ → ℕ) (n : ℕ) : Type 0 where
+  pub positive : Positive K n
+  pub below : Digits K D n
+  pub few : size K n ≤ mostStates
+
 -- the first v digits D are in b
 pub record Numbered (K D : ℕ → ℕ) (n v stride b : ℕ) : Type 0 where
   pub low : v ≤ n
   pub stride-is : stride ≡ size K v
   pub number-is : b ≡ number K D v
 
-module _ (K D : ℕ → ℕ) (n : ℕ) where
-  pub numbered-none : Numbered K D n 0 1 0
-  numbered-none = record { low = omega arith; stride-is = refl; number-is = refl }
+pub numbered-none : {K D : ℕ → ℕ} {n : ℕ} → Numbered K D n 0 1 0
+numbered-none = record { low = omega arith; stride-is = refl; number-is = refl }
 
-  pub numbered-more : (v stride b : ℕ) → Numbered K D n v stride b → v < n → (x k : ℕ) → x ≡ D v → k ≡ K v
-      → Numbered K D n (v + 1) (stride * k) (b + x * stride)
-  numbered-more v stride b w l x k hx hk =
+module _ {K D : ℕ → ℕ} {n v stride b : ℕ} (w : Numbered K D n v stride b) where
+  -- the numbers stay small
+  pub numbered-small : Digital K D n → (stride ≤ mostStates) × (b < mostStates)
+  numbered-small W =
+      let s : size K v ≤ size K n = size-le K v n (w .low) (W .positive) in
+      let d : number K D v < size K v = number-below K D v (λ u l. W .below u (omega (arith, w .low))) in
+      (omega (arith, w .stride-is, W .few), omega (arith, w .number-is, W .few))
+
+  pub numbered-all : n ≤ v → b ≡ number K D n
+  numbered-all l = let q : v ≡ n = omega (arith, w .low) in w .number-is ∙ ap (number K D) q
+
+  -- one digit more, x by the radix k
+  pub numbered-more : v < n → {x k : ℕ} → x ≡ D v → k ≡ K v → Numbered K D n (v + 1) (stride * k) (b + x * stride)
+  numbered-more l hx hk =
       record {
         low = omega arith;
         stride-is = rw add-one (ap₂ _*_ (w .stride-is) hk);
         number-is = rw add-one (ap₂ _+_ (w .number-is) (ap₂ _*_ hx (w .stride-is)));
       }
-
-  -- the numbers stay small
-  pub numbered-small : Positive K n → Digits K D n → size K n ≤ 4096 → (v stride b : ℕ) → Numbered K D n v stride b → (stride ≤ 4096) × (b < 4096)
-  numbered-small pos dig small v stride b w =
-      let s : size K v ≤ size K n = size-le K v n (w .low) pos in
-      let d : number K D v < size K v = number-below K D v (λ u l. dig u (omega (arith, w .low))) in
-      (omega (arith, w .stride-is), omega (arith, w .number-is))
-
-  -- and so do those of the next turn
-  pub numbered-next : Positive K n → Digits K D n → size K n ≤ 4096 → (v stride b : ℕ) → Numbered K D n v stride b → v < n → (x k : ℕ) → x ≡ D v → k ≡ K v
-      → (stride * k ≤ 4096) × (b + x * stride < 4096)
-  numbered-next pos dig small v stride b w l x k hx hk =
-      numbered-small pos dig small (v + 1) (stride * k) (b + x * stride) (numbered-more v stride b w l x k hx hk)
-
-  pub numbered-all : (v stride b : ℕ) → Numbered K D n v stride b → n ≤ v → b ≡ number K D n
-  numbered-all v stride b w l = let q : v ≡ n = omega (arith, w .low) in w .number-is ∙ ap (number K D) q
 
 -- ---- the step
 
@@ -96,7 +97,7 @@ module _ (c : Counts) (facts s : List ℕ) (o : ℕ) (may : Bool) (is : may ≡ 
 
 module _ (c : Counts) (facts prices : List ℕ) where
   -- from the digits of a state, the computed step is the state space's; and so is the goal
-  pub step-is : (a o : ℕ) (s : List ℕ) → Spells (c .vars) facts a s → nextFrom c facts s o ≡ spaceOf c facts prices .succ o a
+  pub step-is : (a o : ℕ) (s : List ℕ) → HasDigits (c .vars) facts a s → nextFrom c facts s o ≡ spaceOf c facts prices .succ o a
   unfolding nextFrom
   step-is a o s h =
       let t = tables c facts prices [] in
@@ -104,14 +105,14 @@ module _ (c : Counts) (facts prices : List ℕ) where
       (number-same (domAt facts) (valueAfter facts (effRow o) s) (after (sasOf t) o (digit (domAt facts) a)) (c .vars)
       (λ v l. ap (put (effAt facts o v)) (h v l)))
 
-  pub goal-is : (a : ℕ) (s : List ℕ) → Spells (c .vars) facts a s → meetsGoal c facts s ≡ spaceOf c facts prices .goal a
+  pub goal-is : (a : ℕ) (s : List ℕ) → HasDigits (c .vars) facts a s → meetsGoal c facts s ≡ spaceOf c facts prices .goal a
   goal-is a s h =
       let t = tables c facts prices [] in
       meets-goal-is t s ∙ complies-same (sasOf t) (sasOf t .goal) (stateOf s) (digit (domAt facts) a) h
 
   module _ (W : Walkable c facts) where
     -- the digits of a state are values
-    pub spelt-digits : (a : ℕ) (s : List ℕ) → Spells (c .vars) facts a s → Digits (domAt facts) (stateOf s) (c .vars)
+    pub spelt-digits : (a : ℕ) (s : List ℕ) → HasDigits (c .vars) facts a s → Digits (domAt facts) (stateOf s) (c .vars)
     spelt-digits a s h v l = rw (h v l) (digit-below (domAt facts) a (c .vars) (W .values) v l)
 
     -- the values after an operator are values
@@ -131,10 +132,10 @@ module _ (c : Counts) (facts prices : List ℕ) where
     walkable-some = size-pos (domAt facts) (c .vars) (W .values)
 
     -- a price more than what a table says of where the step leads still fits
-    pub relax-fits : (old s : List ℕ) (a o k v : ℕ) (next : Next) → Priced c prices → a < size (domAt facts) (c .vars) → o < c .ops
-        → Within (size (domAt facts) (c .vars)) old → Spells (c .vars) facts a s → next ≡ nextFrom c facts s o → k ≡ getD prices o 0
-        → said v ≡ afterStep (read old) next → v < NONE → k + v < NONE
-    relax-fits old s a o k v next P la lo h sp n e d l =
+    pub relax-fits : (old s : List ℕ) {a o k v : ℕ} {next : Next} → PricesSmall c prices → a < size (domAt facts) (c .vars) → o < c .ops
+        → Addable (size (domAt facts) (c .vars)) old → HasDigits (c .vars) facts a s → next ≡ nextFrom c facts s o → k ≡ getD prices o 0
+        → said v ≡ afterStep (saidAt old) next → v < NONE → k + v < NONE
+    relax-fits old s {a = a} {o = o} {v = v} {next = next} P la lo h sp n e d l =
         let q : next ≡ spaceOf c facts prices .succ o a = n ∙ step-is a o s sp in
         omega
         (arith, P o lo, beyond-within (size (domAt facts) (c .vars)) old next v h (λ b g. walkable-closed o a b lo la (sym q ∙ g)) d l)

@@ -1,4 +1,2 @@
 pub mod Said
-pub mod Walks
-pub mod Sweeps
-pub mod Classes
+pub mod Inside

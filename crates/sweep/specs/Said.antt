@@ -19,5 +19,5 @@ unfoldable pub said : ℕ → Cost
 said x = costIf (eqb x NONE) x
 
 -- what a table says of an abstract state
-abbrev pub read : List ℕ → ℕ → Cost
-read t a = said (getD t a 0)
+abbrev pub saidAt : List ℕ → ℕ → Cost
+saidAt t a = said (getD t a 0)

@@ -2,14 +2,15 @@
 ghost use mathlib.Core.Path.{_≡_};
 ghost use Prim.Native.Nat.{ℕ, _-_, _<_};
 ghost use lib.ListN.{length, getD};
+ghost use Rattle.meaning.specs.Limits.{mostVars, mostMaps};
 ghost use Rattle.meaning.specs.Numbering.{size};
 ghost use Rattle.meaning.specs.Sas.{IsState};
 ghost use Rattle.meaning.specs.Views.{seen};
 ghost use Rattle.meaning.specs.Split.{countOf, Valid};
 ghost use Rattle.tables.specs.Layout.{domAt, classAt};
 ghost use Rattle.tables.specs.Task.{stateOf};
-ghost use Rattle.sweep.specs.Walks.{Walkable};
-ghost use Rattle.sweep.specs.Classes.{unpriced, SeenAt, Classed, imageOf};
+ghost use Rattle.sweep.specs.Inside.Walks.{Walkable};
+ghost use Rattle.sweep.specs.Inside.Classes.{unpriced, seenPlaces, SeenAt, Classed, imageOf};
 use crate::walk::wide;
 use meaning::StateNo;
 use tables::Counts;
@@ -19,12 +20,12 @@ use tables::readers::byte_at;
 use tables::readers::class_row;
 use tables::readers::row_at;
 
-// The places of the rows from the numbers of values to the last operator's effects.
+// The places of the rows from the numbers of values to the last operator's effects: 131 rows of 8.
 const SEEN: usize = 1048;
 
 // What is said of a variable, seen by the classes of map m. No accepted fact has a class of 255.
 fn seen_fact(facts: &[u8], m: u32, v: u32, fact: u8) -> u8
-    requires { ⌜ (m < 8) × (v < 8) ⌝ }
+    requires { ⌜ (m < mostMaps) × (v < mostVars) ⌝ }
     ensures { λ r. ⌜ (classAt (now (facts .entry)) m v (fact - 1) < 255 → r ≡ seen (classAt (now (facts .entry)) m v) fact) ⌝ }
 {
     if fact == 0 {
@@ -36,8 +37,8 @@ fn seen_fact(facts: &[u8], m: u32, v: u32, fact: u8) -> u8
 
 // The rows of facts seen by the classes of map m, place by place.
 fn seen_facts(facts: &[u8], m: u32) -> [u8; SEEN]
-    requires { ⌜ m < 8 ⌝ }
-    ensures { λ r. ⌜ (length r ≡ 1048) × ((i : ℕ) → i < 1048 → SeenAt (now (facts .entry)) m i (getD r i 0)) ⌝ }
+    requires { ⌜ m < mostMaps ⌝ }
+    ensures { λ r. ⌜ (length r ≡ seenPlaces) × ((i : ℕ) → i < seenPlaces → SeenAt (now (facts .entry)) m i (getD r i 0)) ⌝ }
 {
     let mut t = [0u8; SEEN];
     let mut i = 0usize;

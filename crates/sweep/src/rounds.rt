@@ -7,9 +7,9 @@ ghost use Rattle.graph.specs.Cost.{lower, plus};
 ghost use Rattle.graph.specs.Least.{atGoal, afterStep, best};
 ghost use Rattle.meaning.specs.Numbering.{size};
 ghost use Rattle.tables.specs.Layout.{domAt};
-ghost use Rattle.sweep.specs.Said.{NONE, said, read};
-ghost use Rattle.sweep.specs.Walks.{Walkable, nextOf, spaceOf};
-ghost use Rattle.sweep.specs.Sweeps.{Priced, Within, Filled, Copied, Swept, Counted};
+ghost use Rattle.sweep.specs.Said.{NONE, said, saidAt};
+ghost use Rattle.sweep.specs.Inside.Walks.{Walkable, nextOf, spaceOf};
+ghost use Rattle.sweep.specs.Inside.Sweeps.{PricesSmall, Addable, Filled, Copied, Swept, Counted};
 use crate::walk::Step;
 use crate::walk::digits;
 use crate::walk::step_from;
@@ -45,7 +45,7 @@ fn relax(best: u32, price: u32, beyond: u32) -> u32
 
 // What a table says of where a step leads.
 fn beyond(old: &[u32], s: Step) -> u32
-    ensures { λ r. ⌜ said r ≡ afterStep (read (now (old .entry))) (nextOf s) ⌝ }
+    ensures { λ r. ⌜ said r ≡ afterStep (saidAt (now (old .entry))) (nextOf s) ⌝ }
 {
     match s {
         Step::To(b) => word_at(old, state_index(b)),
@@ -55,8 +55,8 @@ fn beyond(old: &[u32], s: Step) -> u32
 
 // The least cost from a state over one step more than `old` has.
 fn cell(c: Counts, facts: &[u8], prices: &[u32], old: &[u32], a: StateNo) -> u32
-    requires { ⌜ Walkable c (now facts) × Priced c (now prices) × (a .0 < size (domAt (now facts)) (c .vars)) × Within (size (domAt (now facts)) (c .vars)) (now old) ⌝ }
-    ensures { λ r. ⌜ said r ≡ best (spaceOf c (now (facts .entry)) (now (prices .entry))) (read (now (old .entry))) (a .0) (c .ops) ⌝ }
+    requires { ⌜ Walkable c (now facts) × PricesSmall c (now prices) × (a .0 < size (domAt (now facts)) (c .vars)) × Addable (size (domAt (now facts)) (c .vars)) (now old) ⌝ }
+    ensures { λ r. ⌜ said r ≡ best (spaceOf c (now (facts .entry)) (now (prices .entry))) (saidAt (now (old .entry))) (a .0) (c .ops) ⌝ }
 {
     let s = digits(c.vars, facts, a);
     let ops = c.ops;
@@ -75,8 +75,8 @@ fn cell(c: Counts, facts: &[u8], prices: &[u32], old: &[u32], a: StateNo) -> u32
 
 // Sets `new` to the round after that of `old`, and says whether the two differ.
 fn sweep(c: Counts, facts: &[u8], prices: &[u32], n: u32, old: &[u32], new: &mut [u32]) -> bool
-    requires { ⌜ Walkable c (now facts) × Priced c (now prices) × (n ≡ size (domAt (now facts)) (c .vars)) ⌝ }
-    requires { ⌜ (n ≤ length (now old)) × (n ≤ length (now new)) × Within n (now old) ⌝ }
+    requires { ⌜ Walkable c (now facts) × PricesSmall c (now prices) × (n ≡ size (domAt (now facts)) (c .vars)) ⌝ }
+    requires { ⌜ (n ≤ length (now old)) × (n ≤ length (now new)) × Addable n (now old) ⌝ }
     ensures { λ r. ⌜ Swept n (spaceOf c (now (facts .entry)) (now (prices .entry))) (now (old .entry)) (now (new .entry)) (now (new .exit)) r ⌝ }
 {
     let mut changed = false;
@@ -126,7 +126,7 @@ pub fn count_rounds(
     t: &mut [u32],
     w: &mut [u32],
 ) -> u32
-    requires { ⌜ Walkable c (now facts) × Priced c (now prices) × (n ≡ size (domAt (now facts)) (c .vars)) ⌝ }
+    requires { ⌜ Walkable c (now facts) × PricesSmall c (now prices) × (n ≡ size (domAt (now facts)) (c .vars)) ⌝ }
     requires { ⌜ (n ≤ length (now t)) × (n ≤ length (now w)) ⌝ }
     ensures { λ r. ⌜ Counted (spaceOf c (now (facts .entry)) (now (prices .entry))) (now (t .entry)) (now (t .exit)) r ⌝ }
 {

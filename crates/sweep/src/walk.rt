@@ -1,11 +1,12 @@
 // One step among numbered states. The facts stand in the lent tables' layout; their values may be classes.
 ghost use mathlib.Core.Path.{_≡_};
 ghost use Prim.Native.Nat.{_≤_, _<_};
+ghost use Rattle.meaning.specs.Limits.{mostVars, mostStates};
 ghost use Rattle.meaning.specs.Numbering.{size, Positive, Digits};
 ghost use Rattle.tables.specs.Layout.{domAt};
 ghost use Rattle.tables.specs.Task.{stateOf};
 ghost use Rattle.tables.specs.Steps.{valueAfter};
-ghost use Rattle.sweep.specs.Walks.{Walkable, Spells, nextOf, numberAfter, nextFrom};
+ghost use Rattle.sweep.specs.Inside.Walks.{Walkable, HasDigits, nextOf, numberAfter, nextFrom};
 use meaning::OpNo;
 use meaning::StateNo;
 use tables::Counts;
@@ -22,6 +23,9 @@ pub enum Step {
     Stop,
 }
 
+// The room for a value of each variable.
+const VALUES_ROOM: usize = 8;
+
 // A byte as a word.
 pub fn wide(x: u8) -> u32
     ensures { λ r. ⌜ (r ≡ x) × (r < 256) ⌝ }
@@ -30,11 +34,11 @@ pub fn wide(x: u8) -> u32
 }
 
 // A state's values by its number.
-pub fn digits(vars: u32, facts: &[u8], a: StateNo) -> [u8; 8]
-    requires { ⌜ (vars ≤ 8) × Positive (domAt (now facts)) vars ⌝ }
-    ensures { λ r. ⌜ Spells vars (now (facts .entry)) (a .0) r ⌝ }
+pub fn digits(vars: u32, facts: &[u8], a: StateNo) -> [u8; VALUES_ROOM]
+    requires { ⌜ (vars ≤ mostVars) × Positive (domAt (now facts)) vars ⌝ }
+    ensures { λ r. ⌜ HasDigits vars (now (facts .entry)) (a .0) r ⌝ }
 {
-    let mut s = [0u8; 8];
+    let mut s = [0u8; VALUES_ROOM];
     let mut rest = a.0;
     let mut v = 0u32;
     while v < vars {
@@ -48,7 +52,7 @@ pub fn digits(vars: u32, facts: &[u8], a: StateNo) -> [u8; 8]
 
 // The number of the state that a row of effects makes of the values s.
 pub fn number_after(vars: u32, facts: &[u8], row: u32, s: &[u8]) -> u32
-    requires { ⌜ Positive (domAt (now facts)) vars × (size (domAt (now facts)) vars ≤ 4096) ⌝ }
+    requires { ⌜ Positive (domAt (now facts)) vars × (size (domAt (now facts)) vars ≤ mostStates) ⌝ }
     requires { ⌜ Digits (domAt (now facts)) (valueAfter (now facts) row (now s)) vars ⌝ }
     ensures { λ r. ⌜ r ≡ numberAfter vars (now (facts .entry)) row (now (s .entry)) ⌝ }
 {

@@ -1,53 +1,44 @@
--- Of an accepted task: there is no second answer, and what is promised is so; for distances and rounds, the distance of a state, its bound.
+-- Of an accepted task: there is no second answer, and what is promised is so; for distances, the distance of a state, its bound.
 -- Assumes nothing.
 use mathlib.Core.Path.{_≡_, refl, sym, ap₂, _∙_, subst}
 use mathlib.Core.List.{List}
-use Prim.Native.Nat.{ℕ, zero, suc, _≤_, _<_}
+use Prim.Native.Nat.{ℕ, zero, suc, _<_}
 use native.Mathlib.Nat.{le-refl}
 use native.Mathlib.Decide.{decLt}
 use native.Mathlib.Omega.{arith}
 use lib.ListN.{getD}
 use lib.Seq.{ext-getD}
 use Rattle.graph.specs.Cost.{Cost}
-use Rattle.graph.proofs.Theorems.{rounds-unique}
 use Rattle.meaning.specs.Sas.{State, IsState}
 use Rattle.meaning.specs.Views.{α, abstractStates, IsDistanceAt, viewGraph}
 use Rattle.meaning.specs.Split.{Task, view, Valid}
 use Rattle.meaning.specs.Bound.{away, join, summed, bound}
 use Rattle.meaning.proofs.Induced.{α-below}
 use Rattle.meaning.proofs.Bounds.{view-onto}
-use Rattle.meaning.proofs.Theorems.{distance-is-least, distance-unique, round-holds-distances, rounds-at-most-states}
-use Rattle.sweep.specs.Said.{read}
-use Rattle.sweep.specs.Sweeps.{Counted}
+use Rattle.meaning.proofs.Theorems.{distance-is-least, distance-unique, round-holds-distances}
+use Rattle.sweep.specs.Said.{saidAt}
+use Rattle.sweep.specs.Inside.Sweeps.{Counted}
 use Rattle.views.specs.Entries.{DistancesOf, IsAway, IsBound}
 use Rattle.sweep.proofs.Saids.{said-inj}
 
 module _ (T : Task) (ok : Valid T) (m : ℕ) (lm : m < T .maps) where
-  -- the rounds and the table are settled
-  pub distances-only : (out o u : List ℕ) (r s : ℕ) → DistancesOf T m out r o → DistancesOf T m out s u → (r ≡ s) × (o ≡ u)
-  distances-only out o u r s D E = (
-    rounds-unique (viewGraph (T .sas) (view T m)) r s (D .rounds) (E .rounds),
-    ext-getD 0 o u (D .room ∙ sym (E .room)) (λ a _. pick a (decLt a (abstractStates (T .sas) (view T m)))),
-  )
+  -- the table is settled
+  pub distances-only : (out o u : List ℕ) → DistancesOf T m out o → DistancesOf T m out u → o ≡ u
+  distances-only out o u D E = ext-getD 0 o u (D .room ∙ sym (E .room)) (λ a _. pick a (decLt a (abstractStates (T .sas) (view T m))))
     where
       pick : (a : ℕ) → Dec (a < abstractStates (T .sas) (view T m)) → getD o a 0 ≡ getD u a 0
       pick a (yes l) =
-          said-inj (getD o a 0) (getD u a 0) (distance-unique T ok m lm a (read o a) (read u a) l (D .distances a l) (E .distances a l))
+          said-inj (getD o a 0) (getD u a 0) (distance-unique T ok m lm a (saidAt o a) (saidAt u a) l (D .distances a l) (E .distances a l))
       pick a (no l) = D .others a (omega arith) ∙ sym (E .others a (omega arith))
 
-  -- and the rounds never pass the number of abstract states
-  pub distances-rounds-most : (out out′ : List ℕ) (r : ℕ) → DistancesOf T m out r out′ → r ≤ abstractStates (T .sas) (view T m)
-  distances-rounds-most out out′ r D = rounds-at-most-states T ok m lm r (D .rounds)
-
   -- the table of the counted rounds holds the distances
-  pub counted-distances : (out out′ : List ℕ) (r : ℕ) → Counted (viewGraph (T .sas) (view T m)) out out′ r → DistancesOf T m out r out′
+  pub counted-distances : (out out′ : List ℕ) (r : ℕ) → Counted (viewGraph (T .sas) (view T m)) out out′ r → DistancesOf T m out out′
   counted-distances out out′ r C =
       record {
         distances =
             λ a l.
             subst (λ (v : Cost). IsDistanceAt (T .sas) (view T m) a v)
             (sym (C .table .made a l ∙ round-holds-distances T ok m lm r (C .rounds) a l)) (distance-is-least T ok m lm a l);
-        rounds = C .rounds;
         others = C .table .kept;
         room = C .table .size;
       }

@@ -5,12 +5,14 @@ use mathlib.Core.List.{List}
 use Prim.Native.Nat.{ℕ, _≤_}
 use native.Mathlib.Omega.{arith}
 use Rattle.graph.specs.Cost.{Cost, none, fin, _⊑_}
+use Rattle.graph.proofs.Theorems.{rounds-unique}
 use Rattle.refusals.specs.declared.Refusal.{Refusal}
 use Rattle.meaning.specs.Sas.{Passes, paid}
-use Rattle.meaning.specs.Views.{α, abstractStates}
+use Rattle.meaning.specs.Views.{α, abstractStates, viewGraph}
 use Rattle.meaning.specs.Split.{view}
 use Rattle.meaning.specs.Bound.{bound}
 use Rattle.meaning.proofs.Bounds.{admissible}
+use Rattle.meaning.proofs.Theorems.{rounds-at-most-states}
 use Rattle.scan.specs.declared.Found.{Found}
 use Rattle.scan.specs.declared.Found.the-variants.{Clean, Fault}
 use Rattle.tables.specs.Layout.{Tables}
@@ -18,19 +20,20 @@ use Rattle.tables.specs.Task.{sasOf, taskOf, stateOf}
 use Rattle.views.specs.declared.DistancesAnswer.{DistancesAnswer}
 use Rattle.views.specs.declared.DistancesAnswer.the-variants as distances
 use Rattle.views.specs.declared.DistanceAnswer.{DistanceAnswer}
+use Rattle.views.specs.declared.DistanceAnswer.the-variants as distance
 use Rattle.views.specs.declared.BoundAnswer.{BoundAnswer}
 use Rattle.views.specs.declared.BoundAnswer.the-variants as bounds
-use Rattle.sweep.specs.Said.{read}
-use Rattle.views.specs.Entries.{distancesFault, distanceFault, Judged, DistancesOf, IsAway, IsBound, DistancesGiven, distanceSaid, boundSaid, DistanceGiven, BoundGiven}
+use Rattle.sweep.specs.Said.{saidAt}
+use Rattle.views.specs.Entries.{distancesFault, distanceFault, ByFault, DistancesOf, RoundsOf, IsAway, IsBound, DistancesGiven, distanceSaid, boundSaid, DistanceGiven, BoundGiven}
 use Rattle.scan.specs.Scan.{inputFault}
-use Rattle.views.proofs.Answers.{image-inside, distances-only, distances-rounds-most, away-only, bound-is, bound-only}
-use Rattle.views.proofs.Judging.{judged-clean, distances-clean, distance-clean, bound-clean}
+use Rattle.views.proofs.Answers.{image-inside, distances-only, away-only, bound-is, bound-only}
+use Rattle.views.proofs.Judging.{by-clean, distances-clean, distance-clean, bound-clean}
 
--- two outcomes that are judged alike are the same: refused they are told by the fault, and accepted they are settled
-judged-only : {A : Type 0} (x y : A) (g : Found) (R S : Refusal → Type 0) (P Q : Type 0) → ((f : Refusal) → R f → S f → x ≡ y)
-    → (g ≡ Clean → P → Q → x ≡ y) → Judged g R P → Judged g S Q → x ≡ y
-judged-only x y Clean R S P Q no-doubt settled p q = settled refl p q
-judged-only x y (Fault f) R S P Q no-doubt settled p q = no-doubt f p q
+-- two outcomes that are judged by one fault are the same: refused they are told by the fault, and accepted they are settled
+by-fault-only : {A : Type 0} (g : Found) (R : A → Refusal → Type 0) (P : A → Type 0) → ((x y : A) (f : Refusal) → R x f → R y f → x ≡ y)
+    → ((x y : A) → g ≡ Clean → P x → P y → x ≡ y) → (x y : A) → ByFault g (R x) (P x) → ByFault g (R y) (P y) → x ≡ y
+by-fault-only Clean R P told settled x y p q = settled x y refl p q
+by-fault-only (Fault f) R P told settled x y p q = told x y f p q
 
 -- what an answer of `distances` and the table after it are, together
 pub record Outcome : Type 0 where
@@ -43,45 +46,44 @@ outcome p q = λ i. record { answer = p i; table = q i }
 -- no second answer, count of rounds or table
 pub distances-unique : (t : Tables) (m : ℕ) (out : List ℕ) (x y : Outcome) → DistancesGiven t m out (x .answer) (x .table)
     → DistancesGiven t m out (y .answer) (y .table) → x ≡ y
-distances-unique t m out x y =
-    judged-only x y (distancesFault t m out) (λ f. (x .answer ≡ distances.Refused f) × (x .table ≡ out))
-    (λ f. (y .answer ≡ distances.Refused f) × (y .table ≡ out)) ((r : ℕ) × (x .answer ≡ distances.Rounds r) × DistancesOf (taskOf t) m out r (x .table))
-    ((r : ℕ) × (y .answer ≡ distances.Rounds r) × DistancesOf (taskOf t) m out r (y .table))
-    (λ f p q. outcome (p .0 ∙ sym (q .0)) (p .1 ∙ sym (q .1)))
-    (λ e p q.
+distances-unique t m out =
+    by-fault-only (distancesFault t m out) (λ x f. (x .answer ≡ distances.Refused f) × (x .table ≡ out))
+    (λ x. (r : ℕ) × (x .answer ≡ distances.Rounds r) × RoundsOf (taskOf t) m r × DistancesOf (taskOf t) m out (x .table))
+    (λ x y f p q. outcome (p .0 ∙ sym (q .0)) (p .1 ∙ sym (q .1)))
+    (λ x y e p q.
     let c = distances-clean t m out e in
-    let s = distances-only (taskOf t) (c .0) m (c .1) out (x .table) (y .table) (p .0) (q .0) (p .2) (q .2) in
-    outcome (p .1 ∙ ap distances.Rounds (s .0) ∙ sym (q .1)) (s .1))
+    outcome (p .1 ∙ ap distances.Rounds (rounds-unique (viewGraph (sasOf t) (view (taskOf t) m)) (p .0) (q .0) (p .2) (q .2)) ∙ sym (q .1))
+    (distances-only (taskOf t) (c .0) m (c .1) out (x .table) (y .table) (p .3) (q .3)))
 
 pub distance-at-unique : (t : Tables) (m : ℕ) (s : List ℕ) (x y : DistanceAnswer) → DistanceGiven t m s x → DistanceGiven t m s y → x ≡ y
-distance-at-unique t m s x y =
-    judged-only x y (distanceFault t m s) _ _ ((v : Cost) × (x ≡ distanceSaid v) × IsAway (taskOf t) (stateOf s) m v)
-    ((v : Cost) × (y ≡ distanceSaid v) × IsAway (taskOf t) (stateOf s) m v) (λ f p q. p ∙ sym q)
-    (λ e p q.
+distance-at-unique t m s =
+    by-fault-only (distanceFault t m s) (λ x f. x ≡ distance.Refused f) (λ x. (v : Cost) × (x ≡ distanceSaid v) × IsAway (taskOf t) (stateOf s) m v)
+    (λ x y f p q. p ∙ sym q)
+    (λ x y e p q.
     let c = distance-clean t m s e in
     p .1 ∙ ap distanceSaid (away-only (taskOf t) (c .0) m (c .1) (stateOf s) (p .0) (q .0) (c .2) (p .2) (q .2)) ∙ sym (q .1))
 
 pub bound-unique : (t : Tables) (s : List ℕ) (x y : BoundAnswer) → BoundGiven t s x → BoundGiven t s y → x ≡ y
-bound-unique t s x y =
-    judged-only x y (inputFault t s) _ _ ((v : Cost) × (x ≡ boundSaid v) × IsBound (taskOf t) (stateOf s) v)
-    ((v : Cost) × (y ≡ boundSaid v) × IsBound (taskOf t) (stateOf s) v) (λ f p q. p ∙ sym q)
-    (λ e p q.
+bound-unique t s =
+    by-fault-only (inputFault t s) (λ x f. x ≡ bounds.Refused f) (λ x. (v : Cost) × (x ≡ boundSaid v) × IsBound (taskOf t) (stateOf s) v)
+    (λ x y f p q. p ∙ sym q)
+    (λ x y e p q.
     let c = bound-clean t s e in
     p .1 ∙ ap boundSaid (bound-only (taskOf t) (c .0) (stateOf s) (c .1) (p .0) (q .0) (p .2) (q .2)) ∙ sym (q .1))
 
 -- where rounds are answered, nothing was at fault and the table holds the distances
 pub rounds-given : (t : Tables) (m : ℕ) (out out′ : List ℕ) (r : ℕ) → DistancesGiven t m out (distances.Rounds r) out′
-    → (distancesFault t m out ≡ Clean) × DistancesOf (taskOf t) m out r out′
+    → (distancesFault t m out ≡ Clean) × RoundsOf (taskOf t) m r × DistancesOf (taskOf t) m out out′
 rounds-given t m out out′ r = pick (distancesFault t m out)
   where
     pick : (g : Found)
-        → Judged g (λ f. (distances.Rounds r ≡ distances.Refused f) × (out′ ≡ out))
-        ((k : ℕ) × (distances.Rounds r ≡ distances.Rounds k) × DistancesOf (taskOf t) m out k out′)
-        → (g ≡ Clean) × DistancesOf (taskOf t) m out r out′
+        → ByFault g (λ f. (distances.Rounds r ≡ distances.Refused f) × (out′ ≡ out))
+        ((k : ℕ) × (distances.Rounds r ≡ distances.Rounds k) × RoundsOf (taskOf t) m k × DistancesOf (taskOf t) m out out′)
+        → (g ≡ Clean) × RoundsOf (taskOf t) m r × DistancesOf (taskOf t) m out out′
     pick Clean p =
         let q = p .1 in
         let k : p .0 ≡ r = cc in
-        (refl, subst (λ (x : ℕ). DistancesOf (taskOf t) m out x out′) k (p .2))
+        (refl, subst (RoundsOf (taskOf t) m) k (p .2), p .3)
     pick (Fault f) p =
         let q = p .0 in
         absurd (let z : _≡_ {A = ℕ} 0 1 = cc in omega arith)
@@ -92,17 +94,17 @@ pub rounds-within-states : (t : Tables) (m : ℕ) (out out′ : List ℕ) (r : �
 rounds-within-states t m out out′ r given =
     let D = rounds-given t m out out′ r given in
     let c = distances-clean t m out (D .0) in
-    distances-rounds-most (taskOf t) (c .0) m (c .1) out out′ r (D .1)
+    rounds-at-most-states (taskOf t) (c .0) m (c .1) r (D .1)
 
 -- a state's distance is what the map's table says of its image
 pub distance-in-table : (t : Tables) (m : ℕ) (out out′ s : List ℕ) (r : ℕ) → DistancesGiven t m out (distances.Rounds r) out′
-    → distanceFault t m s ≡ Clean → DistanceGiven t m s (distanceSaid (read out′ (α (sasOf t) (view (taskOf t) m) (stateOf s))))
+    → distanceFault t m s ≡ Clean → DistanceGiven t m s (distanceSaid (saidAt out′ (α (sasOf t) (view (taskOf t) m) (stateOf s))))
 distance-in-table t m out out′ s r given e =
     let D = rounds-given t m out out′ r given in
     let c = distance-clean t m s e in
     let a = α (sasOf t) (view (taskOf t) m) (stateOf s) in
-    judged-clean (distanceFault t m s) _ _ e
-    (read out′ a, refl, D .1 .distances a (image-inside (taskOf t) (c .0) m (c .1) (stateOf s) (c .2)))
+    by-clean (distanceFault t m s) _ _ e
+    (saidAt out′ a, refl, D .2 .distances a (image-inside (taskOf t) (c .0) m (c .1) (stateOf s) (c .2)))
 
 -- DEMAND 3, over the answers of `bound`
 module _ (t : Tables) (s : List ℕ) where
@@ -121,7 +123,7 @@ module _ (t : Tables) (s : List ℕ) where
   said-below v = pick (inputFault t s) refl
     where
       pick : (g : Found) → inputFault t s ≡ g
-          → Judged g (λ f. boundSaid v ≡ bounds.Refused f) ((w : Cost) × (boundSaid v ≡ boundSaid w) × IsBound (taskOf t) (stateOf s) w)
+          → ByFault g (λ f. boundSaid v ≡ bounds.Refused f) ((w : Cost) × (boundSaid v ≡ boundSaid w) × IsBound (taskOf t) (stateOf s) w)
           → (os : List ℕ) → Passes (sasOf t) os (stateOf s) → v ⊑ paid (sasOf t .cost) os
       pick Clean e p os h =
           let c = bound-clean t s e in

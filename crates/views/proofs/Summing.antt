@@ -6,7 +6,7 @@ use native.Mathlib.Numerals.{add-one}
 use Rattle.graph.specs.Cost.{Cost, none, fin}
 use Rattle.meaning.specs.Bound.{join, summed}
 use Rattle.sweep.specs.Said.{NONE, said}
-use Rattle.views.specs.Sums.{totalIf}
+use Rattle.views.specs.Inside.Sums.{totalIf}
 use Rattle.sweep.proofs.Saids.{said-none, said-fin}
 
 join-none : (v : Cost) → v ≡ join v none

@@ -8,6 +8,7 @@ use Rattle.graph.specs.Cost.{Cost, none, fin}
 use Rattle.graph.specs.Least.{Rounds}
 use Rattle.refusals.specs.declared.Refusal.{Refusal}
 use Rattle.refusals.specs.declared.Refusal.the-variants.{OutOfRange, TableTooShort}
+use Rattle.meaning.specs.Limits.{mostStates}
 use Rattle.meaning.specs.Sas.{State}
 use Rattle.meaning.specs.Views.{α, abstractStates, IsDistanceAt, viewGraph}
 use Rattle.meaning.specs.Split.{Task, view}
@@ -25,12 +26,15 @@ use Rattle.views.specs.declared.BoundAnswer.{BoundAnswer}
 use Rattle.views.specs.declared.BoundAnswer.the-variants as bound
 use Rattle.sweep.specs.Said.{said}
 
--- DISTANCES. out′ holds the distances of map m at all its abstract states, r is the count of rounds, and the places beyond the map are as they were
-pub record DistancesOf (T : Task) (m : ℕ) (out : List ℕ) (r : ℕ) (out′ : List ℕ) : Type 0 where
+-- DISTANCES. The table: out′ holds the distances of map m at all its abstract states, and the places beyond the map are as they were
+pub record DistancesOf (T : Task) (m : ℕ) (out out′ : List ℕ) : Type 0 where
   pub distances : (a : ℕ) → a < abstractStates (T .sas) (view T m) → IsDistanceAt (T .sas) (view T m) a (said (getD out′ a 0))
-  pub rounds : Rounds (viewGraph (T .sas) (view T m)) r
   pub others : (a : ℕ) → abstractStates (T .sas) (view T m) ≤ a → getD out′ a 0 ≡ getD out a 0
   pub room : length out′ ≡ length out
+
+-- the rounds: r is the count of rounds of map m
+abbrev pub RoundsOf : Task → ℕ → ℕ → Type 0
+RoundsOf T m r = Rounds (viewGraph (T .sas) (view T m)) r
 
 -- v is the distance of the state's image in map m
 abbrev pub IsAway : Task → State → ℕ → Cost → Type 0
@@ -50,22 +54,22 @@ askedFault t m = tablesFault t then noSuchMap t m
 
 -- 8 for every lent table before all: for the distance table here, and for the others as the first of the tables' faults
 unfoldable pub distancesFault : Tables → ℕ → List ℕ → Found
-distancesFault t m out = unless (leb 4096 (length out)) TableTooShort then askedFault t m
+distancesFault t m out = unless (leb mostStates (length out)) TableTooShort then askedFault t m
 
 -- then the state
 unfoldable pub distanceFault : Tables → ℕ → List ℕ → Found
 distanceFault t m s = askedFault t m then stateFault (t .counts) (t .facts) s
 
 -- THE PROMISES. The first fault is answered as refused says, and where there is none, accepted holds
-abbrev pub Judged : Found → (Refusal → Type 0) → Type 0 → Type 0
-Judged Clean refused accepted = accepted
-Judged (Fault f) refused accepted = refused f
+abbrev pub ByFault : Found → (Refusal → Type 0) → Type 0 → Type 0
+ByFault Clean refused accepted = accepted
+ByFault (Fault f) refused accepted = refused f
 
 -- a refusal leaves the lent table as it was
 abbrev pub DistancesGiven : Tables → ℕ → List ℕ → DistancesAnswer → List ℕ → Type 0
 DistancesGiven t m out answer out′ =
-    Judged (distancesFault t m out) (λ f. (answer ≡ distances.Refused f) × (out′ ≡ out))
-    ((r : ℕ) × (answer ≡ distances.Rounds r) × DistancesOf (taskOf t) m out r out′)
+    ByFault (distancesFault t m out) (λ f. (answer ≡ distances.Refused f) × (out′ ≡ out))
+    ((r : ℕ) × (answer ≡ distances.Rounds r) × RoundsOf (taskOf t) m r × DistancesOf (taskOf t) m out out′)
 
 -- a distance or a sum as an answer: none is a case of its own
 abbrev pub distanceSaid : Cost → DistanceAnswer
@@ -78,9 +82,9 @@ boundSaid (fin b) = bound.Of b
 
 abbrev pub DistanceGiven : Tables → ℕ → List ℕ → DistanceAnswer → Type 0
 DistanceGiven t m s answer =
-    Judged (distanceFault t m s) (λ f. answer ≡ distance.Refused f)
+    ByFault (distanceFault t m s) (λ f. answer ≡ distance.Refused f)
     ((v : Cost) × (answer ≡ distanceSaid v) × IsAway (taskOf t) (stateOf s) m v)
 
 abbrev pub BoundGiven : Tables → List ℕ → BoundAnswer → Type 0
 BoundGiven t s answer =
-    Judged (inputFault t s) (λ f. answer ≡ bound.Refused f) ((v : Cost) × (answer ≡ boundSaid v) × IsBound (taskOf t) (stateOf s) v)
+    ByFault (inputFault t s) (λ f. answer ≡ bound.Refused f) ((v : Cost) × (answer ≡ boundSaid v) × IsBound (taskOf t) (stateOf s) v)

@@ -4,16 +4,16 @@ pub mod sums;
 ghost use mathlib.Core.Path.{_≡_};
 ghost use Rattle.tables.specs.Task.{tables, lent};
 ghost use Rattle.sweep.specs.Said.{said};
-ghost use Rattle.views.specs.Sums.{sumSaid};
+ghost use Rattle.views.specs.Inside.Sums.{sumSaid};
 ghost use Rattle.views.specs.Entries.{askedFault, distanceFault, distanceSaid, boundSaid, DistancesGiven, DistanceGiven, BoundGiven};
 use crate::sums::Sum;
 use crate::sums::sum_of;
+use meaning::limits::STATES_ROOM;
 use refusals::Refusal;
 use scan::Found;
 use scan::input_fault;
 use scan::state_fault;
 use scan::tables_fault;
-use sweep::maps::STATES;
 use sweep::maps::away_of;
 use sweep::maps::share_row;
 use sweep::maps::view_rounds;
@@ -106,7 +106,7 @@ pub fn distances(
 ) -> DistancesAnswer
     ensures { λ r. ⌜ DistancesGiven (lent c (facts .entry) (costs .entry) (shares .entry)) map (now (out .entry)) r (now (out .exit)) ⌝ }
 {
-    if out.len() < STATES {
+    if out.len() < STATES_ROOM {
         return DistancesAnswer::Refused(Refusal::TableTooShort);
     }
     let found = asked_fault(c, facts, costs, shares, map);

@@ -6,9 +6,9 @@ ghost use Rattle.meaning.specs.Sas.{IsState};
 ghost use Rattle.meaning.specs.Split.{Valid};
 ghost use Rattle.meaning.specs.Bound.{bound, join};
 ghost use Rattle.tables.specs.Task.{taskOf, tables, stateOf};
-ghost use Rattle.sweep.specs.Said.{said};
-ghost use Rattle.sweep.specs.Classes.{unpriced, SharesSmall};
-ghost use Rattle.views.specs.Sums.{sumSaid};
+ghost use Rattle.sweep.specs.Said.{NONE, said};
+ghost use Rattle.sweep.specs.Inside.Classes.{unpriced, SharesSmall};
+ghost use Rattle.views.specs.Inside.Sums.{sumSaid, mostTotal};
 use sweep::maps::away_of;
 use sweep::rounds::NO_COST;
 use tables::Counts;
@@ -20,9 +20,9 @@ pub struct Sum {
 }
 
 // With one map's distance more; a map with none adds 0.
-fn joined(sum: Sum, distance: u32) -> Sum
-    requires { ⌜ sum .total ≤ 1000000000000 ⌝ }
-    ensures { λ r. ⌜ (sumSaid r ≡ join (sumSaid sum) (said distance)) × (r .total ≤ sum .total + 4294967295) ⌝ }
+fn with_distance(sum: Sum, distance: u32) -> Sum
+    requires { ⌜ sum .total ≤ mostTotal ⌝ }
+    ensures { λ r. ⌜ (sumSaid r ≡ join (sumSaid sum) (said distance)) × (r .total ≤ sum .total + NONE) ⌝ }
 {
     if distance == NO_COST {
         return sum;
@@ -52,7 +52,7 @@ pub fn sum_of(c: Counts, facts: &[u8], shares: &[u32], s: &[u8]) -> Sum
     };
     let mut m = 0u32;
     while m < maps {
-        sum = joined(sum, away_of(c, facts, shares, m, s));
+        sum = with_distance(sum, away_of(c, facts, shares, m, s));
         m += 1;
     }
     sum

@@ -1,6 +1,6 @@
--- `as_bound` meets its contract. Assumes nothing.
+-- `as_bound` meets its contract: whether some map said a number decides. Assumes nothing.
 use mathlib.Core.Path.{sym, ap}
-use Rattle.views.specs.Sums.{totalIf}
+use Rattle.views.specs.Inside.Sums.{totalIf}
 use Rattle.views.specs.Entries.{boundSaid}
 use Rattle.views.proofs.as_bound.Statement.{statement}
 use Rattle.views.proofs.as_bound.Tie as tie

@@ -1,4 +1,4 @@
--- `as_distance` meets its contract. Assumes nothing.
+-- `as_distance` meets its contract: the largest word says none, any other says itself. Assumes nothing.
 use mathlib.Core.Path.{sym, ap}
 use Rattle.views.specs.Entries.{distanceSaid}
 use Rattle.sweep.proofs.Saids.{said-none, said-fin}

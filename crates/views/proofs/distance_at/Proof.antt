@@ -1,37 +1,42 @@
--- `distance_at` meets its contract. Assumes nothing.
+-- `distance_at` meets its contract: the first fault is answered, and where there is none, what the map's table says of the state's image. Assumes nothing.
 use borrow.Author.Needs.{needs}
-use mathlib.Core.Path.{sym, _∙_}
+use mathlib.Core.Path.{_≡_, sym, _∙_}
+use Rattle.scan.specs.declared.Found.the-variants.{Clean}
+use Rattle.tables.specs.Layout.{Tables}
 use Rattle.tables.specs.Task.{tables}
 use Rattle.sweep.proofs.Viewing.{valid-unpriced}
+use Rattle.views.specs.Entries.{distanceFault}
 use Rattle.views.proofs.Judging.{distance-clean, given-distance-refused, given-distance}
 use Rattle.views.proofs.distance_at.Statement.{statement}
 use Rattle.views.proofs.distance_at.Tie as tie
 
-enum-told : tie.Need-enum-told
-enum-told c = search needs
+-- what was handed in, and that it has no fault
+abbrev t : tie.Start → Tables
+t c = tables (c .args .c) (c .args .facts .now) (c .args .costs .now) (c .args .shares .now)
+
+abbrev start : tie.After-distance-fault → tie.Start
+start c = c .before .before .before .before .before
+
+clean : (c : tie.After-enum-told) → let s = start (c .before .before) in distanceFault (t s) (s .args .map) (s .args .s .now) ≡ Clean
+clean c = sym (c .before .before .distance-fault .ensures) ∙ c .enum-told .given .1
 
 away-of-requires : tie.Need-away-of-requires
 away-of-requires c κs =
-    let a = c .before .before .before .before .before .before .before .args in
-    let distance-fault = c .before .before .distance-fault in
-    let q = distance-clean (tables (a .c) (a .facts .now) (a .costs .now) (a .shares .now)) (a .map) (a .s .now)
-    (sym (distance-fault .ensures) ∙ c .enum-told .given .1) in
-    (valid-unpriced (a .c) (a .facts .now) (a .costs .now) (a .shares .now) (q .0), q .1, (λ o l. q .0 .shares (a .map) o (q .1) l), q .2)
+    let s = start (c .before .before) in
+    let q = distance-clean (t s) (s .args .map) (s .args .s .now) (clean c) in
+    (valid-unpriced (t s) (q .0), q .1, (λ o l. q .0 .shares (s .args .map) o (q .1) l), q .2)
 
 returns : tie.Need-returns
 returns c =
-    let a = c .before .before .before .before .before .before .before .before .args in
-    let distance-fault = c .before .before .before .distance-fault in
-    given-distance-refused (tables (a .c) (a .facts .now) (a .costs .now) (a .shares .now)) (a .map) (a .s .now) (c .before .found .given .0 .0)
-    (sym (distance-fault .ensures) ∙ c .before .found .given .1)
+    let f = c .before .before .before in
+    let e = c .before .found .given in
+    given-distance-refused (t (start f)) (start f .args .map) (start f .args .s .now) (e .0 .0) (sym (f .distance-fault .ensures) ∙ e .1)
 
 returns-2 : tie.Need-returns-2
 returns-2 c =
-    let a = c .before .before .before .before .before .before .before .before .before .args in
-    let distance-fault = c .before .before .before .before .distance-fault in
-    let enum-told = c .before .before .enum-told in
-    given-distance (a .c) (a .facts .now) (a .costs .now) (a .shares .now) (a .map) (a .s .now) (c .before .away-of .result) (c .as-distance .result)
-    (sym (distance-fault .ensures) ∙ enum-told .given .1) (c .before .away-of .ensures) (c .as-distance .ensures)
+    let s = start (c .before .before .before .before) in
+    let d = c .before .away-of in
+    given-distance (t s) (s .args .map) (s .args .s .now) (d .result) (clean (c .before .before)) (d .ensures) (c .as-distance .ensures)
 
 pub distance-at-spec : {M : Type 1} → statement M
 distance-at-spec =
@@ -39,7 +44,7 @@ distance-at-spec =
     (tie.spec
     (λ c κs. search needs)
     (λ c. search needs)
-    enum-told
+    (λ c. search needs)
     away-of-requires
     (λ c κs. search needs)
     returns

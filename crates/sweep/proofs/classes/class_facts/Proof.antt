@@ -6,7 +6,7 @@ use native.Mathlib.Omega.{arith}
 use lib.ListN.{length}
 use Rattle.meaning.specs.Split.{countOf}
 use Rattle.tables.specs.Layout.{domAt, classAt}
-use Rattle.sweep.specs.Sweeps.{Made}
+use Rattle.sweep.specs.Inside.Sweeps.{Made}
 use Rattle.sweep.proofs.Makes.{made-none, made-more, made-end}
 use Rattle.sweep.proofs.Classing.{classed}
 use Rattle.sweep.proofs.classes.class_facts.Statement.{statement}
@@ -21,9 +21,6 @@ abbrev μ-loop : tie.MeasureT-loop
 
 seen-facts-requires : tie.Need-seen-facts-requires Inv-loop μ-loop
 seen-facts-requires c κs = omega (arith, c .before .pre .1, c .before .pre .0 .maps .1)
-
-loop-holds : tie.Need-loop-holds Inv-loop μ-loop
-loop-holds c = (omega arith, made-none _ _)
 
 class-count-requires : tie.Need-class-count-requires Inv-loop μ-loop
 class-count-requires c κs =
@@ -41,7 +38,7 @@ loop-again c =
     let seen-facts = c .before .before .before .seen-facts in
     let l = c .before .before .loop in
     let inside : l .v < length (l .t) = omega (arith, l .inv .1 .size, seen-facts .ensures .0, c .before .loop-test .taken, pre .0 .vars .1) in
-    (search needs, made-more _ _ (l .v) (c .class-count .result) (l .t) inside (l .inv .1) (c .class-count .ensures))
+    (search needs, made-more (l .inv .1) inside (c .class-count .ensures))
 
 returns : tie.Need-returns Inv-loop μ-loop
 returns c =
@@ -50,7 +47,7 @@ returns c =
     let seen-facts = c .before .before .seen-facts in
     let l = c .before .loop in
     classed (a .c) (a .facts .now) (a .m) (seen-facts .result) (l .t) (pre .0 .vars .1) (seen-facts .ensures .1)
-    (made-end _ _ (a .c .vars) (l .v) (l .t) (l .inv .1) (l .inv .0) (c .loop-test .left))
+    (made-end (l .inv .1) (l .inv .0) (c .loop-test .left))
 
 pub class-facts-spec : {M : Type 1} → statement M
 class-facts-spec =
@@ -59,7 +56,7 @@ class-facts-spec =
     Inv-loop
     μ-loop
     seen-facts-requires
-    loop-holds
+    (λ c. (omega arith, made-none))
     class-count-requires
     (λ c. search needs)
     array-write-t

@@ -1,4 +1,4 @@
--- `classes::seen_fact` meets its contract. Assumes nothing.
+-- `classes::seen_fact` meets its contract: 0 says nothing of any class, and k + 1 has the class of k. Assumes nothing.
 use borrow.Author.Needs.{needs}
 use Prim.Native.Nat.{ℕ, _+_, _-_}
 use mathlib.Core.Path.{_≡_, ap, ap₂, _∙_}
@@ -8,6 +8,13 @@ use Rattle.sweep.proofs.Classing.{seen-nothing, seen-said}
 use Rattle.sweep.proofs.classes.seen_fact.Statement.{statement}
 use Rattle.sweep.proofs.classes.seen_fact.Tie as tie
 
+abbrev start : tie.After-row-at → tie.Start
+start c = c .before .before .before .before .before
+
+-- the class that is read is the fact's
+class : (c : tie.After-row-at) → c .row-at .result ≡ classAt (start c .args .facts .now) (start c .args .m) (start c .args .v) (start c .args .fact - 1)
+class c = c .row-at .ensures ∙ ap₂ (rowAt (start c .args .facts .now)) (c .before .before .class-row .ensures) (c .before .wide .ensures .0)
+
 returns : tie.Need-returns
 returns c =
     let a = c .before .before .args in
@@ -15,22 +22,8 @@ returns c =
 
 returns-2 : tie.Need-returns-2
 returns-2 c =
-    let a = c .before .before .before .before .before .before .args in
-    let if1 = c .before .before .before .before .if1 in
-    let class-row = c .before .before .before .class-row in
-    let wide = c .before .before .wide in
-    let e : c .before .row-at .result ≡ classAt (a .facts .now) (a .m) (a .v) (a .fact - 1) =
-    c .before .row-at .ensures ∙ ap₂ (rowAt (a .facts .now)) (class-row .ensures) (wide .ensures .0) in
-    λ h. ap (λ (x : ℕ). x + 1) e ∙ seen-said (classAt (a .facts .now) (a .m) (a .v)) (a .fact) (if1 .left)
-
-returns-3 : tie.Need-returns-3
-returns-3 c =
-    let a = c .before .before .before .before .before .before .args in
-    let class-row = c .before .before .before .class-row in
-    let wide = c .before .before .wide in
-    let e : c .before .row-at .result ≡ classAt (a .facts .now) (a .m) (a .v) (a .fact - 1) =
-    c .before .row-at .ensures ∙ ap₂ (rowAt (a .facts .now)) (class-row .ensures) (wide .ensures .0) in
-    λ h. omega (arith, e, c .if2 .left)
+    let a = start (c .before) .args in
+    λ h. ap (λ (x : ℕ). x + 1) (class (c .before)) ∙ seen-said (classAt (a .facts .now) (a .m) (a .v)) (a .fact) (c .before .before .before .before .if1 .left)
 
 pub seen-fact-spec : {M : Type 1} → statement M
 seen-fact-spec =
@@ -43,4 +36,4 @@ seen-fact-spec =
     (λ c κs. search needs)
     (λ c. search needs)
     returns-2
-    returns-3)
+    (λ c h. omega (arith, class (c .before), c .if2 .left)))

@@ -1,11 +1,12 @@
 -- `classes::states_of` meets its contract: the number so far is the product over the variables passed so far. Assumes nothing.
 use borrow.Author.Needs.{needs}
-use Prim.Native.Nat.{_≤_, _-_}
-use mathlib.Core.Path.{_≡_, refl, ap, _∙_}
+use Prim.Native.Nat.{_+_, _*_, _≤_, _-_}
+use mathlib.Core.Path.{_≡_, refl, ap, ap₂, _∙_}
+use native.Mathlib.Numerals.{add-one}
 use native.Mathlib.Omega.{arith}
 use Rattle.meaning.specs.Numbering.{size}
 use Rattle.tables.specs.Layout.{domAt}
-use Rattle.sweep.proofs.Classing.{product-more, product-small}
+use Rattle.sweep.proofs.Walking.{size-le}
 use Rattle.sweep.proofs.classes.states_of.Statement.{statement}
 use Rattle.sweep.proofs.classes.states_of.Tie as tie
 
@@ -15,26 +16,17 @@ Inv-loop facts vars n₀ v₀ n v = (v ≤ vars) × (n ≡ size (domAt facts) v)
 abbrev μ-loop : tie.MeasureT-loop
 μ-loop facts vars n₀ v₀ n v = vars - v
 
-loop-holds : tie.Need-loop-holds Inv-loop μ-loop
-loop-holds c = (omega arith, refl)
+-- the product of the next turn, which stays small
+product : (c : tie.After-wide Inv-loop μ-loop)
+    → c .before .before .before .loop .n * c .wide .result ≡ size (domAt (c .before .before .before .before .before .args .facts .now)) (c .before .before .before .loop .v + 1)
+product c = let l = c .before .before .before .loop in rw add-one (ap₂ _*_ (l .inv .1) (c .wide .ensures .0 ∙ c .before .row-at .ensures))
 
 mul-n : tie.Need-mul-n Inv-loop μ-loop
 mul-n c =
-    let pre = c .before .before .before .before .before .pre in
-    let a = c .before .before .before .before .before .args in
-    let l = c .before .before .before .loop in
-    let loop-test = c .before .before .loop-test in
-    omega (
-      arith,
-      product-small (domAt (a .facts .now)) (a .c .vars) (l .v) (l .n) (c .wide .result)
-          (pre .values) (pre .few) (loop-test .taken) (l .inv .1) (c .wide .ensures .0 ∙ c .before .row-at .ensures),
-    )
-
-loop-again : tie.Need-loop-again Inv-loop μ-loop
-loop-again c =
-    let a = c .before .before .before .before .before .args in
-    let l = c .before .before .before .loop in
-    (search needs, product-more (domAt (a .facts .now)) (l .v) (l .n) (c .wide .result) (l .inv .1) (c .wide .ensures .0 ∙ c .before .row-at .ensures))
+    let i = c .before .before in
+    let s = i .before .before .before in
+    let most = size-le (domAt (s .args .facts .now)) (i .before .loop .v + 1) (s .args .c .vars) (omega (arith, i .loop-test .taken)) (s .pre .values) in
+    omega (arith, product c, most, s .pre .few)
 
 returns : tie.Need-returns Inv-loop μ-loop
 returns c =
@@ -49,11 +41,11 @@ states-of-spec =
     (tie.spec
     Inv-loop
     μ-loop
-    loop-holds
+    (λ c. (omega arith, refl))
     (λ c κs. search needs)
     (λ c κs. search needs)
     mul-n
     (λ c. search needs)
     (λ c. search needs)
-    loop-again
+    (λ c. (search needs, product c))
     returns)

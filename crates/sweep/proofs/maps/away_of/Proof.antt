@@ -36,8 +36,8 @@ returns c =
     let a = c .before .before .before .before .before .before .before .before .before .before .args in
     let share-row = c .before .before .before .before .before .before .share-row in
     let view-rounds = c .before .before .before .view-rounds in
-    away-said (a .c) (a .facts .now) (a .shares .now) (a .map) (pre .0) (pre .1) (share-row .result) _ (view-rounds .last .1 .1 .1 .1 .0) (a .s .now)
-    (view-rounds .result) (c .state-index .result) (λ o l. share-row .ensures o (omega (arith, pre .0 .ops))) (view-rounds .ensures) (pre .3)
+    away-said (a .c) (a .facts .now) (a .shares .now) (a .map) (pre .0) (pre .1) (share-row .result) (a .s .now)
+    (λ o l. share-row .ensures o (omega (arith, pre .0 .ops))) (view-rounds .ensures) (pre .3)
     (c .state-index .ensures ∙ c .before .image-of .ensures)
 
 pub away-of-spec : {M : Type 1} → statement M

@@ -1,11 +1,11 @@
--- `sweep::beyond` meets its contract. Assumes nothing.
+-- `rounds::beyond` meets its contract: where a step leads on, the table is read; where it stops, there is none. Assumes nothing.
 use borrow.Author.Needs.{needs}
 use mathlib.Core.Path.{ap, sym, _∙_}
 use Prim.Native.Nat.{ℕ}
 use lib.ListN.{getD}
 use Rattle.graph.specs.Least.{afterStep}
-use Rattle.sweep.specs.Said.{said, read}
-use Rattle.sweep.specs.Walks.{nextOf}
+use Rattle.sweep.specs.Said.{said, saidAt}
+use Rattle.sweep.specs.Inside.Walks.{nextOf}
 use Rattle.sweep.proofs.rounds.beyond.Statement.{statement}
 use Rattle.sweep.proofs.rounds.beyond.Tie as tie
 
@@ -15,7 +15,7 @@ returns c =
     let s = c .before .before .before .s in
     let old = args .old .now in
     ap said (c .word-at .ensures ∙ ap (λ (i : ℕ). getD old i 0) (c .before .state-index .ensures))
-    ∙ sym (ap (λ s. afterStep (read old) (nextOf s)) (s .given .1))
+    ∙ sym (ap (λ s. afterStep (saidAt old) (nextOf s)) (s .given .1))
 
 returns-2 : tie.Need-returns-2
 unfolding said

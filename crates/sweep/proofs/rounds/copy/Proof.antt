@@ -1,10 +1,10 @@
--- `sweep::copy` meets its contract: the places passed so far are copied. Assumes nothing.
+-- `rounds::copy` meets its contract: the places passed so far are copied. Assumes nothing.
 use borrow.Author.Needs.{needs}
 use Prim.Native.Nat.{_≤_, _<_, _-_}
 use mathlib.Core.Path.{refl}
 use native.Mathlib.Omega.{arith}
 use lib.ListN.{length}
-use Rattle.sweep.specs.Sweeps.{Copied}
+use Rattle.sweep.specs.Inside.Sweeps.{Copied}
 use Rattle.sweep.proofs.Makes.{made-none, made-more, made-end}
 use Rattle.sweep.proofs.rounds.copy.Statement.{statement}
 use Rattle.sweep.proofs.rounds.copy.Tie as tie
@@ -15,20 +15,11 @@ Inv-loop n from to₀ a₀ to a = (a ≤ n) × Copied a from to₀ to
 abbrev μ-loop : tie.MeasureT-loop
 μ-loop n from to₀ a₀ to a = n - a
 
-loop-holds : tie.Need-loop-holds Inv-loop μ-loop
-loop-holds c = (omega arith, made-none _ _)
-
 loop-again : tie.Need-loop-again Inv-loop μ-loop
 loop-again c =
     let l = c .before .before .loop in
     let inside : l .a < length (l .to) = omega (arith, l .inv .1 .size) in
-    (search needs, made-more _ _ (l .a) _ (l .to) inside (l .inv .1) refl)
-
-returns : tie.Need-returns Inv-loop μ-loop
-returns c =
-    let args = c .before .before .args in
-    let l = c .before .loop in
-    made-end _ _ (args .n) (l .a) (l .to) (l .inv .1) (l .inv .0) (c .loop-test .left)
+    (search needs, made-more (l .inv .1) inside refl)
 
 pub copy-spec : {M : Type 1} → statement M
 copy-spec =
@@ -36,7 +27,7 @@ copy-spec =
     (tie.spec
     Inv-loop
     μ-loop
-    loop-holds
+    (λ c. (omega arith, made-none))
     (λ c. search needs)
     (λ c. search needs)
     (λ c. search needs)
@@ -47,4 +38,4 @@ copy-spec =
     (λ c. search needs)
     loop-again
     (λ c. search needs)
-    returns)
+    (λ c. made-end (c .before .loop .inv .1) (c .before .loop .inv .0) (c .loop-test .left)))

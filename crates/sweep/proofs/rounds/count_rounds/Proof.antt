@@ -1,10 +1,11 @@
--- `sweep::count_rounds` meets its contract: every round so far changed something, so the rounds are fewer than the states. Assumes nothing.
+-- `rounds::count_rounds` meets its contract: every round so far changed something, so the rounds are fewer than the states. Assumes nothing.
 use borrow.Author.Needs.{needs}
-use Prim.Native.Nat.{_-_}
+use Prim.Native.Nat.{_≤_, _-_}
 use native.Mathlib.Omega.{arith}
 use borrow.Author.Tests.{not-true, not-false}
-use Rattle.sweep.specs.Walks.{spaceOf}
-use Rattle.sweep.proofs.Rounding.{Turn, walkable-good, turn-within, turn-none, ends, goes-on}
+use lib.ListN.{length}
+use Rattle.sweep.specs.Inside.Walks.{spaceOf}
+use Rattle.sweep.proofs.Rounding.{Turn, Good, walkable-good, turn-within, turn-none, ends, goes-on}
 use Rattle.sweep.proofs.rounds.count_rounds.Statement.{statement}
 use Rattle.sweep.proofs.rounds.count_rounds.Tie as tie
 
@@ -14,6 +15,27 @@ Inv-loop c facts prices n t₀ w₀ rounds₀ t w rounds = Turn (spaceOf c facts
 abbrev μ-loop : tie.MeasureT-loop
 μ-loop c facts prices n t₀ w₀ rounds₀ t w rounds = n - rounds
 
+-- ---- what is known once the table is filled, and where a round begins
+
+abbrev start : tie.After-fill Inv-loop μ-loop → tie.Start Inv-loop μ-loop
+start c = c .before .before .before .before .before .before
+
+good : (c : tie.After-fill Inv-loop μ-loop) → Good (spaceOf (start c .args .c) (start c .args .facts .now) (start c .args .prices .now))
+good c =
+    let x = start c .args in
+    walkable-good (x .c) (x .facts .now) (x .prices .now) (start c .pre .0 .0) (start c .pre .0 .1)
+
+abbrev filled : tie.At-loop Inv-loop μ-loop → tie.After-fill Inv-loop μ-loop
+filled c = c .before .before .before
+
+old-room : (c : tie.At-loop Inv-loop μ-loop) → start (filled c) .args .n ≤ length (c .loop .t)
+old-room c = omega (arith, c .loop .inv .table .size, filled c .fill .ensures .size, start (filled c) .pre .1 .0)
+
+new-room : (c : tie.At-loop Inv-loop μ-loop) → start (filled c) .args .n ≤ length (c .loop .w)
+new-room c = omega (arith, c .loop .inv .work, start (filled c) .pre .1 .1)
+
+-- ---- the needs
+
 fill-requires : tie.Need-fill-requires Inv-loop μ-loop
 fill-requires c κs =
     let pre = c .before .before .before .before .before .pre in
@@ -21,74 +43,45 @@ fill-requires c κs =
 
 loop-holds : tie.Need-loop-holds Inv-loop μ-loop
 loop-holds c =
-    let pre = c .before .before .before .before .before .before .before .before .pre in
-    let x = c .before .before .before .before .before .before .before .before .args in
-    let fill = c .before .before .fill in
-    let p = pre .0 in
-    turn-none (spaceOf (x .c) (x .facts .now) (x .prices .now)) (walkable-good (x .c) (x .facts .now) (x .prices .now) (p .0) (p .1)) (x .n) (p .2)
-    (x .t .now) (fill .last .1 .1 .1 .0) (x .w .now) (fill .ensures)
+    let f = c .before .before in
+    turn-none (good f) (start f .pre .0 .2) (f .fill .ensures)
 
 sweep-requires : tie.Need-sweep-requires Inv-loop μ-loop
 sweep-requires c κs =
-    let pre = c .before .before .before .before .before .before .before .before .before .before .before .pre in
-    let x = c .before .before .before .before .before .before .before .before .before .before .before .args in
-    let fill = c .before .before .before .before .before .fill in
-    let l = c .before .before .loop in
-    let p = pre .0 in (
-      p,
-      (
-        omega (arith, l .inv .table .size, fill .ensures .size, pre .1 .0),
-        omega (arith, l .inv .work, pre .1 .1),
-        turn-within (spaceOf (x .c) (x .facts .now) (x .prices .now)) (walkable-good (x .c) (x .facts .now) (x .prices .now) (p .0) (p .1)) (x .n) (p .2)
-            _ (x .w .now) (l .t) (l .w) (l .rounds) (l .inv),
-      ),
-    )
+    let l = c .before .before in
+    let p = start (filled l) .pre .0 in
+    (p, (old-room l, new-room l, turn-within (good (filled l)) (p .2) (l .loop .inv)))
 
 add-rounds : tie.Need-add-rounds Inv-loop μ-loop
 add-rounds c =
-    let pre = c .before .before .before .before .before .before .before .before .before .before .before .before .before .before .pre in
-    let loop = c .before .before .before .before .before .loop in
-    omega (arith, loop .inv .less, pre .0 .0 .few)
+    let l = c .before .before .before .before .before in
+    omega (arith, l .loop .inv .less, start (filled l) .pre .0 .0 .few)
 
 returns : tie.Need-returns Inv-loop μ-loop
 returns c =
-    let pre = c .before .before .before .before .before .before .before .before .before .before .before .before .before .before .before .pre in
-    let x = c .before .before .before .before .before .before .before .before .before .before .before .before .before .before .before .args in
-    let fill = c .before .before .before .before .before .before .before .before .before .fill in
-    let l = c .before .before .before .before .before .before .loop in
-    let sweep = c .before .before .before .sweep in
-    let p = pre .0 in
-    ends (spaceOf (x .c) (x .facts .now) (x .prices .now)) (walkable-good (x .c) (x .facts .now) (x .prices .now) (p .0) (p .1)) (x .n) (p .2)
-    (fill .last .1 .1 .1 .0) (x .w .now) (l .t) (l .w) (sweep .last .1 .1 .1 .1 .1 .0) (l .rounds) (sweep .result) (l .inv) (sweep .ensures)
-    (x .t .now) (fill .ensures) (not-true (sweep .result) (c .if1 .taken))
+    let l = c .before .before .before .before .before .before in
+    let f = filled l in
+    let s = c .before .before .before .sweep in
+    ends (good f) (start f .pre .0 .2) (l .loop .inv) (s .ensures) (f .fill .ensures) (not-true (s .result) (c .if1 .taken))
 
 copy-requires : tie.Need-copy-requires Inv-loop μ-loop
 copy-requires c κs =
-    let pre = c .before .before .before .before .before .before .before .before .before .before .before .before .before .before .before .before .before .pre in
-    let fill = c .before .before .before .before .before .before .before .before .before .before .before .fill in
-    let l = c .before .before .before .before .before .before .before .before .loop in
-    let sweep = c .before .before .before .before .before .sweep in
-    (omega (arith, sweep .ensures .table .size, l .inv .work, pre .1 .1), omega (arith, l .inv .table .size, fill .ensures .size, pre .1 .0))
+    let s = c .before .before .before .before .before in
+    let l = s .before .before .before in
+    (omega (arith, s .sweep .ensures .table .size, new-room l), old-room l)
 
 loop-less : tie.Need-loop-less Inv-loop μ-loop
 loop-less c =
-    let pre = c .before .before .before .before .before .before .before .before .before .before .before .before .before .before .before .before .before .before .before .before .pre in
-    let loop = c .before .before .before .before .before .before .before .before .before .before .before .loop in
-    omega (arith, loop .inv .less, pre .0 .2)
+    let l = c .before .before .before .before .before .before .before .before .before .before .before in
+    omega (arith, l .loop .inv .less, start (filled l) .pre .0 .2)
 
 loop-again : tie.Need-loop-again Inv-loop μ-loop
 loop-again c =
-    let pre = c .before .before .before .before .before .before .before .before .before .before .before .before .before .before .before .before .before .before .before .before .pre in
-    let x = c .before .before .before .before .before .before .before .before .before .before .before .before .before .before .before .before .before .before .before .before .args in
-    let fill = c .before .before .before .before .before .before .before .before .before .before .before .before .before .before .fill in
-    let l = c .before .before .before .before .before .before .before .before .before .before .before .loop in
-    let sweep = c .before .before .before .before .before .before .before .before .sweep in
-    let if1 = c .before .before .before .before .before .if1 in
-    let copy = c .before .before .copy in
-    let p = pre .0 in
-    goes-on (spaceOf (x .c) (x .facts .now) (x .prices .now)) (walkable-good (x .c) (x .facts .now) (x .prices .now) (p .0) (p .1)) (x .n) (p .2)
-    (fill .last .1 .1 .1 .0) (x .w .now) (l .t) (l .w) (sweep .last .1 .1 .1 .1 .1 .0) (l .rounds) (sweep .result) (l .inv) (sweep .ensures)
-    (copy .last .1 .1 .0) (copy .ensures) (not-false (sweep .result) (if1 .left))
+    let e = c .before .before .before .before .before in
+    let s = e .before .before .before in
+    let l = s .before .before .before in
+    goes-on (good (filled l)) (start (filled l) .pre .0 .2) (l .loop .inv) (s .sweep .ensures) (c .before .before .copy .ensures)
+    (not-false (s .sweep .result) (e .if1 .left))
 
 pub count-rounds-spec : {M : Type 1} → statement M
 count-rounds-spec =

@@ -1,4 +1,4 @@
--- `sweep::relax` meets its contract: what stands for none is never added. Assumes nothing.
+-- `rounds::relax` meets its contract: what stands for none is never added. Assumes nothing.
 use native.Mathlib.Omega.{arith}
 use Rattle.sweep.proofs.Saids.{relax-none, relax-take, relax-keep}
 use Rattle.sweep.proofs.rounds.relax.Statement.{statement}

@@ -1,4 +1,4 @@
--- `sweep::start` meets its contract: 0 says that the cost is 0, and the largest word that there is none. Assumes nothing.
+-- `rounds::start` meets its contract: 0 says that the cost is 0, and the largest word that there is none. Assumes nothing.
 use Rattle.sweep.proofs.Saids.{start-goal, start-other}
 use Rattle.sweep.proofs.rounds.start.Statement.{statement}
 use Rattle.sweep.proofs.rounds.start.Tie as tie

@@ -6,16 +6,21 @@ use Prim.Native.Nat.{ℕ, _≤_, _<_}
 use lib.ListN.{length, getD}
 use Rattle.graph.specs.Graph.{Graph}
 use Rattle.graph.specs.Least.{atGoal, best, least, Rounds}
+use Rattle.meaning.specs.Limits.{mostCost}
 use Rattle.tables.specs.declared.Counts.{Counts}
-use Rattle.sweep.specs.Said.{NONE, said, read}
+use Rattle.sweep.specs.Said.{NONE, said, saidAt}
 
--- prices of at most 1,000,000
-abbrev pub Priced : Counts → List ℕ → Type 0
-Priced c prices = (o : ℕ) → o < c .ops → getD prices o 0 ≤ 1000000
+-- every price is one that an operator may have
+abbrev pub PricesSmall : Counts → List ℕ → Type 0
+PricesSmall c prices = (o : ℕ) → o < c .ops → getD prices o 0 ≤ mostCost
+
+-- with one price more, a number up to here still fits below NONE
+abbrev pub mostAddable : ℕ
+mostAddable = 4290000000
 
 -- the numbers of the first n places are none, or small enough for one price more
-abbrev pub Within : ℕ → List ℕ → Type 0
-Within n t = (a : ℕ) → a < n → getD t a 0 < NONE → getD t a 0 ≤ 4290000000
+abbrev pub Addable : ℕ → List ℕ → Type 0
+Addable n t = (a : ℕ) → a < n → getD t a 0 < NONE → getD t a 0 ≤ mostAddable
 
 -- each of the first k places of t is as P says, and the others are those of t₀
 pub record Made (P : ℕ → ℕ → Type 0) (k : ℕ) (t₀ t : List ℕ) : Type 0 where
@@ -33,7 +38,7 @@ Copied k s t₀ t = Made (λ a x. x ≡ getD s a 0) k t₀ t
 
 -- the first k places are made of old by one step more; changed says whether one of them differs from old
 pub record Swept (k : ℕ) (G : Graph) (old new₀ new : List ℕ) (changed : Bool) : Type 0 where
-  pub table : Made (λ a x. said x ≡ best G (read old) a (G .ops)) k new₀ new
+  pub table : Made (λ a x. said x ≡ best G (saidAt old) a (G .ops)) k new₀ new
   pub same : changed ≡ false → (a : ℕ) → a < k → getD new a 0 ≡ getD old a 0
   pub differs : changed ≡ true → ((a : ℕ) → a < k → getD new a 0 ≡ getD old a 0) → ⊥
 

@@ -1,10 +1,10 @@
--- `sums::joined` meets its contract. Assumes nothing.
+-- `sums::with_distance` meets its contract: none adds nothing, the first number stands alone, any other is added. Assumes nothing.
 use borrow.Author.Needs.{needs}
 use native.Mathlib.Omega.{arith}
-use Rattle.views.specs.Sums.{sumSaid}
+use Rattle.views.specs.Inside.Sums.{sumSaid}
 use Rattle.views.proofs.Summing.{join-nothing, join-first, join-number}
-use Rattle.views.proofs.sums.joined.Statement.{statement}
-use Rattle.views.proofs.sums.joined.Tie as tie
+use Rattle.views.proofs.sums.with_distance.Statement.{statement}
+use Rattle.views.proofs.sums.with_distance.Tie as tie
 
 returns : tie.Need-returns
 returns c = (join-nothing (sumSaid (c .before .args .sum)) (c .before .args .distance) (c .if1 .taken), omega arith)
@@ -20,8 +20,8 @@ returns-3 c =
     let a = c .before .before .args in
     (join-first (a .sum .any) (a .sum .total) (a .distance) (c .if2 .left) (c .before .if1 .left), omega arith)
 
-pub joined-spec : {M : Type 1} → statement M
-joined-spec = tie.close (tie.spec
+pub with-distance-spec : {M : Type 1} → statement M
+with-distance-spec = tie.close (tie.spec
     returns
     (λ c. search needs)
     returns-2

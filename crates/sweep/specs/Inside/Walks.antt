@@ -4,6 +4,7 @@ use mathlib.Core.Path.{_≡_}
 use mathlib.Core.List.{List, []}
 use Prim.Native.Nat.{ℕ, _≤_, _<_}
 use Rattle.graph.specs.Graph.{Next, stop, to, Graph}
+use Rattle.meaning.specs.Limits.{mostVars, mostOps, mostStates}
 use Rattle.meaning.specs.Numbering.{size, number, digit}
 use Rattle.meaning.specs.Views.{toIf, space}
 use Rattle.tables.specs.declared.Counts.{Counts}
@@ -19,15 +20,15 @@ spaceOf c facts prices = space (sasOf (tables c facts prices []))
 
 -- every variable has a value, every effect names one, and the states are few
 pub record Walkable (c : Counts) (facts : List ℕ) : Type 0 where
-  pub vars : c .vars ≤ 8
-  pub ops : c .ops ≤ 64
+  pub vars : c .vars ≤ mostVars
+  pub ops : c .ops ≤ mostOps
   pub values : (v : ℕ) → v < c .vars → 1 ≤ domAt facts v
   pub effects : (o v : ℕ) → o < c .ops → v < c .vars → effAt facts o v ≤ domAt facts v
-  pub few : size (domAt facts) (c .vars) ≤ 4096
+  pub few : size (domAt facts) (c .vars) ≤ mostStates
 
 -- the list has the digits of the state a
-abbrev pub Spells : ℕ → List ℕ → ℕ → List ℕ → Type 0
-Spells vars facts a s = (v : ℕ) → v < vars → stateOf s v ≡ digit (domAt facts) a v
+abbrev pub HasDigits : ℕ → List ℕ → ℕ → List ℕ → Type 0
+HasDigits vars facts a s = (v : ℕ) → v < vars → stateOf s v ≡ digit (domAt facts) a v
 
 -- what a step says
 abbrev pub nextOf : Step → Next
