@@ -1,6 +1,7 @@
 //! The cases of the bench by name.
 
 use crate::builder::Vector;
+use crate::limits::STEPS;
 use crate::script::{FIRST, LOG, SECOND};
 use crate::task::{Facts, Op, Task};
 
@@ -196,7 +197,7 @@ fn a_wrong_runs() -> Vec<Vector> {
         wrong("a step that isn't there", "s 8 0 4; s 9 0 1"),
         wrong("a step that may not run", "s 8 0 2; s 9 0 1; s 10 1 2; s 11 1 1"),
         wrong("a step not counted", "s 8 0 1"),
-        wrong("a place of the log used far behind", "s 8 255 1"),
+        wrong("a place of the log used far behind", &format!("s 8 {} 1", STEPS - 1)),
         wrong("a column of a map that isn't there", "s 11 3 1"),
         wrong("a step booked as unshared", "s 9 0 1; s 10 0 1; s 11 8 1"),
         wrong("a step booked in another map", "s 9 0 1; s 10 0 1; s 11 1 1"),

@@ -3,7 +3,7 @@
 use crate::builder::{text_of_task, Vector};
 use crate::limits::*;
 use crate::run::Run;
-use crate::script::{FACTS, FIRST, SECOND};
+use crate::script::{FACTS, FIRST, LIST, SECOND};
 use crate::task::{Op, Task};
 
 /// Operators that count through all states of some variables, one step each; the lowest changes fastest.
@@ -122,23 +122,24 @@ fn lists_at_the_edge() -> Vec<Vector> {
     let with = |title: &str, list: &[u32]| Vector::new(title).task(&switch()).lend(FIRST, list);
     let idle = |length: usize| vec![2; length];
     let late = |length: usize| [idle(length - 1), vec![0]].concat();
+    let (less, over) = (STEPS - 1, STEPS + 1);
     vec![
-        with("256 steps end without goal", &on_off(256)).lines("J; C; P"),
-        with("255 steps pass", &on_off(255)).lines("J; C; P"),
-        with("256 steps that reach the goal at the last", &late(256)).lines("J; C; P"),
-        with("257 steps are too many", &late(257)).lines("J; C; P"),
-        with("257 steps with a fault at the first are too many", &[vec![1], on_off(256)].concat()).lines("J; C; P"),
-        with("257 steps from a goal: out even so", &on_off(257)).lend(SECOND, &[]).lines("s 4 0 1; C; P"),
-        with("both above 256 steps from a goal", &on_off(257)).lend(SECOND, &on_off(400)).lines("s 4 0 1; C; P"),
-        with("257 steps and a second list of 256", &late(257)).lend(SECOND, &late(256)).lines("C; P"),
+        with(&format!("{STEPS} steps end without goal"), &on_off(STEPS)).lines("J; C; P"),
+        with(&format!("{less} steps pass"), &on_off(less)).lines("J; C; P"),
+        with(&format!("{STEPS} steps that reach the goal at the last"), &late(STEPS)).lines("J; C; P"),
+        with(&format!("{over} steps are too many"), &late(over)).lines("J; C; P"),
+        with(&format!("{over} steps with a fault at the first are too many"), &[vec![1], on_off(STEPS)].concat()).lines("J; C; P"),
+        with(&format!("{over} steps from a goal: out even so"), &on_off(over)).lend(SECOND, &[]).lines("s 4 0 1; C; P"),
+        with(&format!("both above {STEPS} steps from a goal"), &on_off(over)).lend(SECOND, &on_off(LIST)).lines("s 4 0 1; C; P"),
+        with(&format!("{over} steps and a second list of {STEPS}"), &late(over)).lend(SECOND, &late(STEPS)).lines("C; P"),
         with("a fault after the goal moment doesn't count", &[0, 0, 77]).lend(SECOND, &[2, 0]).lines("J; C; P"),
         with("a fault before the goal moment does", &[4, 0]).lend(SECOND, &[2, 0]).lines("J; C; P"),
         with("equal costs name the first", &[0, 1]).lend(SECOND, &[0]).lines("C; P"),
         with("the second is cheaper", &[2, 0]).lend(SECOND, &[0, 1, 1]).lines("C; P"),
         with("at a goal at the start both are empty", &[4294967295]).lend(SECOND, &[]).lines("s 4 0 1; J; C; P"),
         with("two empty lists", &[]).lend(SECOND, &[]).lines("J; C; P"),
-        with("a state outside comes before the lists", &on_off(300)).lines("s 4 0 2; J; C; P"),
-        with("a state without places", &on_off(300)).lines("l 4 0; J; C; P; A 0; A 3; B; G"),
+        with("a state outside comes before the lists", &on_off(STEPS + 44)).lines("s 4 0 2; J; C; P"),
+        with("a state without places", &on_off(STEPS + 44)).lines("l 4 0; J; C; P; A 0; A 3; B; G"),
         with("an operator of the highest number", &[0, 4294967295]).lines("J; C; P"),
     ]
 }
@@ -150,23 +151,32 @@ pub fn run_of(task: &Task, list: &[u32]) -> Run {
 
 fn full_runs() -> Vec<Vector> {
     let task = switch();
-    let full = run_of(&task, &on_off(256));
-    let idle = run_of(&task, &vec![2; 256]);
-    let almost = run_of(&task, &on_off(255));
-    let honest = (1..=256).fold(Vector::new("256 honest offers, and what follows them").task(&task).lines("G"), |vector, i| {
-        vector.lines(&format!("O {} {}", i, (i + 1) % 2))
-    });
-    let held = |title: &str, run: &Run| Vector::new(title).task(&task).run(run);
+    let (less, over, beyond) = (STEPS - 1, STEPS + 1, STEPS + 2);
+    let full = run_of(&task, &on_off(STEPS));
+    let idle = run_of(&task, &vec![2; STEPS]);
+    let almost = run_of(&task, &on_off(less));
+    let offers = format!("{STEPS} honest offers, and what follows them");
+    let honest =
+        (1..=STEPS).fold(Vector::new(&offers).task(&task).lines("G"), |vector, i| vector.lines(&format!("O {} {}", i, (i + 1) % 2)));
+    let held = |title: &str, run: &Run, lines: String| Vector::new(title).task(&task).run(run).lines(&lines);
     vec![
-        honest.lines("O 257 0; O 258 0; O 256 1; O 256 0; O 257 4; O 1 0; O 0 0"),
-        held("the 257th step is 15, before 12", &full).lines("O 257 0; O 257 1; O 257 3; O 258 0; O 257 4"),
-        held("the last step of a full run repeated", &full).lines("O 256 1; O 256 0; O 1 0; O 1 1"),
-        held("the 256th step", &almost).lines("O 256 0; O 256 1; O 256 1; O 257 0"),
-        held("256 steps at the highest cost", &idle).lines("O 256 2; O 257 2; O 257 0"),
-        held("a full run with a length beyond the log", &full).lines("s 9 0 257; O 257 0; s 9 0 4294967295; O 1 0"),
-        held("a full run with one step less", &full).lines("s 9 0 255; O 256 1"),
-        held("a full run with a wrong last step", &full).lines("s 8 255 2; O 257 0; s 8 255 4; O 257 0; s 8 255 1; O 257 0"),
-        held("a full run with a wrong column", &full).lines("s 11 0 0; O 257 0"),
+        honest.lines(&format!("O {over} 0; O {beyond} 0; O {STEPS} 1; O {STEPS} 0; O {over} 4; O 1 0; O 0 0")),
+        held(
+            &format!("the {over}th step is 15, before 12"),
+            &full,
+            format!("O {over} 0; O {over} 1; O {over} 3; O {beyond} 0; O {over} 4"),
+        ),
+        held("the last step of a full run repeated", &full, format!("O {STEPS} 1; O {STEPS} 0; O 1 0; O 1 1")),
+        held(&format!("the {STEPS}th step"), &almost, format!("O {STEPS} 0; O {STEPS} 1; O {STEPS} 1; O {over} 0")),
+        held(&format!("{STEPS} steps at the highest cost"), &idle, format!("O {STEPS} 2; O {over} 2; O {over} 0")),
+        held("a full run with a length beyond the log", &full, format!("s 9 0 {over}; O {over} 0; s 9 0 4294967295; O 1 0")),
+        held("a full run with one step less", &full, format!("s 9 0 {less}; O {STEPS} 1")),
+        held(
+            "a full run with a wrong last step",
+            &full,
+            format!("s 8 {less} 2; O {over} 0; s 8 {less} 4; O {over} 0; s 8 {less} 1; O {over} 0"),
+        ),
+        held("a full run with a wrong column", &full, format!("s 11 0 0; O {over} 0")),
     ]
 }
 

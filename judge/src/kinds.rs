@@ -232,7 +232,7 @@ fn lists(rng: &mut Rng) -> Vector {
 /// Lists about as long as a sequence may be, a goal anywhere or nowhere.
 fn long_lists(rng: &mut Rng) -> Vector {
     let task = lively_task(rng, SMALL);
-    let mut vector = Vector::new("lists of about 256 steps").task(&task).state(&task.init);
+    let mut vector = Vector::new(&format!("lists of about {STEPS} steps")).task(&task).state(&task.init);
     for _ in 0..3 {
         let (a, b) = (rng.between(STEPS - 1, STEPS + 2), rng.between(STEPS - 1, STEPS + 2));
         let init = task.init.clone();
@@ -300,7 +300,7 @@ fn some_field(rng: &mut Rng, task: &Task, run: &Run) -> (u32, usize, u32, u32) {
     match rng.below(5) {
         0 => (START, v, u32::from(run.start[v]), near),
         1 => (LOG, step, run.log[step], rng.pick(&[rng_op(task, any), task.ops.len() as u32, any, near])),
-        2 => (LEN, 0, run.len, rng.pick(&[run.len + 1, run.len.saturating_sub(1), 0, 256, 257, any])),
+        2 => (LEN, 0, run.len, rng.pick(&[run.len + 1, run.len.saturating_sub(1), 0, STEPS as u32, STEPS as u32 + 1, any])),
         3 => (NOW, v, u32::from(run.now[v]), near),
         _ => (COLUMN, c, run.columns[c], rng.pick(&[run.columns[c] + 1, 0, near, any])),
     }
@@ -328,7 +328,7 @@ fn full_run(rng: &mut Rng) -> Vector {
     let steps = rng.between(STEPS - 2, STEPS);
     let (list, _) = walk(rng, &task, &task.init.clone(), steps);
     let run = run_of(&task, &list);
-    let mut vector = Vector::new("a run of up to 256 steps").task(&task).run(&run);
+    let mut vector = Vector::new(&format!("a run of up to {STEPS} steps")).task(&task).run(&run);
     for number in [run.len + 1, run.len + 1, run.len + 2, run.len + 3, run.len, 1] {
         let op = rng.below(task.ops.len() + 1);
         vector = vector.lines(&format!("O {} {}", number, op));

@@ -11,6 +11,8 @@ pub const LINE: usize = 200;
 pub const NUMBERS: usize = 16;
 /// The room of the text buffer.
 pub const BUFFER: usize = 16_500;
+/// The room of a list of steps: more than a sequence may have.
+pub const LIST: usize = 400;
 /// So many changed places of an array are printed one by one; a call's further ones make one line.
 pub const SHOWN: usize = 64;
 
@@ -34,8 +36,8 @@ pub const ARRAYS: [(&str, usize, usize, u32); 12] = [
     ("shares", 600, SHARES_ROOM, u32::MAX),
     ("out", 4_200, OUT_ROOM, u32::MAX),
     ("state", 16, VARS, 255),
-    ("first", 400, 0, u32::MAX),
-    ("second", 400, 0, u32::MAX),
+    ("first", LIST, 0, u32::MAX),
+    ("second", LIST, 0, u32::MAX),
     ("start", VARS, VARS, 255),
     ("log", STEPS, STEPS, u32::MAX),
     ("len", 1, 1, u32::MAX),

@@ -80,6 +80,8 @@ fn refusals_say_number_place_and_meaning() {
     assert_eq!(a.bound(&State::of(&[0, 9, 0])).err().expect("refused").place(), Place::Variable(1));
     assert_eq!(a.judge(&start, &ops(&[0])).err().expect("refused").place(), Place::Length(1));
     assert_eq!(a.bound(&State::of(&[])).err().expect("refused").to_string(), "refused 8 at place 0: a lent table is shorter than needed");
+    let long = a.judge(&start, &ops(&[0; STEPS + 1])).err().expect("refused");
+    assert_eq!(long.to_string(), format!("refused 11 at place 0: the sequence has more than {STEPS} steps"));
 }
 
 #[test]
@@ -179,9 +181,10 @@ fn a_run_of_any_contents_tells_nothing_beyond_its_steps_and_maps() {
     words[STEPS] = 3;
     let run = Run::of_parts([0; RUN_BYTES], words);
     assert_eq!((run.log(), run.next()), (ops(&[1000, 1001, 1002]), Step(4)));
-    assert_eq!([0, 7].map(|map| run.paid(Map(map))), [1257, 1264].map(Seconds));
+    let place = |place: usize| Seconds(1000 + place as u64);
+    assert_eq!([0, 7].map(|map| run.paid(Map(map))), [STEPS + 1, STEPS + 8].map(place));
     assert_eq!([8, 9, u32::MAX].map(|map| run.paid(Map(map))), [0; 3].map(Seconds));
-    assert_eq!(run.unshared(), Seconds(1265));
+    assert_eq!(run.unshared(), place(STEPS + 9));
     for more in [STEPS as u32, STEPS as u32 + 1, u32::MAX] {
         words[STEPS] = more;
         assert_eq!(Run::of_parts([0; RUN_BYTES], words).log().len(), STEPS);
@@ -189,16 +192,18 @@ fn a_run_of_any_contents_tells_nothing_beyond_its_steps_and_maps() {
 }
 
 #[test]
-fn a_run_is_full_after_256_steps() {
+fn a_run_is_full_after_its_last_step() {
     let round = task("edition=1\nvars=1\ndom=2\ninit=0\ngoal=-\nops=2\nop=3;0:0;0:1\nop=5;0:1;0:0\nmaps=1\nmap=0,1\nshare=1,2\n");
     let mut run = round.begin(&round.initial()).expect("a start");
-    for step in 1..=STEPS as u32 {
+    let (last, rounds) = (STEPS as u32, STEPS as u64 / 2);
+    for step in 1..=last {
         assert_eq!(run.offer(&round, Step(step), Operator((step - 1) % 2)), Ok(Answer::Accepted));
     }
-    assert_eq!((run.paid(Map(0)), run.unshared()), (Seconds(128 * 3), Seconds(128 * 5)));
-    assert_eq!(refusal(run.offer(&round, Step(257), Operator(0))), (15, 257));
-    assert_eq!(run.offer(&round, Step(256), Operator(1)), Ok(Answer::Repeated));
-    assert_eq!(round.judge(&round.initial(), &run.log()), Ok(Seconds(128 * 8)));
+    assert_eq!((run.paid(Map(0)), run.unshared()), (Seconds(rounds * 3), Seconds(rounds * 5)));
+    let full = run.offer(&round, Step(last + 1), Operator(0)).err().expect("refused");
+    assert_eq!(full.to_string(), format!("refused 15 at step {}: the run already has {STEPS} steps", last + 1));
+    assert_eq!(run.offer(&round, Step(last), Operator(1)), Ok(Answer::Repeated));
+    assert_eq!(round.judge(&round.initial(), &run.log()), Ok(Seconds(rounds * 8)));
     let mut next = round.begin(&run.now(&round)).expect("a start");
     assert_eq!(next.offer(&round, Step(1), Operator(0)), Ok(Answer::Accepted));
 }
