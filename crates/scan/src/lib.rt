@@ -68,7 +68,11 @@ fn facts_fit(facts: &[u8], o: OpNo, v: u32) -> bool
 {
     let pre = pre_row(o);
     let eff = eff_row(o);
-    if fact_fits(facts, pre, v) { fact_fits(facts, eff, v) } else { false }
+    if fact_fits(facts, pre, v) {
+        fact_fits(facts, eff, v)
+    } else {
+        false
+    }
 }
 
 // The variable has the value x.

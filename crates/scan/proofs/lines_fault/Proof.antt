@@ -1,5 +1,4 @@
--- `lines_fault` meets its contract: each walk's rules passed so far are clean, and a break hands on the first fault of them all. What holds
--- after each part is said once, at its place. Assumes nothing.
+-- `lines_fault` meets its contract: each walk's rules passed so far are clean, and a break hands on the first fault of them all. Assumes nothing.
 use Prim.Native.Nat.{ℕ, _≤_, _-_}
 use mathlib.Core.Path.{_≡_, ap, sym, _∙_}
 use mathlib.Core.Bool.{Bool, true}
@@ -9,7 +8,7 @@ use borrow.Author.Needs.{needs}
 use borrow.Author.Tests.{not-true, not-false}
 use Rattle.refusals.specs.declared.Refusal.{Refusal}
 use Rattle.refusals.specs.declared.Refusal.the-variants.{OutOfRange}
-use Rattle.meaning.specs.Limits.{mostOps, mostCost, mostMaps}
+use Rattle.meaning.specs.Limits.{mostOps, mostMaps}
 use Rattle.meaning.specs.Split.{Task}
 use Rattle.tables.specs.declared.Counts.{Counts}
 use Rattle.tables.specs.Lines.{lineOfOp}
@@ -133,7 +132,8 @@ returns-2 c =
     let i = c .before .before .before in
     let l = i .before .before .before .before .before in
     let w = c .before .facts-fit in
-    let out = tests-here (fit l) (said (l .loop .o)) (task l .sas .vars) (i .loop2 .v) (i .loop2 .inv .1) (c .before .before .loop2-test .taken) (sym (w .ensures) ∙ not-true (w .result) (c .if2 .taken)) in
+    let no = sym (w .ensures) ∙ not-true (w .result) (c .if2 .taken) in
+    let out = tests-here (fit l) (said (l .loop .o)) (task l .sas .vars) (i .loop2 .v) (i .loop2 .inv .1) (c .before .before .loop2-test .taken) no in
     stops (i .before .before .before) (facts (i .before) (Fault (said (l .loop .o) 0)) out)
 
 returns-3 : tie.Need-returns-3 Facts μ-facts Ops μ-ops Maps μ-maps Scan μ-scan
