@@ -24,8 +24,8 @@ use scan::Found;
 use scan::input_fault;
 use scan::tables_fault;
 use tables::Counts;
-use tables::mostSteps::may_run;
-use tables::mostSteps::state_after;
+use tables::steps::may_run;
+use tables::steps::state_after;
 
 // How many columns a run has: what each of 8 maps was paid, and the unshared one.
 pub const COLUMNS: usize = 9;
