@@ -29,7 +29,7 @@ use Rattle.sequences.specs.declared.judging.Judged.{Judged}
 use Rattle.sequences.specs.declared.judging.Judged.the-variants.{Passed, Refused}
 use Rattle.sequences.specs.Stepping.{stepOf}
 use Rattle.meaning.specs.Limits.{mostSteps}
-use Rattle.sequences.specs.Judging.{onto, walked, limited, unlessFault, judgedOf}
+use Rattle.sequences.specs.Judging.{onto, walked, limited, judgedUnless, judgedOf}
 use Rattle.sequences.proofs.Laws.{step-taken}
 use Rattle.tables.specs.Lines.{lineOfVars, lineOfDom, lineOfInit, lineOfGoal, lineOfOps, lineOfOp, lineOfMaps, lineOfMap}
 
@@ -209,10 +209,10 @@ module _ (c : Counts) (f f′ k k′ shares : List ℕ) (A : Agree c f f′ k k�
 
 -- ---- judging
 
-pub unless-same : (a a′ : Found) (j j′ : Judged) → a ≡ a′ → (a ≡ Clean → j ≡ j′) → unlessFault a j ≡ unlessFault a′ j′
-unless-same a a′ j j′ p q = at a q ∙ ap (λ (x : Found). unlessFault x j′) p
+pub unless-same : (a a′ : Found) (j j′ : Judged) → a ≡ a′ → (a ≡ Clean → j ≡ j′) → judgedUnless a j ≡ judgedUnless a′ j′
+unless-same a a′ j j′ p q = at a q ∙ ap (λ (x : Found). judgedUnless x j′) p
   where
-    at : (x : Found) → (x ≡ Clean → j ≡ j′) → unlessFault x j ≡ unlessFault x j′
+    at : (x : Found) → (x ≡ Clean → j ≡ j′) → judgedUnless x j ≡ judgedUnless x j′
     at Clean h = h refl
     at (Fault r) h = refl
 

@@ -24,7 +24,7 @@ use Rattle.sequences.specs.declared.judging.Judged.{Judged}
 use Rattle.sequences.specs.declared.judging.Judged.the-variants.{Passed, Refused}
 use Rattle.sequences.specs.Stepping.{stepOf}
 use Rattle.meaning.specs.Limits.{mostSteps}
-use Rattle.sequences.specs.Judging.{onto, walked, limited, unlessFault, judgedOf}
+use Rattle.sequences.specs.Judging.{onto, walked, limited, judgedUnless, judgedOf}
 use Rattle.sequences.proofs.Laws.{step-taken}
 
 -- ---- a test, a step and a fault that let pass
@@ -38,7 +38,7 @@ onto-passed (Ran x) k f c e = (x, refl, e)
 onto-passed NoSuch k f c e = absurd (let z : _≡_ {A = ℕ} 0 1 = cc in omega arith)
 onto-passed MayNot k f c e = absurd (let z : _≡_ {A = ℕ} 0 1 = cc in omega arith)
 
-fault-passed : (f : Found) (j : Judged) (c : ℕ) → unlessFault f j ≡ Passed c → (f ≡ Clean) × (j ≡ Passed c)
+fault-passed : (f : Found) (j : Judged) (c : ℕ) → judgedUnless f j ≡ Passed c → (f ≡ Clean) × (j ≡ Passed c)
 fault-passed Clean j c e = (refl, e)
 fault-passed (Fault r) j c e = absurd (let z : _≡_ {A = ℕ} 0 1 = cc in omega arith)
 

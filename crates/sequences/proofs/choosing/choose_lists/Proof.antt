@@ -4,7 +4,7 @@ use borrow.Author.Needs.{needs}
 use Rattle.meaning.specs.Sas.{Sas}
 use Rattle.tables.specs.Task.{stateOf}
 use Rattle.sequences.specs.Choosing.{choiceOf}
-use Rattle.sequences.specs.Stepping.{sas}
+use Rattle.sequences.specs.Inside.Steps.{sas}
 use Rattle.sequences.proofs.Laws.{reachedOf-same, same-copied}
 use Rattle.sequences.proofs.choosing.choose_lists.Statement.{statement}
 use Rattle.sequences.proofs.choosing.choose_lists.Tie as tie

@@ -2,7 +2,7 @@
 use mathlib.Core.Path.{_∙_}
 use native.Mathlib.Omega.{arith}
 use Rattle.tables.specs.Task.{stateOf}
-use Rattle.sequences.specs.Stepping.{sas}
+use Rattle.sequences.specs.Inside.Steps.{sas}
 use Rattle.meaning.specs.Limits.{mostSteps}
 use Rattle.sequences.proofs.Laws.{reached-within, reached-above}
 use Rattle.sequences.proofs.choosing.reach_within.Statement.{statement}

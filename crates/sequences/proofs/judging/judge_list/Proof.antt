@@ -4,7 +4,7 @@ use native.Mathlib.Omega.{arith}
 use borrow.Author.Needs.{needs}
 use Rattle.meaning.specs.Sas.{Sas}
 use Rattle.tables.specs.Task.{stateOf}
-use Rattle.sequences.specs.Stepping.{sas}
+use Rattle.sequences.specs.Inside.Steps.{sas}
 use Rattle.meaning.specs.Limits.{mostSteps}
 use Rattle.sequences.proofs.Laws.{limited-within, limited-above, same-copied}
 use Rattle.sequences.proofs.judging.judge_list.Statement.{statement}

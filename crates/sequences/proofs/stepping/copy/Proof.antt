@@ -7,7 +7,7 @@ use borrow.Author.Needs.{needs}
 use Rattle.tables.proofs.Laws.{filled-next, filled-end}
 use Rattle.tables.specs.Steps.{overwritten}
 use Rattle.tables.specs.Task.{stateOf}
-use Rattle.sequences.specs.Stepping.{copied}
+use Rattle.sequences.specs.Inside.Steps.{copied}
 use Rattle.sequences.proofs.stepping.copy.Statement.{statement}
 use Rattle.sequences.proofs.stepping.copy.Tie as tie
 
