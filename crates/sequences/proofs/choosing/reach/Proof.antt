@@ -37,66 +37,46 @@ next x = getD (first x .args .ops .now) (x .loop .i) 0
 abbrev T : Loop → Tables
 T x = let a = first x .args in tables (a .c) (a .facts .now) (a .costs .now) []
 
--- past the test of the goal: it doesn't hold
-abbrev tested : tie.Else1 Inv-loop μ-loop → Loop
-tested z = z .before .before .before .before
+-- past the test of the goal in a turn: it doesn't hold
+abbrev inside : tie.Else1 Inv-loop μ-loop → tie.In-loop Inv-loop μ-loop
+inside z = z .before .before .before
 
-no-goal : (z : tie.Else1 Inv-loop μ-loop) → let x = tested z in complies (sasOf (T x)) (sasOf (T x) .goal) (stateOf (x .loop .s)) ≡ false
-no-goal z = goal-said (T (tested z)) (tested z .loop .s) (z .before .meets-goal .ensures) (z .if1 .left)
+no-goal : (z : tie.Else1 Inv-loop μ-loop) → let x = inside z .before in complies (sasOf (T x)) (sasOf (T x) .goal) (stateOf (x .loop .s)) ≡ false
+no-goal z = let x = inside z .before in goal-said (T x) (x .loop .s) (z .before .meets-goal .ensures) (z .if1 .left)
 
--- the place past the test of a step that was asked, and the step that was taken, with its turn
-abbrev here : tie.After-step Inv-loop μ-loop → tie.Else1 Inv-loop μ-loop
-here y = y .before .before .before
-
-abbrev asked : tie.After-state-after Inv-loop μ-loop → tie.After-step Inv-loop μ-loop
-asked c = c .before .before .before .before
+-- the turn of a step that was taken, and where in it the goal was tested
+abbrev tested : tie.After-state-after Inv-loop μ-loop → tie.Else1 Inv-loop μ-loop
+tested c = c .before .before .before .before .before .before .before
 
 took : (c : tie.After-state-after Inv-loop μ-loop)
-    → let x = tested (here (asked c)) in Turn (sasOf (T x)) (x .loop .s) (c .state-after .result) (next x) (c .before .before .m .given .0 .0)
+    → let x = inside (tested c) .before in Turn (sasOf (T x)) (x .loop .s) (c .state-after .result) (next x) (c .before .before .m .given .0 .0)
 took c =
-    let y = asked c in
-    let x = tested (here y) in
-    turn (T x) (first x .pre .0) (x .loop .inv .size) (y .step .ensures) (c .before .before .m .given .1) (c .state-after .ensures)
+    let x = inside (tested c) .before in
+    turn (T x) (first x .pre .0) (x .loop .inv .size) (c .before .before .before .before .step .ensures) (c .before .before .m .given .1) (c .state-after .ensures)
 
 -- ---- the needs
 
-returns : tie.Need-returns Inv-loop μ-loop
-returns c =
-    let x = c .before .before .before .before in
-    reached-first (sasOf (T x)) (x .loop .inv) (goal-said (T x) (x .loop .s) (c .before .meets-goal .ensures) (c .if1 .taken))
-
 returns-2 : tie.Need-returns-2 Inv-loop μ-loop
 returns-2 c =
-    let y = c .before in
-    let z = here y in
-    let x = tested z in
-    reached-refused (sasOf (T x)) (x .loop .inv) (no-goal z) (z .before .before .before .loop-test .taken) (y .step .result) (y .step .ensures) (c .match .keys2)
+    let z = c .before .before .before .before in
+    let x = inside z .before in
+    reached-refused (sasOf (T x)) (x .loop .inv) (no-goal z) (inside z .loop-test .taken) (c .before .step .result) (c .before .step .ensures) (c .match .keys2)
 
 state-after-requires : tie.Need-state-after-requires Inv-loop μ-loop
 state-after-requires c κs =
     let y = c .before .before .before in
-    let x = tested (here y) in
+    let x = inside (y .before .before .before) .before in
     (search needs, taken-exists (T x) (first x .pre .0) (stateOf (x .loop .s)) (next x) (y .step .ensures) (c .before .m .given .1))
 
 add-paid : tie.Need-add-paid Inv-loop μ-loop
 add-paid c =
-    let z = here (asked c) in
-    omega (arith, payable (tested z .loop .inv) (took c) (z .before .before .before .loop-test .taken) (first (tested z) .pre .1))
+    let z = inside (tested c) in
+    omega (arith, payable (z .before .loop .inv) (took c) (z .loop-test .taken) (first (z .before) .pre .1))
 
 loop-again : tie.Need-loop-again Inv-loop μ-loop
 loop-again c =
-    let z = here (asked c) in
-    reached-on (sasOf (T (tested z))) (tested z .loop .inv) (no-goal z) (z .before .before .before .loop-test .taken) (took c)
-
-returns-3 : tie.Need-returns-3 Inv-loop μ-loop
-returns-3 c =
-    let x = c .before .before .before .before in
-    reached-first (sasOf (T x)) (x .loop .inv) (goal-said (T x) (x .loop .s) (c .before .meets-goal2 .ensures) (c .if2 .taken))
-
-returns-4 : tie.Need-returns-4 Inv-loop μ-loop
-returns-4 c =
-    let x = c .before .before .before .before in
-    reached-end (sasOf (T x)) (x .loop .inv) (goal-said (T x) (x .loop .s) (c .before .meets-goal2 .ensures) (c .if2 .left)) (omega arith)
+    let z = inside (tested c) in
+    reached-on (sasOf (T (z .before))) (z .before .loop .inv) (no-goal (tested c)) (z .loop-test .taken) (took c)
 
 pub reach-spec : {M : Type 1} → statement M
 reach-spec =
@@ -107,10 +87,10 @@ reach-spec =
     (λ c. record { inside = omega arith; size = search needs; paid = omega arith; rest = refl })
     (λ c. sym (c .before .before .loop .inv .size))
     (λ c κs. search needs)
-    returns
+    (λ c. let x = c .before .before .before .before in reached-first (sasOf (T x)) (x .loop .inv) (goal-said (T x) (x .loop .s) (c .before .meets-goal .ensures) (c .if1 .taken)))
     (λ c. search needs)
     (λ c. search needs)
-    (λ c. sym (tested (c .before .before) .loop .inv .size))
+    (λ c. sym (inside (c .before .before) .before .loop .inv .size))
     (λ c κs. search needs)
     (λ c. search needs)
     returns-2
@@ -121,5 +101,5 @@ reach-spec =
     loop-again
     (λ c. sym (c .before .before .loop .inv .size))
     (λ c κs. search needs)
-    returns-3
-    returns-4)
+    (λ c. let x = c .before .before .before .before in reached-first (sasOf (T x)) (x .loop .inv) (goal-said (T x) (x .loop .s) (c .before .meets-goal2 .ensures) (c .if2 .taken)))
+    (λ c. let x = c .before .before .before .before in reached-end (sasOf (T x)) (x .loop .inv) (goal-said (T x) (x .loop .s) (c .before .meets-goal2 .ensures) (c .if2 .left)) (omega arith)))
