@@ -3,16 +3,13 @@ use Prim.Native.Nat.{ℕ}
 use mathlib.Core.Path.{_≡_, ap, sym, _∙_, subst}
 use mathlib.Core.List.{List}
 use denote.Ref.{RefT, now}
-use Rattle.refusals.specs.declared.Refusal.{Refusal}
 use Rattle.scan.specs.declared.Found.{Found}
-use Rattle.scan.specs.declared.Found.the-variants.{Clean, Fault}
+use Rattle.scan.specs.declared.Found.the-variants.{Clean}
 use Rattle.tables.specs.Layout.{Tables}
 use Rattle.tables.specs.Task.{sasOf, stateOf}
 use Rattle.scan.specs.Scan.{inputFault}
 use Rattle.scan.proofs.Validity.{clean-valid}
-use Rattle.sequences.specs.declared.judging.Judged.the-variants.{Refused}
 use Rattle.sequences.specs.declared.choosing.Choice.{Choice}
-use Rattle.sequences.specs.declared.choosing.Choice.the-variants.{Unread}
 use Rattle.sequences.specs.Inside.Steps.{Usable}
 use Rattle.sequences.specs.Judging.{limited, judgedUnless, judgedOf}
 use Rattle.sequences.specs.Choosing.{chosenFrom, chosenUnless, chosenOf, listOf, stepsOf}

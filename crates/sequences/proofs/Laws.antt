@@ -59,6 +59,16 @@ apart-same (Ran c) x y f g h = h c
 apart-same NoSuch x y f g h = refl
 apart-same MayNot x y f g h = refl
 
+-- what no refusal answers comes of a step that was taken; what a failed test doesn't answer, of a test that held
+pub apart-taken : {A : Type 0} (m : Stepped) {x y z : A} (f : ℕ → A) → (x ≡ z → ⊥) → (y ≡ z → ⊥) → takenApart m x y f ≡ z → (c : ℕ) × (m ≡ Ran c) × (f c ≡ z)
+apart-taken (Ran c) f p q e = (c, refl, e)
+apart-taken NoSuch f p q e = absurd (p e)
+apart-taken MayNot f p q e = absurd (q e)
+
+pub cond-held : {A : Type 0} (b : Bool) (u : A) {v z : A} → (v ≡ z → ⊥) → cond b u v ≡ z → (b ≡ true) × (u ≡ z)
+cond-held true u p e = (refl, e)
+cond-held false u p e = absurd (p e)
+
 -- a step that was taken
 pub record Taken (S : Sas) (s : State) (o x : ℕ) : Type 0 where
   pub exists : o < S .ops

@@ -14,24 +14,13 @@ first c = c .before .before .before .before .before .before
 abbrev T : tie.After-input-fault → Tables
 T c = let a = first c .args in tables (a .c) (a .facts .now) (a .costs .now) (a .shares .now)
 
-judge-list-requires : tie.Need-judge-list-requires
-judge-list-requires c κs = let x = c .before .before in usable (T x) (first x .args .s .now) (x .input-fault .ensures) (c .enum-told .given .1)
-
-returns : tie.Need-returns
-returns c =
-    let x = c .before .before .before in
-    c .judge-list .ensures ∙ judged-by (T x) (first x .args .s .now) (first x .args .ops .now) (x .input-fault .ensures) (c .before .enum-told .given .1)
-
-returns-2 : tie.Need-returns-2
-returns-2 c = let x = c .before .before .before in judged-by (T x) (first x .args .s .now) (first x .args .ops .now) (x .input-fault .ensures) (c .before .f .given .1)
-
 pub judge-spec : {M : Type 1} → statement M
 judge-spec =
     tie.close
     (tie.spec
     (λ c κs. search needs)
     (λ c. search needs)
-    judge-list-requires
+    (λ c κs. let x = c .before .before in usable (T x) (first x .args .s .now) (x .input-fault .ensures) (c .enum-told .given .1))
     (λ c. search needs)
-    returns
-    returns-2)
+    (λ c. let x = c .before .before .before in c .judge-list .ensures ∙ judged-by (T x) (first x .args .s .now) (first x .args .ops .now) (x .input-fault .ensures) (c .before .enum-told .given .1))
+    (λ c. let x = c .before .before .before in judged-by (T x) (first x .args .s .now) (first x .args .ops .now) (x .input-fault .ensures) (c .before .f .given .1)))

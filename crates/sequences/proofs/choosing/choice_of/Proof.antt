@@ -14,28 +14,13 @@ first c = c .before .before .before .before .before .before .before
 abbrev T : tie.After-input-fault → Tables
 T c = let a = first c .args in tables (a .c) (a .facts .now) (a .costs .now) (a .shares .now)
 
-choose-lists-requires : tie.Need-choose-lists-requires
-choose-lists-requires c κs = let x = c .before .before in usable (T x) (first x .args .s .now) (x .input-fault .ensures) (c .enum-told .given .1)
-
-returns : tie.Need-returns
-returns c =
-    let x = c .before .before .before in
-    let a = first x .args in
-    c .choose-lists .ensures ∙ chosen-by (T x) (a .s .now) (a .a .now) (a .b .now) (x .input-fault .ensures) (c .before .enum-told .given .1)
-
-returns-2 : tie.Need-returns-2
-returns-2 c =
-    let x = c .before .before .before in
-    let a = first x .args in
-    chosen-by (T x) (a .s .now) (a .a .now) (a .b .now) (x .input-fault .ensures) (c .before .f .given .1)
-
 pub choice-of-spec : {M : Type 1} → statement M
 choice-of-spec =
     tie.close
     (tie.spec
     (λ c κs. search needs)
     (λ c. search needs)
-    choose-lists-requires
+    (λ c κs. let x = c .before .before in usable (T x) (first x .args .s .now) (x .input-fault .ensures) (c .enum-told .given .1))
     (λ c. search needs)
-    returns
-    returns-2)
+    (λ c. let x = c .before .before .before in let a = first x .args in c .choose-lists .ensures ∙ chosen-by (T x) (a .s .now) (a .a .now) (a .b .now) (x .input-fault .ensures) (c .before .enum-told .given .1))
+    (λ c. let x = c .before .before .before in let a = first x .args in chosen-by (T x) (a .s .now) (a .a .now) (a .b .now) (x .input-fault .ensures) (c .before .f .given .1)))

@@ -68,16 +68,6 @@ state-after-requires c κs =
     let x = inside (y .before .before .before) .before in
     (search needs, taken-exists (T x) (first x .pre .0) (stateOf (x .loop .s)) (next x) (y .step .ensures) (c .before .m .given .1))
 
-add-paid : tie.Need-add-paid Inv-loop μ-loop
-add-paid c =
-    let z = inside (tested c) in
-    omega (arith, payable (z .before .loop .inv) (took c) (z .loop-test .taken) (first (z .before) .pre .1))
-
-loop-again : tie.Need-loop-again Inv-loop μ-loop
-loop-again c =
-    let z = inside (tested c) in
-    reached-on (sasOf (T (z .before))) (z .before .loop .inv) (no-goal (tested c)) (z .loop-test .taken) (took c)
-
 pub reach-spec : {M : Type 1} → statement M
 reach-spec =
     tie.close
@@ -95,10 +85,10 @@ reach-spec =
     (λ c. search needs)
     returns-2
     state-after-requires
-    add-paid
+    (λ c. let z = inside (tested c) in omega (arith, payable (z .before .loop .inv) (took c) (z .loop-test .taken) (first (z .before) .pre .1)))
     (λ c. search needs)
     (λ c. search needs)
-    loop-again
+    (λ c. let z = inside (tested c) in reached-on (sasOf (T (z .before))) (z .before .loop .inv) (no-goal (tested c)) (z .loop-test .taken) (took c))
     (λ c. sym (c .before .before .loop .inv .size))
     (λ c κs. search needs)
     (λ c. let x = c .before .before .before .before in reached-first (sasOf (T x)) (x .loop .inv) (goal-said (T x) (x .loop .s) (c .before .meets-goal2 .ensures) (c .if2 .taken)))
