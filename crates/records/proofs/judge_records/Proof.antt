@@ -138,8 +138,7 @@ module _ {M : Type 1} (𝓤 : URA M) (H : Heap 𝓤) (A : Atoms 𝓤) (W : Given
   exits r x e =
       qed W (‵ (J.the-row .own r (x ∷ [])) ∷ (‵ (flft κ q) ⊛ ‵ ftrue) ∷ ‵ G ∷ ‵ Z ∷ ‵ Y ∷ (‵ (flft κ′ q′) ⊛ ‵ ftrue) ∷ ‵ S ∷ ‵ F ∷ ‵ Oc ∷ []) ∵
       suffices ! _ (ends-at 𝓤 H A rows.ended stayed (rows.clauses 𝓤 H A mem run) W (((κ, (κ′, tt)), (q, (q′, tt)), tt, (c, (f, (h, (s, (z, (y, tt)))))), at), tt) x r
-      (tt, (tt, (tt, (tt, (tt, (tt, tt)))))) (tt, (tt, (tt, (tt, (tt, (tt, tt))))))) $ says ! e $
-      move ! (1 ∷ []) $ split ! $ move ! (0 ∷ 6 ∷ []) $ join ! $ frame ! $
+      (tt, (tt, (tt, (tt, (tt, (tt, tt)))))) (tt, (tt, (tt, (tt, (tt, (tt, tt))))))) $ says ! e $ move ! (1 ∷ []) $ split ! $ move ! (0 ∷ 6 ∷ []) $ join ! $ frame ! $
       -- [true; the result; G; Z; Y; S; F; the counts']
       move ! (4 ∷ 0 ∷ []) $ fjoin ! $ move ! (3 ∷ 0 ∷ []) $ fjoin ! $ move ! (3 ∷ 0 ∷ []) $ fjoin ! $ move ! (2 ∷ 0 ∷ []) $ fjoin ! $ move ! (2 ∷ 0 ∷ []) $ fjoin ! $ move ! (2 ∷ 0 ∷ []) $
       fjoin ! $ frame ! $ done !
@@ -187,17 +186,15 @@ module _ {M : Type 1} (𝓤 : URA M) (H : Heap 𝓤) (A : Atoms 𝓤) (W : Given
   abbrev Said : Laid → Judged → Type 0
   Said g r = r ≡ laidJudged c room n g (h .now) (z .now) (y .now)
 
-  module _ (C : Calls 𝓤 H) (Λ : Loops 𝓤 H) (fm : FmC 𝓤 H (W .laws) C) (isc : Is N.the-row c (vc ∷ [])) (gf : Room u8 (length (f .now))) (gh : Room u32 (length (h .now))) (gn : Room T.the-row
-      (length (s .now)))
-      (gz : Room u8 (length (z .now))) (gy : Room u32 (length (y .now)))
+  module _ (C : Calls 𝓤 H) (Λ : Loops 𝓤 H) (fm : FmC 𝓤 H (W .laws) C) (isc : Is N.the-row c (vc ∷ []))
+      (gf : Room u8 (length (f .now))) (gh : Room u32 (length (h .now))) (gn : Room T.the-row (length (s .now))) (gz : Room u8 (length (z .now))) (gy : Room u32 (length (y .now)))
       (known-copied : Triple 𝓤 (C #records·copied) (Copied 𝓤 H A mem run)) (known-gather : Triple 𝓤 (C #records·gather) (Gather 𝓤 H A mem run))
       (known-judge : Triple 𝓤 (C #records·judge-laid) (Judge 𝓤 H A mem run)) where
     walk : ent 𝓤 (onEntry 𝓤 H A rows.signature (κ, (κ′, tt)) (q, (q′, tt)) (c, (f, (h, (s, (z, (y, tt)))))) at) (WpFn 𝓤 H C Λ code.function (vc ∷ val f ∷ val h ∷ val s ∷ val z ∷ val y ∷ []) Post)
     walk = via 𝓤 _ apart (
         qed W (‵ (flft κ q) ∷ ‵ (flft κ′ q′) ∷ ‵ Oc ∷ ‵ F ∷ ‵ G ∷ ‵ S ∷ ‵ Z ∷ ‵ Y ∷ []) ∵ enter ! C Λ code.function (vc ∷ val f ∷ val h ∷ val s ∷ val z ∷ val y ∷ []) _ $
         alloc1 ! (λ l₀. alloc1 ! (λ l₁. alloc1 ! (λ l₂. alloc1 ! (λ l₃. alloc1 ! (λ l₄. alloc1 ! (λ l₅. alloc1 ! (λ l₆. alloc1 ! (λ l₇. alloc1 ! (λ l₈. alloc1 ! (λ l₉. alloc1 ! (λ l₁₀. alloc0 ! $
-        params1 ! $
-        pass1 ! (init ! 18 refl (LL.lawful N.the-type N′.the-laws 𝓤 H A W .typed c _ isc .0)) $ pass1 ! (init ! 16 refl (tt, (tt, (record { fits = gf .0 }, tt)))) $
+        params1 ! $ pass1 ! (init ! 18 refl (LL.lawful N.the-type N′.the-laws 𝓤 H A W .typed c _ isc .0)) $ pass1 ! (init ! 16 refl (tt, (tt, (record { fits = gf .0 }, tt)))) $
         pass1 ! (init ! 14 refl (tt, (tt, (record { fits = gh .0 }, tt)))) $
         pass1 ! (init ! 12 refl (tt, (tt, (record { fits = gn .0 }, tt)))) $ pass1 ! (init ! 10 refl (tt, (tt, (record { fits = gz .0 }, tt)))) $
         pass1 ! (init ! 8 refl (tt, (tt, (record { fits = gy .0 }, tt)))) $ pass0 ! $
@@ -209,10 +206,8 @@ module _ {M : Type 1} (𝓤 : URA M) (H : Heap 𝓤) (A : Atoms 𝓤) (W : Given
         -- [what copied asks; F; room for _10; …; _0; …; a token; the counts'; G; S; Z; Y]
         calls-at ! fm (Copied 𝓤 H A mem run) known-copied to-copied (and-then ! (load ! (from ! (stop !)) (look ! 18 refl)) (no-more !)) (λ v.
         use1 W (later (some (λ (t : Laid). ((‵ (flft κ q) ⊛ ‵ ftrue) ⊛ ‵ (Own t v)) ⊛ raw (ensured 𝓤 H A copied.ended (copied.clauses 𝓤 H A mem run) (κ, tt) (f, tt) tt t)))) (id⊢ 𝓤 _) $
-        await ! tt $ pick ! (λ t.
-        split ! $ move ! (1 ∷ []) $ use1 W (raw (fact 𝓤 (t ≡ copyOf (f .now)))) (exE 𝓤 _ (λ ws. snd∗ 𝓤 (sem 𝓤 H A (lasts copied.ended (κ, tt) (f, tt) ws)) _)) $
-        heard ! (t ≡ copyOf (f .now)) (λ e₁. split ! $ move ! (1 ∷ []) $
-        peeks ! U.the-row (Is U.the-row) (shows 𝓤 H A U.the-row) t (v ∷ []) (λ is₁.
+        await ! tt $ pick ! (λ t. split ! $ move ! (1 ∷ []) $ use1 W (raw (fact 𝓤 (t ≡ copyOf (f .now)))) (exE 𝓤 _ (λ ws. snd∗ 𝓤 (sem 𝓤 H A (lasts copied.ended (κ, tt) (f, tt) ws)) _)) $
+        heard ! (t ≡ copyOf (f .now)) (λ e₁. split ! $ move ! (1 ∷ []) $ peeks ! U.the-row (Is U.the-row) (shows 𝓤 H A U.the-row) t (v ∷ []) (λ is₁.
         land ! (from ! (stop !)) (init ! 3 refl (LL.lawful U.the-type U′.the-laws 𝓤 H A W .typed t _ is₁ .0)) $
         -- [what the copy owns; a token; F; _10; …; _0; …; the other token; the counts'; G; S; Z; Y]
         move ! (28 ∷ []) $ use1 W (‵ S ⊛ ‵ S) (shr-slice-copy 𝓤 H A W (named 1) κ′ T.the-row .twice s (val s ∷ [])) $ split ! $ move ! (0 ∷ 2 ∷ []) $ fjoin ! $ move ! (26 ∷ 0 ∷ []) $
@@ -221,17 +216,14 @@ module _ {M : Type 1} (𝓤 : URA M) (H : Heap 𝓤) (A : Atoms 𝓤) (W : Given
         calls-at ! fm (Gather 𝓤 H A mem run) known-gather (to-gather t v) (and-then ! (load ! (from ! (stop !)) (look ! 16 refl))
         (and-then ! (load ! (from ! (stop !)) (look ! 4 refl)) (no-more !))) (λ w.
         use1 W (later (some (λ (g : Laid). ((‵ (flft κ′ q′) ⊛ ‵ ftrue) ⊛ ‵ (Own g w)) ⊛ raw (ensured 𝓤 H A gather.ended (gather.clauses 𝓤 H A mem run) (κ′, tt) (s, (t, tt)) tt g)))) (id⊢ 𝓤 _) $
-        await ! tt $ pick ! (λ g.
-        split ! $ move ! (1 ∷ []) $ use1 W (raw (fact 𝓤 (Gathered t g))) (exE 𝓤 _ (λ ws. snd∗ 𝓤 (sem 𝓤 H A (lasts gather.ended (κ′, tt) (s, (t, tt)) ws)) _)) $
-        heard ! (Gathered t g) (λ e₂. split ! $ move ! (1 ∷ []) $
-        peeks ! U.the-row (Is U.the-row) (shows 𝓤 H A U.the-row) g (w ∷ []) (λ is₂.
+        await ! tt $ pick ! (λ g. split ! $ move ! (1 ∷ []) $ use1 W (raw (fact 𝓤 (Gathered t g))) (exE 𝓤 _ (λ ws. snd∗ 𝓤 (sem 𝓤 H A (lasts gather.ended (κ′, tt) (s, (t, tt)) ws)) _)) $
+        heard ! (Gathered t g) (λ e₂. split ! $ move ! (1 ∷ []) $ peeks ! U.the-row (Is U.the-row) (shows 𝓤 H A U.the-row) g (w ∷ []) (λ is₂.
         land ! (from ! (stop !)) (init ! 7 refl (LL.lawful U.the-type U′.the-laws 𝓤 H A W .typed g _ is₂ .0)) $
         -- [what the tables own; a token; S; the other token; F; _10; …; _0; …; the counts'; G; Z; Y]
         move ! (30 ∷ []) $ use1 W (‵ Y ⊛ ‵ Y) (shr-slice-copy 𝓤 H A W (named 0) κ u32 .twice y (val y ∷ [])) $ split ! $
         move ! (31 ∷ []) $ use1 W (‵ Z ⊛ ‵ Z) (shr-slice-copy 𝓤 H A W (named 0) κ u8 .twice z (val z ∷ [])) $ split ! $ move ! (0 ∷ 2 ∷ []) $ fjoin ! $
         move ! (31 ∷ []) $ use1 W (‵ G ⊛ ‵ G) (shr-slice-copy 𝓤 H A W (named 0) κ u32 .twice h (val h ∷ [])) $ split ! $ move ! (0 ∷ 2 ∷ []) $ fjoin ! $
-        move ! (4 ∷ 0 ∷ []) $ fjoin ! $ move ! (6 ∷ 0 ∷ []) $
-        use2 W (raw (Judge 𝓤 H A mem run .pre (to-judge g w))) (asks-judge g w isc (gf .0) (gn .0)) $
+        move ! (4 ∷ 0 ∷ []) $ fjoin ! $ move ! (6 ∷ 0 ∷ []) $ use2 W (raw (Judge 𝓤 H A mem run .pre (to-judge g w))) (asks-judge g w isc (gf .0) (gn .0)) $
         -- [what judge_laid asks; G; Z; Y; a token; S; F; _10; …; _0; …; the counts']
         calls-at ! fm (Judge 𝓤 H A mem run) known-judge (to-judge g w)
         (and-then ! (load ! (from ! (stop !)) (look ! 25 refl)) (and-then ! (load ! (from ! (stop !)) (look ! 13 refl))
@@ -240,8 +232,7 @@ module _ {M : Type 1} (𝓤 : URA M) (H : Heap 𝓤) (A : Atoms 𝓤) (W : Given
         use1 W (later (some (λ (r : Judged). ((‵ (flft κ q) ⊛ ‵ ftrue) ⊛ ‵ (J.the-row .own r (x ∷ []))) ⊛ raw
         (ensured 𝓤 H A judge.ended (judge.clauses 𝓤 H A mem run) (κ, tt) (c, (room, (n, (g, (h, (z, (y, tt))))))) tt r)))) (id⊢ 𝓤 _) $ await ! tt $ pick ! (λ r.
         split ! $ move ! (1 ∷ []) $ use1 W (raw (fact 𝓤 (Said g r))) (exE 𝓤 _ (λ ws. snd∗ 𝓤 (sem 𝓤 H A (lasts judge.ended (κ, tt) (c, (room, (n, (g, (h, (z, (y, tt))))))) ws)) _)) $
-        heard ! (Said g r) (λ e₃. split ! $ move ! (1 ∷ []) $
-        peeks ! J.the-row (Is J.the-row) (shows 𝓤 H A J.the-row) r (x ∷ []) (λ is₃.
+        heard ! (Said g r) (λ e₃. split ! $ move ! (1 ∷ []) $ peeks ! J.the-row (Is J.the-row) (shows 𝓤 H A J.the-row) r (x ∷ []) (λ is₃.
         land ! (from ! (stop !)) (init ! 28 refl (EL.lawful J.the-type J′.the-laws 𝓤 H A W tt .typed r _ is₃ .0)) $
         -- [the result; a token; G; Z; Y; the other token; S; F; _10; …; _0; …; the counts']
         returns ! (look ! 28 refl) $ forget ! 8 refl $ forget ! 10 refl $ forget ! 12 refl $ forget ! 14 refl $ forget ! 16 refl $ forget ! 18 refl $ forget ! 20 refl $ forget ! 22 refl $
@@ -257,8 +248,7 @@ module _ {M : Type 1} (𝓤 : URA M) (H : Heap 𝓤) (A : Atoms 𝓤) (W : Given
   rows-walks : Walks 𝓤 H A rows.ended stayed (WpFn 𝓤 H (𝓣 .C) (𝓣 .Λ) code.function) (rows.clauses 𝓤 H A mem run)
   rows-walks = walked 𝓤 H A rows.ended stayed (rows.clauses 𝓤 H A mem run) (WpFn 𝓤 H (𝓣 .C) (𝓣 .Λ) code.function)
       (λ κs. (LL.vals N.the-type N′.the-laws, (slice-vals, (slice-vals, (slice-vals, (slice-vals, (slice-vals, tt)))))))
-      (λ κs.
-      let bytes = shr-slice-tells (named 0) (κs .0) u8 in
+      (λ κs. let bytes = shr-slice-tells (named 0) (κs .0) u8 in
       let words = shr-slice-tells (named 0) (κs .0) u32 in
       (LL.tells N.the-type N′.the-laws, (bytes, (words, (shr-slice-tells (named 1) (κs .1 .0) T.the-row, (bytes, (words, tt)))))))
       (λ κs qs bounds a g are. via 𝓤 _ (fst∗ 𝓤 _ (emp 𝓤))

@@ -135,8 +135,7 @@ module _ {M : Type 1} (𝓤 : URA M) (H : Heap 𝓤) (A : Atoms 𝓤) (W : Given
   exits r x p =
       qed W (‵ ftrue ∷ ‵ (flft κ q) ∷ ‵ (J.the-row .own r (x ∷ [])) ∷ ‵ F ∷ ‵ G ∷ ‵ Z ∷ ‵ Y ∷ ‵ Oc ∷ ‵ (Or a) ∷ ‵ (Or b) ∷ ‵ (Or d) ∷ ‵ (Or e) ∷ []) ∵
       suffices ! _ (ends-at 𝓤 H A four.ended stayed (four.clauses 𝓤 H A mem run) W (((κ, tt), (q, tt), tt, (c, (f, (h, (a, (b, (d, (e, (z, (y, tt))))))))), at), tt) x r
-      (tt, (tt, (tt, (tt, (tt, (tt, (tt, (tt, (tt, tt))))))))) (tt, (tt, (tt, (tt, (tt, (tt, (tt, (tt, (tt, tt)))))))))) $ says ! p $
-      move ! (1 ∷ 0 ∷ []) $ join ! $ frame ! $ nothing ! $
+      (tt, (tt, (tt, (tt, (tt, (tt, (tt, (tt, (tt, tt))))))))) (tt, (tt, (tt, (tt, (tt, (tt, (tt, (tt, (tt, tt)))))))))) $ says ! p $ move ! (1 ∷ 0 ∷ []) $ join ! $ frame ! $ nothing ! $
       -- [true; the result; F; G; Z; Y; the counts'; the records']
       move ! (5 ∷ 0 ∷ []) $ fjoin ! $ move ! (4 ∷ 0 ∷ []) $ fjoin ! $ move ! (8 ∷ 0 ∷ []) $ fjoin ! $ move ! (7 ∷ 0 ∷ []) $ fjoin ! $ move ! (6 ∷ 0 ∷ []) $ fjoin ! $ move ! (5 ∷ 0 ∷ []) $ fjoin ! $
       move ! (3 ∷ 0 ∷ []) $ fjoin ! $ move ! (2 ∷ 0 ∷ []) $ fjoin ! $ move ! (2 ∷ 0 ∷ []) $ fjoin ! $ frame ! $ done !
@@ -184,8 +183,7 @@ module _ {M : Type 1} (𝓤 : URA M) (H : Heap 𝓤) (A : Atoms 𝓤) (W : Given
         (WpFn 𝓤 H C Λ code.function (vc ∷ val f ∷ val h ∷ vr a ∷ vr b ∷ vr d ∷ vr e ∷ val z ∷ val y ∷ []) Post)
     walk = via 𝓤 _ apart (
         qed W (‵ (flft κ q) ∷ ‵ Oc ∷ ‵ F ∷ ‵ G ∷ ‵ (Or a) ∷ ‵ (Or b) ∷ ‵ (Or d) ∷ ‵ (Or e) ∷ ‵ Z ∷ ‵ Y ∷ []) ∵ enter ! C Λ code.function
-        (vc ∷ val f ∷ val h ∷ vr a ∷ vr b ∷ vr d ∷ vr e ∷ val z ∷ val y ∷ []) _ $
-        alloc1 ! (λ l₀. alloc1 ! (λ l₁. alloc1 ! (λ l₂. alloc1 ! (λ l₃. alloc1 ! (λ l₄. alloc1 !
+        (vc ∷ val f ∷ val h ∷ vr a ∷ vr b ∷ vr d ∷ vr e ∷ val z ∷ val y ∷ []) _ $ alloc1 ! (λ l₀. alloc1 ! (λ l₁. alloc1 ! (λ l₂. alloc1 ! (λ l₃. alloc1 ! (λ l₄. alloc1 !
         (λ l₅. alloc1 ! (λ l₆. alloc1 ! (λ l₇. alloc1 ! (λ l₈. alloc1 ! (λ l₉. alloc1 ! (λ lᵣ. alloc1 ! (λ l₁₁. alloc1 ! (λ l₁₂. alloc0 ! $ params1 ! $
         pass1 ! (init ! 22 refl (LL.lawful N.the-type N′.the-laws 𝓤 H A W .typed c _ isc .0)) $ pass1 ! (init ! 20 refl (tt, (tt, (record { fits = gf .0 }, tt)))) $
         pass1 ! (init ! 18 refl (tt, (tt, (record { fits = gh .0 }, tt)))) $
@@ -200,8 +198,7 @@ module _ {M : Type 1} (𝓤 : URA M) (H : Heap 𝓤) (A : Atoms 𝓤) (W : Given
         -- the array is lent for a lifetime that is made here
         owned ! Rs (Is Rs) (array-makes 𝓤 H A W T.the-row (LL.makes T.the-type T′.the-plain 𝓤 H A) 4) ys (arr ∷ []) isArr $ move ! (5 ∷ 0 ∷ []) $
         use2 W (‵ (partAt Rs fullShare ys lᵣ 0)) (part-in 𝓤 H A W Rs refl fullShare ys lᵣ 0 arr) $
-        use1 W (‵ (arr-parts (shares T.the-row) 4 .part fullShare ys lᵣ 0)) (array-apart 𝓤 H A W T.the-row fullShare tt 4 ys lᵣ 0) $
-        lft-new ! tt (λ α. move ! (1 ∷ []) $
+        use1 W (‵ (arr-parts (shares T.the-row) 4 .part fullShare ys lᵣ 0)) (array-apart 𝓤 H A W T.the-row fullShare tt 4 ys lᵣ 0) $ lft-new ! tt (λ α. move ! (1 ∷ []) $
         use1 W (later (some (λ (γ : GName). ‵ (S lᵣ α γ) ⊛ ‵ (flent (α ∷ []) (arr-parts (shares T.the-row) 4 .part fullShare ys lᵣ 0)))))
         (lends-shr-slice 𝓤 H A W T.the-row (named 1) (α ∷ []) fullShare ys lᵣ 0 room4) $ await ! tt $ pick ! (λ γ. split ! $
         -- [S; what was lent; its token; _12; …; _11; …; that _10 dies; _9; …; room for _0; …; a token; the counts'; F; G; the records'; Z; Y]
@@ -218,8 +215,7 @@ module _ {M : Type 1} (𝓤 : URA M) (H : Heap 𝓤) (A : Atoms 𝓤) (W : Given
         use1 W (later (some (λ (r : Judged). ((‵ (flft κ q) ⊛ ‵ (flft (α ∷ []) fullShare) ⊛ ‵ ftrue) ⊛ ‵ (J.the-row .own r (x ∷ []))) ⊛ raw
         (ensured 𝓤 H A rows.ended (rows.clauses 𝓤 H A mem run) (κ, (α ∷ [], tt)) (c, (f, (h, (s lᵣ γ, (z, (y, tt)))))) tt r)))) (id⊢ 𝓤 _) $ await ! tt $ pick ! (λ r.
         split ! $ move ! (1 ∷ []) $ use1 W (raw (fact 𝓤 (Answer r))) (exE 𝓤 _ (λ ws. snd∗ 𝓤 (sem 𝓤 H A (lasts rows.ended (κ, (α ∷ [], tt)) (c, (f, (h, (s lᵣ γ, (z, (y, tt)))))) ws)) _)) $
-        heard ! (Answer r) (λ p. split ! $ move ! (1 ∷ []) $
-        peeks ! J.the-row (Is J.the-row) (shows 𝓤 H A J.the-row) r (x ∷ []) (λ is.
+        heard ! (Answer r) (λ p. split ! $ move ! (1 ∷ []) $ peeks ! J.the-row (Is J.the-row) (shows 𝓤 H A J.the-row) r (x ∷ []) (λ is.
         land ! (from ! (stop !)) (init ! 30 refl (EL.lawful J.the-type J′.the-laws 𝓤 H A W tt .typed r _ is .0)) $
         -- the lifetime is ended, and the array taken back
         move ! (1 ∷ []) $ split ! $ move ! (1 ∷ []) $ split ! $ lft-end ! tt $ move ! (0 ∷ 8 ∷ []) $ lent-back ! tt $
@@ -231,18 +227,15 @@ module _ {M : Type 1} (𝓤 : URA M) (H : Heap 𝓤) (A : Atoms 𝓤) (W : Given
         move ! (32 ∷ 33 ∷ []) $ free1 ! $ move ! (30 ∷ 31 ∷ []) $ free1 ! $ move ! (28 ∷ 29 ∷ []) $ free1 ! $ move ! (26 ∷ 27 ∷ []) $ free1 ! $ move ! (24 ∷ 25 ∷ []) $ free1 ! $
         move ! (22 ∷ 23 ∷ []) $ free1 ! $ move ! (20 ∷ 21 ∷ []) $ free1 ! $
         move ! (18 ∷ 19 ∷ []) $ free1 ! $ move ! (16 ∷ 17 ∷ []) $ free1 ! $ move ! (14 ∷ 15 ∷ []) $ free1 ! $ move ! (0 ∷ 13 ∷ []) $ free1 ! $ move ! (10 ∷ 11 ∷ []) $ free1 ! $
-        move ! (8 ∷ 9 ∷ []) $ free1 ! $ free0 ! $
-        drop ! $ by ! (exits r x p))))))))))))))))))))))
+        move ! (8 ∷ 9 ∷ []) $ free1 ! $ free0 ! $ drop ! $ by ! (exits r x p))))))))))))))))))))))
 
 module _ {M : Type 1} (𝓤 : URA M) (H : Heap 𝓤) (A : Atoms 𝓤) (W : Given 𝓤 H A) (mem : Memory → SProp 𝓤) (run : Routine → Fun 𝓤) (𝓣 : Tables 𝓤 H) (known : Triple 𝓤 (𝓣 .C #records·judge-records)
     (Rows 𝓤 H A mem run)) where
   four-walks : Walks 𝓤 H A four.ended stayed (WpFn 𝓤 H (𝓣 .C) (𝓣 .Λ) code.function) (four.clauses 𝓤 H A mem run)
   four-walks = walked 𝓤 H A four.ended stayed (four.clauses 𝓤 H A mem run) (WpFn 𝓤 H (𝓣 .C) (𝓣 .Λ) code.function)
-      (λ κs.
-      let one = LL.vals T.the-type T′.the-laws in
+      (λ κs. let one = LL.vals T.the-type T′.the-laws in
       (LL.vals N.the-type N′.the-laws, (slice-vals, (slice-vals, (one, (one, (one, (one, (slice-vals, (slice-vals, tt))))))))))
-      (λ κs.
-      let bytes = shr-slice-tells (named 0) (κs .0) u8 in
+      (λ κs. let bytes = shr-slice-tells (named 0) (κs .0) u8 in
       let words = shr-slice-tells (named 0) (κs .0) u32 in
       let one = LL.tells T.the-type T′.the-laws in
       (LL.tells N.the-type N′.the-laws, (bytes, (words, (one, (one, (one, (one, (bytes, (words, tt))))))))))

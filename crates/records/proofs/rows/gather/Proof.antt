@@ -96,8 +96,8 @@ module _ {M : Type 1} (𝓤 : URA M) (H : Heap 𝓤) (A : Atoms 𝓤) (W : Given
   abbrev Start : Val → Val → Fml → Fml → Fml → (l₀ l₁ l₂ l₃ l₄ l₅ l₆ l₇ l₈ : ℕ) → List (Item 𝓤)
   Start v w P Q R l₀ l₁ l₂ l₃ l₄ l₅ l₆ l₇ l₈ = ‵ (froom word l₅ 0) ∷ ‵ (froom U′.mir l₃ 0) ∷ ‵ (froom word l₄ 0) ∷ ‵ (froom word l₆ 0) ∷ ‵ (froom tyBool l₇ 0) ∷ ‵ (froom T′.mir l₈ 0)
       ∷ ‵ (fat fullShare slice l₁ 0 v) ∷ ‵ (fat fullShare U′.mir l₂ 0 w) ∷ ‵ (froom U′.mir l₀ 0) ∷ ‵ P ∷ ‵ Q ∷ ‵ R
-      ∷ ‵ (fdies U′.mir l₀) ∷ ‵ (fdies slice l₁) ∷ ‵ (fdies U′.mir l₂) ∷ ‵ (fdies U′.mir l₃) ∷ ‵ (fdies word l₄) ∷ ‵ (fdies word l₅) ∷ ‵ (fdies word l₆) ∷ ‵ (fdies tyBool l₇) ∷ ‵
-      (fdies T′.mir l₈) ∷ []
+      ∷ ‵ (fdies U′.mir l₀) ∷ ‵ (fdies slice l₁) ∷ ‵ (fdies U′.mir l₂) ∷ ‵ (fdies U′.mir l₃) ∷ ‵ (fdies word l₄) ∷ ‵ (fdies word l₅) ∷ ‵ (fdies word l₆) ∷ ‵ (fdies tyBool l₇)
+      ∷ ‵ (fdies T′.mir l₈) ∷ []
 
   -- the entry, whatever is owned: the kernel checks it at variables
   enters : (P Q R : Fml) (v w : Val) → Holds (hasTy slice v) × WT v → Holds (hasTy U′.mir w) × WT w → (Kf : Val → SProp 𝓤)
@@ -202,11 +202,11 @@ module _ {M : Type 1} (𝓤 : URA M) (H : Heap 𝓤) (A : Atoms 𝓤) (W : Given
       -- at the loop's head: i and the costs so far, and what no turn changes
       abbrev At : ℕ → Val → List (Item 𝓤)
       At i w =
-          ‵ (fat fullShare word l₅ 0 (vint w64 i)) ∷ ‵ (fat fullShare U′.mir l₃ 0 w) ∷ ‵ (fat fullShare word l₄ 0 (vint w64 bound)) ∷ ‵ (fat fullShare word l₆ 0 (vint w64 n)) ∷ ‵
-          (froom tyBool l₇ 0) ∷ ‵ (froom T′.mir l₈ 0)
+          ‵ (fat fullShare word l₅ 0 (vint w64 i)) ∷ ‵ (fat fullShare U′.mir l₃ 0 w) ∷ ‵ (fat fullShare word l₄ 0 (vint w64 bound)) ∷ ‵ (fat fullShare word l₆ 0 (vint w64 n))
+          ∷ ‵ (froom tyBool l₇ 0) ∷ ‵ (froom T′.mir l₈ 0)
           ∷ ‵ (fat fullShare slice l₁ 0 (sliceVal (b, o) n)) ∷ ‵ (fat fullShare U′.mir l₂ 0 w₀) ∷ ‵ (froom U′.mir l₀ 0) ∷ ‵ (flft κ q) ∷ ‵ S ∷ ‵ (Own t₀ w₀)
-          ∷ ‵ (fdies U′.mir l₀) ∷ ‵ (fdies slice l₁) ∷ ‵ (fdies U′.mir l₂) ∷ ‵ (fdies U′.mir l₃) ∷ ‵ (fdies word l₄) ∷ ‵ (fdies word l₅) ∷ ‵ (fdies word l₆) ∷ ‵ (fdies tyBool l₇) ∷ ‵
-          (fdies T′.mir l₈) ∷ []
+          ∷ ‵ (fdies U′.mir l₀) ∷ ‵ (fdies slice l₁) ∷ ‵ (fdies U′.mir l₂) ∷ ‵ (fdies U′.mir l₃) ∷ ‵ (fdies word l₄) ∷ ‵ (fdies word l₅) ∷ ‵ (fdies word l₆) ∷ ‵ (fdies tyBool l₇)
+          ∷ ‵ (fdies T′.mir l₈) ∷ []
 
       -- v records are left
       abbrev Facts : ℕ → ℕ → Laid → Val → Type 0
@@ -246,10 +246,8 @@ module _ {M : Type 1} (𝓤 : URA M) (H : Heap 𝓤) (A : Atoms 𝓤) (W : Given
           -- [what record_at asks; S; _5; _3; _4; _6; _7; room for _8; _1; _2; room for _0; what t owns; that each dies]
           calls-at ! fm (OpAt 𝓤 H A mem run) known-op (to-op i) (and-then ! (load ! (from ! (stop !)) (look ! 8 refl)) (and-then ! (load ! (from ! (stop !)) (look ! 2 refl)) (no-more !))) (λ v.
           use1 W (later (some (λ (r : OpRecord). ((‵ (flft κ q) ⊛ ‵ ftrue) ⊛ ‵ (T.the-row .own r (v ∷ []))) ⊛ raw (ensured 𝓤 H A op.ended (op.clauses 𝓤 H A mem run) (κ, tt) (s, (i, tt)) tt r))))
-          (id⊢ 𝓤 _) $ await ! tt $ pick ! (λ r.
-          split ! $ move ! (1 ∷ []) $ use1 W (raw (fact 𝓤 (r ≡ recordAt ys i))) (exE 𝓤 _ (λ ws. snd∗ 𝓤 (sem 𝓤 H A (lasts op.ended (κ, tt) (s, (i, tt)) ws)) _)) $
-          heard ! (r ≡ recordAt ys i) (λ e. split ! $ move ! (1 ∷ []) $
-          peeks ! T.the-row (Is T.the-row) (shows 𝓤 H A T.the-row) r (v ∷ []) (λ isr.
+          (id⊢ 𝓤 _) $ await ! tt $ pick ! (λ r. split ! $ move ! (1 ∷ []) $ use1 W (raw (fact 𝓤 (r ≡ recordAt ys i))) (exE 𝓤 _ (λ ws. snd∗ 𝓤 (sem 𝓤 H A (lasts op.ended (κ, tt) (s, (i, tt)) ws)) _)) $
+          heard ! (r ≡ recordAt ys i) (λ e. split ! $ move ! (1 ∷ []) $ peeks ! T.the-row (Is T.the-row) (shows 𝓤 H A T.the-row) r (v ∷ []) (λ isr.
           land ! (from ! (stop !)) (init ! 8 refl (LL.lawful T.the-type T′.the-laws 𝓤 H A W .typed r _ isr .0)) $
           -- [what the record owns; the token; S; _5; _3; _4; _6; _7; _8; _1; _2; room for _0; what t owns; that each dies]
           use1 W (raw (With 𝓤 H A mem run .pre (to-with u w i r v))) (asks-with u w i r v is few fits) $
@@ -257,8 +255,7 @@ module _ {M : Type 1} (𝓤 : URA M) (H : Heap 𝓤) (A : Atoms 𝓤) (W : Given
           (and-then ! (load ! (from ! (stop !)) (look ! 3 refl)) (and-then ! (load ! (from ! (stop !)) (look ! 8 refl)) (no-more !)))) (λ w′.
           use1 W (later (some (λ (u′ : Laid). (‵ ftrue ⊛ ‵ (Own u′ w′)) ⊛ raw (ensured 𝓤 H A put.ended (put.clauses 𝓤 H A mem run) tt (u, (i, (r, tt))) tt u′)))) (id⊢ 𝓤 _) $ await ! tt $ pick ! (λ u′.
           split ! $ move ! (1 ∷ []) $ use1 W (raw (fact 𝓤 (u′ ≡ laidOne u i r))) (exE 𝓤 _ (λ ws. snd∗ 𝓤 (sem 𝓤 H A (lasts put.ended tt (u, (i, (r, tt))) ws)) _)) $
-          heard ! (u′ ≡ laidOne u i r) (λ e′. split ! $ drop ! $
-          peeks ! U.the-row (Is U.the-row) (shows 𝓤 H A U.the-row) u′ (w′ ∷ []) (λ is′.
+          heard ! (u′ ≡ laidOne u i r) (λ e′. split ! $ drop ! $ peeks ! U.the-row (Is U.the-row) (shows 𝓤 H A U.the-row) u′ (w′ ∷ []) (λ is′.
           land ! (from ! (stop !)) (store ! 4 refl (LL.lawful U.the-type U′.the-laws 𝓤 H A W .typed u′ _ is′ .0)) $
           assigns-last ! (bin ! (load ! (from ! (stop !)) (look ! 3 refl)) (lit ! tt) (record { fits = next })) (from ! (stop !)) (store ! 3 refl (tt, record { fits = next })) $
           forget ! 7 refl $ forget ! 8 refl $ drop ! $ split ! $
@@ -285,8 +282,7 @@ module _ {M : Type 1} (𝓤 : URA M) (H : Heap 𝓤) (A : Atoms 𝓤) (W : Given
           ends i u w (Below zero) (omega arith) (f .2) (f .1 ∙ ap (λ (k : ℕ). laidOf ys k t₀) all)
       turn-at (suc v) i u w f =
           let small : i < bound = omega arith in
-          more i u w (Below (suc v)) small (f .2) (λ u′ w′ is′ e.
-          via 𝓤 _ (inv v (i + 1) u′ w′ (omega arith, laid-next ys t₀ u u′ i (f .1) e, is′))
+          more i u w (Below (suc v)) small (f .2) (λ u′ w′ is′ e. via 𝓤 _ (inv v (i + 1) u′ w′ (omega arith, laid-next ys t₀ u u′ i (f .1) e, is′))
           (via 𝓤 _ (guardI 𝓤 (v < suc v) (Inv v) (lt-suc-self v)) (exI 𝓤 (λ (v′ : ℕ). guard 𝓤 (v′ < suc v) (Inv v′)) v)))
 
       turns : (v : ℕ) → ent 𝓤 (Inv v) (Wp 𝓤 H C Λ E bits.turn-1 (afterTurn 𝓤 H (Below v) Left))
@@ -308,8 +304,7 @@ module _ {M : Type 1} (𝓤 : URA M) (H : Heap 𝓤) (A : Atoms 𝓤) (W : Given
           use1 W (later (some (λ (r : ℕ). (‵ ftrue ⊛ ‵ (usize .own r (x ∷ []))) ⊛ raw (ensured 𝓤 H A most.ended (most.clauses 𝓤 H A mem run) tt (64, (n, tt)) tt r)))) (id⊢ 𝓤 _) $ await ! tt $
           pick ! (λ r.
           split ! $ move ! (1 ∷ []) $ use1 W (raw (fact 𝓤 (r ≡ bound))) (exE 𝓤 _ (λ ws. snd∗ 𝓤 (sem 𝓤 H A (lasts most.ended tt (64, (n, tt)) ws)) _)) $ heard ! (r ≡ bound) (λ e. split ! $ drop ! $
-          peeks ! usize (Is usize) (shows 𝓤 H A usize) r (x ∷ []) (λ is.
-          land ! (from ! (stop !)) (init ! 3 refl (uint-lawful 𝓤 H A W w64 .typed r _ is .0)) $ drop ! $
+          peeks ! usize (Is usize) (shows 𝓤 H A usize) r (x ∷ []) (λ is. land ! (from ! (stop !)) (init ! 3 refl (uint-lawful 𝓤 H A W w64 .typed r _ is .0)) $ drop ! $
           rewrite ! 2 (λ (v : Val). ‵ (fat fullShare word l₄ 0 v)) (only x (vint w64 r) (is .0) ∙ ap (vint w64) e) refl $
           assigns ! (of-opd ! (lit ! tt)) (from ! (stop !)) (init ! 0 refl (tt, record { fits = lit< tt })) $ by ! loops))))
 
