@@ -1,6 +1,6 @@
 -- Laws of records laid into the tables: a turn of each walk and its end; and what the entry answers is what judging answers over the row's tables.
 -- Assumes nothing.
-use Prim.Native.Nat.{ℕ, zero, suc, _+_, _*_, _≤_, _<_}
+use Prim.Native.Nat.{ℕ, zero, suc, _+_, _≤_, _<_}
 use mathlib.Core.Path.{_≡_, refl, ap, sym, _∙_}
 use mathlib.Core.List.{List}
 use native.Mathlib.Numerals.{add-one}
@@ -26,7 +26,7 @@ use Rattle.sequences.specs.Judging.{judgedOf}
 use Rattle.records.specs.declared.OpRecord.{OpRecord}
 use Rattle.records.specs.declared.laying.Laid.{Laid}
 use Rattle.records.specs.Records.{recordAt, atMost, counted, rowLaid, laidOne, laidOf, blank, recordsTables}
-use Rattle.records.specs.Parts.{copyOf, laidJudged}
+use Rattle.records.specs.Inside.Parts.{copyOf, laidJudged}
 
 -- ---- at most a limit
 

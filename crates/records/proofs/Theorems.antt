@@ -1,6 +1,6 @@
 -- What the contract of the entry over records gives: no second answer meets it; and a row that spells the operators of tables is judged as the tables are.
 -- (That a row's length above the limit is refused as any such number is: Many.antt.) Assumes nothing.
-use Prim.Native.Nat.{ℕ, _+_, _*_, _≤_, _<_}
+use Prim.Native.Nat.{ℕ, _≤_, _<_}
 use mathlib.Core.Path.{_≡_, refl, ap, ap₂, sym, _∙_}
 use mathlib.Core.Bool.{Bool, true, _&&_}
 use mathlib.Core.List.{List}

@@ -1,6 +1,6 @@
 -- The operators' rows of the lent facts aren't read: facts that differ in these rows alone are judged the same. (That the lent count of operators isn't read is seen in `recordsTables`.)
 -- Assumes nothing.
-use Prim.Native.Nat.{ℕ, zero, suc, _+_, _*_, _≤_, _<_, min}
+use Prim.Native.Nat.{ℕ, zero, suc, _*_, _≤_, _<_, min}
 use mathlib.Core.Path.{_≡_, refl, ap, ap₂, sym, _∙_}
 use mathlib.Core.Bool.{true, _&&_}
 use mathlib.Core.List.{List}

@@ -3,7 +3,7 @@ ghost use mathlib.Core.Path.{_≡_};
 ghost use Prim.Native.Nat.{_<_};
 ghost use Rattle.meaning.specs.Limits.{mostVars, mostOps};
 ghost use Rattle.records.specs.Records.{atMost, counted, rowLaid, laidOne};
-ghost use Rattle.records.specs.Parts.{copyOf, laidJudged};
+ghost use Rattle.records.specs.Inside.Parts.{copyOf, laidJudged};
 use crate::OpRecord;
 use meaning::OpNo;
 use refusals::Refusal;

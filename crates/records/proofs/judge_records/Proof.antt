@@ -44,7 +44,7 @@ use Rattle.sequences.specs.Judging.{judgedOf}
 use Rattle.records.specs.declared.OpRecord.{OpRecord}
 use Rattle.records.specs.declared.laying.Laid.{Laid}
 use Rattle.records.specs.Records.{atMost, laidOf, recordsTables}
-use Rattle.records.specs.Parts.{copyOf, laidJudged}
+use Rattle.records.specs.Inside.Parts.{copyOf, laidJudged}
 use Rattle.records.proofs.Laws.{judged-records}
 use Rattle.tables.proofs.Counts as N
 use Rattle.tables.proofs.Counts.Laws as N′

@@ -14,6 +14,12 @@ first c = c .before .before .before .before .before .before .before
 abbrev T : tie.After-input-fault → Tables
 T c = let a = first c .args in tables (a .c) (a .facts .now) (a .costs .now) (a .shares .now)
 
+returns : tie.Need-returns
+returns c =
+    let x = c .before .before .before in
+    let a = first x .args in
+    c .choose-lists .ensures ∙ chosen-by (T x) (a .s .now) (a .a .now) (a .b .now) (x .input-fault .ensures) (c .before .enum-told .given .1)
+
 pub choice-of-spec : {M : Type 1} → statement M
 choice-of-spec =
     tie.close
@@ -22,5 +28,5 @@ choice-of-spec =
     (λ c. search needs)
     (λ c κs. let x = c .before .before in usable (T x) (first x .args .s .now) (x .input-fault .ensures) (c .enum-told .given .1))
     (λ c. search needs)
-    (λ c. let x = c .before .before .before in let a = first x .args in c .choose-lists .ensures ∙ chosen-by (T x) (a .s .now) (a .a .now) (a .b .now) (x .input-fault .ensures) (c .before .enum-told .given .1))
+    returns
     (λ c. let x = c .before .before .before in let a = first x .args in chosen-by (T x) (a .s .now) (a .a .now) (a .b .now) (x .input-fault .ensures) (c .before .f .given .1)))
