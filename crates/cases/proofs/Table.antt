@@ -6,59 +6,15 @@ use mathlib.Core.Bool.{true, false, false≢true}
 use Rattle.tables.specs.Steps.{rowHolds, mayRun, meetsGoal, overwritten, stepped}
 use Rattle.scan.specs.Scan.{each, factsFault, operatorFault, classesFault, mapFault, sharesFault, splitFault, taskFault, roomy, tablesFault, stateFault, inputFault}
 use Rattle.grammar.specs.Fields.{isDigit, bytes, shareTotal, overLine}
-use Rattle.grammar.specs.Grammar.{
-  Verdict,
-  accepted,
-  refused,
-  _▸_,
-  nothing,
-  ask,
-  keep,
-  demand,
-  lit,
-  choice,
-  runLen,
-  value,
-  formed,
-  fits,
-  numeral,
-  parted,
-  row,
-  endOfLine,
-  line,
-  lines,
-  editionLine,
-  varsLine,
-  domLine,
-  initLine,
-  facts,
-  factList,
-  goalLine,
-  opsLine,
-  operator,
-  opLines,
-  has,
-  topOf,
-  allOf,
-  classCount,
-  noneMissing,
-  classes,
-  variables,
-  mapsLine,
-  mapLines,
-  amounts,
-  shareLines,
-  taskLines,
-  settled,
-  theEnd,
-  noTask,
-  verdict,
-}
+use Rattle.grammar.specs.Grammar.{Verdict, accepted, refused, _▸_, nothing, ask, keep, demand, lit, choice, runLen, value, formed, fits, numeral, parted, row}
+use Rattle.grammar.specs.Grammar.{endOfLine, line, lines, editionLine, varsLine, domLine, initLine, facts, factList, goalLine, opsLine, operator, opLines}
+use Rattle.grammar.specs.Grammar.{has, topOf, allOf, classCount, noneMissing, classes, variables, mapsLine, mapLines, amounts, shareLines, taskLines, settled, theEnd, noTask, verdict}
 use Rattle.grammar.proofs.SpellAccepted.{accepted-spells}
 use Rattle.sequences.specs.Stepping.{stepOf}
 use Rattle.meaning.specs.Limits.{mostSteps}
 use Rattle.sequences.specs.Judging.{walked, limited, judgedOf}
-use Rattle.ledger.specs.Ledger.{rest, gain, booked, fresh, advanced, canRun, replayed, given, startAt, startIn, sameTo, sameStates, sameSteps, sameRun, isRun, oldStep, nextStep, offerJudged, answered, offered, startFrom, started, begun}
+use Rattle.ledger.specs.Ledger.{rest, gain, booked, fresh, advanced, canRun, replayed, given, startAt, startIn, sameTo, sameStates}
+use Rattle.ledger.specs.Ledger.{sameSteps, sameRun, isRun, oldStep, nextStep, offerJudged, answered, offered, startFrom, started, begun}
 use Rattle.cases.specs.Told.{ofText, Claim, EachAt, Holds, Case, AllHold, Right}
 use Rattle.cases.specs.Cases.{table}
 use Rattle.cases.proofs.Tests.{Test, told?, _and_, into, always, each?}
@@ -80,6 +36,38 @@ right? c =
     into (λ p. record { read = p .0; claims = p .1 })
     (told? (ofText (verdict (bytes (c .text)))) (c .read) and claims? (bytes (c .text)) (verdict (bytes (c .text))) refl (c .claims))
 
+-- ---- what the computation opens, room by room: to open one of these is to open what it names
+
+-- the characters and marks of a text
+opened-marks : Unit {0}
+unfolding isDigit shareTotal overLine _▸_ nothing ask keep demand lit choice runLen value formed fits numeral parted row
+opened-marks = tt
+
+-- its lines
+opened-lines : Unit {0}
+unfolding endOfLine line lines editionLine varsLine domLine initLine facts factList goalLine opsLine operator opLines
+opened-lines = tt
+
+-- its maps and shares, and the verdict
+opened-task : Unit {0}
+unfolding has topOf allOf classCount noneMissing classes variables mapsLine mapLines amounts shareLines taskLines settled theEnd noTask verdict
+opened-task = tt
+
+-- the scan of tables and state
+opened-scan : Unit {0}
+unfolding each factsFault operatorFault classesFault mapFault sharesFault splitFault taskFault roomy tablesFault stateFault inputFault
+opened-scan = tt
+
+-- steps and sequences
+opened-steps : Unit {0}
+unfolding rowHolds mayRun meetsGoal overwritten stepped mostSteps stepOf walked limited judgedOf
+opened-steps = tt
+
+-- a run
+opened-run : Unit {0}
+unfolding rest gain booked fresh advanced canRun replayed given startAt startIn sameTo sameStates sameSteps sameRun isRun oldStep nextStep offerJudged answered offered startFrom started begun
+opened-run = tt
+
 pub cases-hold : EachAt (λ i c. Right c) 0 table
-unfolding table tableOf isDigit shareTotal overLine _▸_ nothing ask keep demand lit choice runLen value formed fits numeral parted row endOfLine line lines editionLine varsLine domLine initLine facts factList goalLine opsLine operator opLines has topOf allOf classCount noneMissing classes variables mapsLine mapLines amounts shareLines taskLines settled theEnd noTask verdict rowHolds mayRun meetsGoal overwritten stepped each factsFault operatorFault classesFault mapFault sharesFault splitFault taskFault roomy tablesFault stateFault mostSteps inputFault stepOf walked limited judgedOf rest gain booked fresh advanced canRun replayed given startAt startIn sameTo sameStates sameSteps sameRun isRun oldStep nextStep offerJudged answered offered startFrom started begun
+unfolding table tableOf opened-marks opened-lines opened-task opened-scan opened-steps opened-run
 cases-hold = each? (λ i c. Right c) (λ i c. right? c) 0 table .so refl

@@ -8,6 +8,7 @@ use native.Mathlib.Omega.{arith}
 use Rattle.graph.specs.Cost.{Cost, none, fin, _⊑_}
 use Rattle.graph.proofs.Costs.{⊑-mono}
 use Rattle.meaning.specs.Sas.{State, Sas, IsState, after, Runs, end, Passes, paid, Proper}
+use Rattle.meaning.specs.Limits.{mostCost}
 use Rattle.meaning.specs.Views.{abstractStates, Onto}
 use Rattle.meaning.specs.Split.{Task, countOf, sum, view, Valid}
 use Rattle.meaning.specs.Bound.{distance, away, summed, bound}
@@ -41,7 +42,9 @@ module _ (T : Task) (ok : Valid T) where
 
   -- DEMAND 3: the bound is a number at most the cost of every sequence that reaches the goal
   pub admissible : (os : List ℕ) (s : State) → IsState (T .sas) s → Passes (T .sas) os s → bound T s ⊑ paid (T .sas .cost) os
-  admissible os s h p = ⊑-mono (bound T s) (sum (λ m. paid (T .share m) os) (T .maps)) (paid (T .sas .cost) os) (some (T .maps) (ok .maps .0) (λ m l. away-below os s h p m l)) (paid-split os s (p .0))
+  admissible os s h p =
+      let shares : ℕ = sum (λ m. paid (T .share m) os) (T .maps) in
+      ⊑-mono (bound T s) shares (paid (T .sas .cost) os) (some (T .maps) (ok .maps .0) (away-below os s h p)) (paid-split os s (p .0))
     where
       some : (k : ℕ) → 1 ≤ k → ((m : ℕ) → m < k → away T s m ⊑ paid (T .share m) os) → summed (away T s) k ⊑ sum (λ m. paid (T .share m) os) k
       some zero l g = absurd (not-suc-le-zero l)
@@ -55,7 +58,7 @@ module _ (T : Task) (ok : Valid T) where
   pub away-most : (m : ℕ) → m < T .maps → (a d : ℕ) → a < abstractStates (T .sas) (view T m) → distance (T .sas) (view T m) a ≡ fin d → d ≤ 4095000000
   away-most m l a d i e =
       omega
-      (arith, distance-most (T .sas) (view T m) (ok .proper) (view-onto m l) 1000000 a d (λ o g. ok .shares m o l g) i e, ok .few-states m l)
+      (arith, distance-most (T .sas) (view T m) (ok .proper) (view-onto m l) mostCost a d (λ o g. ok .shares m o l g) i e, ok .few-states m l)
 
 -- a run stays among the states
 pub end-state : (S : Sas) → Proper S → (os : List ℕ) (s : State) → IsState S s → Runs S os s → IsState S (end S os s)

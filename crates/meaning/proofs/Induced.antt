@@ -83,11 +83,13 @@ module _ (S : Sas) (W : View) (P : Proper S) (C : Onto S W) where
       → Complies (classTask S W) (λ v. seen (W .class v) (F v)) (digit (W .classes) a)
       → (s : State) × ((v : ℕ) → v < S .vars → (s v < S .dom v) × Holds (F v) (s v) × (W .class v (s v) ≡ digit (W .classes) a v))
   inhabit F a l r h = collect (λ v x. (x < S .dom v) × Holds (F v) x × (W .class v x ≡ digit (W .classes) a v)) (S .vars)
-      (λ v g. one (W .class v) (S .dom v) (W .classes v) (F v) (digit (W .classes) a v) (r v g) (h v g) (C .none-missing v (digit (W .classes) a v) g (digits-state (classTask S W) classTask-proper a v g)))
+      (λ v g.
+      let y : ℕ = digit (W .classes) a v in
+      one (W .class v) (S .dom v) (F v) y (r v g) (h v g) (C .none-missing v y g (digits-state (classTask S W) classTask-proper a v g)))
     where
-      one : (c : ℕ → ℕ) (d k f y : ℕ) → f ≤ d → Holds (seen c f) y → (x : ℕ) × (x < d) × (c x ≡ y) → (x : ℕ) × ((x < d) × Holds f x × (c x ≡ y))
-      one c d k zero y fd fy p = (p .0, (p .1, tt, p .2))
-      one c d k (suc x) y fd fy p = (x, (fd, refl, sym fy))
+      one : (c : ℕ → ℕ) (d f y : ℕ) → f ≤ d → Holds (seen c f) y → (x : ℕ) × (x < d) × (c x ≡ y) → (x : ℕ) × ((x < d) × Holds f x × (c x ≡ y))
+      one c d zero y fd fy p = (p .0, (p .1, tt, p .2))
+      one c d (suc x) y fd fy p = (x, (fd, refl, sym fy))
 
   inhabit-α : (a : ℕ) → a < viewGraph S W .states → (s : State) → ((v : ℕ) → v < S .vars → W .class v (s v) ≡ digit (W .classes) a v) → α S W s ≡ a
   inhabit-α a l s h = number-same (W .classes) (image W s) (digit (W .classes) a) (S .vars) h ∙ number-digits (W .classes) a (S .vars) (space-positive (classTask S W) classTask-proper) l

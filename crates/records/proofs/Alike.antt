@@ -28,8 +28,8 @@ use Rattle.sequences.specs.declared.stepping.Stepped.the-variants.{Ran, NoSuch,
 use Rattle.sequences.specs.declared.judging.Judged.{Judged}
 use Rattle.sequences.specs.declared.judging.Judged.the-variants.{Passed, Refused}
 use Rattle.sequences.specs.Stepping.{stepOf}
-use Rattle.meaning.specs.Limits.{mostSteps}
-use Rattle.sequences.specs.Judging.{onto, walked, limited, unlessFault, judgedOf}
+use Rattle.meaning.specs.Limits.{mostVars, mostValues, mostOps, mostCost, mostMaps, mostStates, mostSteps}
+use Rattle.sequences.specs.Judging.{onto, walked, limited, judgedUnless, judgedOf}
 use Rattle.sequences.proofs.Laws.{step-taken}
 use Rattle.tables.specs.Lines.{lineOfVars, lineOfDom, lineOfInit, lineOfGoal, lineOfOps, lineOfOp, lineOfMaps, lineOfMap}
 
@@ -69,12 +69,25 @@ size-same r r′ (suc k) h = ap₂ _*_ (size-same r r′ k (λ v l. h v (omega a
 
 -- ---- tables of the same counts and shares
 
+-- the rules from the line of the numbers of values on
+abbrev values : Task → Found
+values T =
+    each (λ v. unless (within 1 mostValues (T .sas .dom v)) (OutOfRange lineOfDom)) (T .sas .vars) 0
+    then each (λ v. unless (ltb (T .sas .init v) (T .sas .dom v)) (OutOfRange lineOfInit)) (T .sas .vars) 0
+    then factsFault T (T .sas .goal) lineOfGoal
+    then unless (leb (T .sas .ops) mostOps) (OutOfRange lineOfOps)
+    then each (operatorFault T) (T .sas .ops) 0
+    then unless (within 1 mostMaps (T .maps)) (OutOfRange (lineOfMaps (T .sas .ops)))
+    then each (mapFault T) (T .maps) 0
+    then each (sharesFault T) (T .maps) 0
+    then each (splitFault T) (T .sas .ops) 0
+
 -- they agree at every place that is read
 pub record Agree (c : Counts) (f f′ k k′ : List ℕ) : Type 0 where
   pub head : (row v : ℕ) → row < 3 → v < c .vars → rowAt f row v ≡ rowAt f′ row v
   pub pre : (o v : ℕ) → o < c .ops → v < c .vars → preAt f o v ≡ preAt f′ o v
   pub eff : (o v : ℕ) → o < c .ops → v < c .vars → effAt f o v ≡ effAt f′ o v
-  pub class : (m v x : ℕ) → m < 8 → v < c .vars → x < 8 → classAt f m v x ≡ classAt f′ m v x
+  pub class : (m v x : ℕ) → m < mostMaps → v < c .vars → x < mostValues → classAt f m v x ≡ classAt f′ m v x
   pub cost : (o : ℕ) → o < c .ops → costAt k o ≡ costAt k′ o
 
 module _ (c : Counts) (f f′ k k′ shares : List ℕ) (A : Agree c f f′ k k′) where
@@ -96,7 +109,7 @@ module _ (c : Counts) (f f′ k k′ shares : List ℕ) (A : Agree c f f′ k k�
   operator-same : (o : ℕ) → o < c .ops → operatorFault T o ≡ operatorFault T′ o
   unfolding operatorFault
   operator-same o l =
-      ap₂ _then_ (ap (λ (x : ℕ). unless (leb x 1000000) (OutOfRange (lineOfOp o))) (A .cost o l))
+      ap₂ _then_ (ap (λ (x : ℕ). unless (leb x mostCost) (OutOfRange (lineOfOp o))) (A .cost o l))
       (ap₂ _then_ (facts-same (T .sas .pre o) (T′ .sas .pre o) (lineOfOp o) (λ v g. A .pre o v l g))
       (facts-same (T .sas .eff o) (T′ .sas .eff o) (lineOfOp o) (λ v g. A .eff o v l g)))
 
@@ -104,7 +117,7 @@ module _ (c : Counts) (f f′ k k′ shares : List ℕ) (A : Agree c f f′ k k�
   abbrev rules : (ℕ → ℕ) → ℕ → ℕ → Found
   rules class line d = each (λ x. unless (ltb (class x) d) (OutOfRange line)) d 0 then unless (noneMissing class d) (ClassMissing line)
 
-  classes-same : (m v line : ℕ) → m < 8 → v < c .vars → T .sas .dom v ≤ 8 → classesFault T m line v ≡ classesFault T′ m line v
+  classes-same : (m v line : ℕ) → m < mostMaps → v < c .vars → T .sas .dom v ≤ mostValues → classesFault T m line v ≡ classesFault T′ m line v
   unfolding classesFault
   classes-same m v line l g b =
       ap₂ _then_
@@ -113,11 +126,11 @@ module _ (c : Counts) (f f′ k k′ shares : List ℕ) (A : Agree c f f′ k k�
       (ap (λ (y : Bool). unless y (ClassMissing line)) (missing-same (T .class m v) (T′ .class m v) (T .sas .dom v) (λ x h. A .class m v x l g (omega arith))))
       ∙ ap (rules (T′ .class m v) line) (dom v g)
 
-  map-same : (m : ℕ) → m < 8 → ((v : ℕ) → v < c .vars → T .sas .dom v ≤ 8) → mapFault T m ≡ mapFault T′ m
+  map-same : (m : ℕ) → m < mostMaps → ((v : ℕ) → v < c .vars → T .sas .dom v ≤ mostValues) → mapFault T m ≡ mapFault T′ m
   unfolding mapFault
   map-same m l b =
       ap₂ _then_ (walk-same (classesFault T m (lineOfMap (c .ops) m)) (classesFault T′ m (lineOfMap (c .ops) m)) (c .vars) (λ v g. classes-same m v (lineOfMap (c .ops) m) l g (b v g)))
-      (ap (λ (x : ℕ). unless (leb x 4096) (TooManyStates (lineOfMap (c .ops) m)))
+      (ap (λ (x : ℕ). unless (leb x mostStates) (TooManyStates (lineOfMap (c .ops) m)))
       (size-same (λ v. countOf (T .class m v) (T .sas .dom v)) (λ v. countOf (T′ .class m v) (T′ .sas .dom v)) (c .vars)
       (λ v g. count-same (T .class m v) (T′ .class m v) (T .sas .dom v) (λ x h. A .class m v x l g (omega (arith, b v g))) ∙ ap (countOf (T′ .class m v)) (dom v g))))
 
@@ -129,37 +142,24 @@ module _ (c : Counts) (f f′ k k′ shares : List ℕ) (A : Agree c f f′ k k�
   unfolding splitFault
   split-same o l = ap (λ (x : ℕ). unless (leb (sum (λ m. T .share m o) (c .maps)) x) (SharesAboveCost (lineOfOp o))) (A .cost o l)
 
-  -- from the line of the numbers of values on
-  values-same : (each (λ v. unless (within 1 8 (T .sas .dom v)) (OutOfRange lineOfDom)) (c .vars) 0
-      then each (λ v. unless (ltb (T .sas .init v) (T .sas .dom v)) (OutOfRange lineOfInit)) (c .vars) 0
-      then factsFault T (T .sas .goal) lineOfGoal
-      then unless (leb (T .sas .ops) 64) (OutOfRange lineOfOps)
-      then each (operatorFault T) (T .sas .ops) 0
-      then unless (within 1 8 (T .maps)) (OutOfRange (lineOfMaps (T .sas .ops)))
-      then each (mapFault T) (T .maps) 0
-      then each (sharesFault T) (T .maps) 0
-      then each (splitFault T) (T .sas .ops) 0)
-      ≡ (each (λ v. unless (within 1 8 (T′ .sas .dom v)) (OutOfRange lineOfDom)) (c .vars) 0
-      then each (λ v. unless (ltb (T′ .sas .init v) (T′ .sas .dom v)) (OutOfRange lineOfInit)) (c .vars) 0
-      then factsFault T′ (T′ .sas .goal) 5
-      then unless (leb (T′ .sas .ops) 64) (OutOfRange lineOfOps)
-      then each (operatorFault T′) (T′ .sas .ops) 0
-      then unless (within 1 8 (T′ .maps)) (OutOfRange (lineOfMaps (T′ .sas .ops)))
-      then each (mapFault T′) (T′ .maps) 0
-      then each (sharesFault T′) (T′ .maps) 0
-      then each (splitFault T′) (T′ .sas .ops) 0)
+  values-same : values T ≡ values T′
   values-same =
-      then-same _ _ _ _ (walk-same (λ v. unless (within 1 8 (T .sas .dom v)) (OutOfRange lineOfDom)) (λ v. unless (within 1 8 (T′ .sas .dom v)) (OutOfRange lineOfDom)) (c .vars) (λ v l. ap (λ (d : ℕ). unless (within 1 8 d) (OutOfRange lineOfDom)) (dom v l)))
+      then-same _ _ _ _
+      (walk-same (λ v. unless (within 1 mostValues (T .sas .dom v)) (OutOfRange lineOfDom)) (λ v. unless (within 1 mostValues (T′ .sas .dom v)) (OutOfRange lineOfDom)) (c .vars)
+      (λ v l. ap (λ (d : ℕ). unless (within 1 mostValues d) (OutOfRange lineOfDom)) (dom v l)))
       (λ e.
-      ap₂ _then_ (walk-same (λ v. unless (ltb (T .sas .init v) (T .sas .dom v)) (OutOfRange lineOfInit)) (λ v. unless (ltb (T′ .sas .init v) (T′ .sas .dom v)) (OutOfRange lineOfInit)) (c .vars)
+      ap₂ _then_
+      (walk-same (λ v. unless (ltb (T .sas .init v) (T .sas .dom v)) (OutOfRange lineOfInit)) (λ v. unless (ltb (T′ .sas .init v) (T′ .sas .dom v)) (OutOfRange lineOfInit)) (c .vars)
       (λ v l. ap₂ (λ (x d : ℕ). unless (ltb x d) (OutOfRange lineOfInit)) (A .head initRow v (omega arith) l) (dom v l)))
       (ap₂ _then_ (facts-same (T .sas .goal) (T′ .sas .goal) lineOfGoal (λ v l. A .head goalRow v (omega arith) l))
-      (ap (λ (x : Found). unless (leb (c .ops) 64) (OutOfRange lineOfOps) then x)
+      (ap (λ (x : Found). unless (leb (c .ops) mostOps) (OutOfRange lineOfOps) then x)
       (ap₂ _then_ (walk-same (operatorFault T) (operatorFault T′) (c .ops) operator-same)
       (then-same _ _ _ _ refl
       (λ g.
-      ap₂ _then_ (walk-same (mapFault T) (mapFault T′) (c .maps) (λ m l. map-same m (omega (arith, within-says 1 8 (c .maps) (rule-held (within 1 8 (c .maps)) (OutOfRange (lineOfMaps (c .ops))) g) .1))
-      (λ v h. within-says 1 8 (T .sas .dom v) (tests-held (λ v. within 1 8 (T .sas .dom v)) (λ v. OutOfRange lineOfDom) (c .vars) v e h) .1)))
+      let maps = within-says 1 mostMaps (c .maps) (rule-held (within 1 mostMaps (c .maps)) (OutOfRange (lineOfMaps (c .ops))) g) .1 in
+      let fits : (v : ℕ) → v < c .vars → T .sas .dom v ≤ mostValues = λ v h. within-says 1 mostValues (T .sas .dom v)
+      (tests-held (λ v. within 1 mostValues (T .sas .dom v)) (λ v. OutOfRange lineOfDom) (c .vars) v e h) .1 in
+      ap₂ _then_ (walk-same (mapFault T) (mapFault T′) (c .maps) (λ m l. map-same m (omega (arith, maps)) fits))
       (ap₂ _then_ (ap (λ (x : ℕ → Found). each x (c .maps) 0) shares-same) (walk-same (splitFault T) (splitFault T′) (c .ops) split-same))))))))
 
   -- ---- the steps
@@ -209,20 +209,23 @@ module _ (c : Counts) (f f′ k k′ shares : List ℕ) (A : Agree c f f′ k k�
 
 -- ---- judging
 
-pub unless-same : (a a′ : Found) (j j′ : Judged) → a ≡ a′ → (a ≡ Clean → j ≡ j′) → unlessFault a j ≡ unlessFault a′ j′
-unless-same a a′ j j′ p q = at a q ∙ ap (λ (x : Found). unlessFault x j′) p
+pub unless-same : (a a′ : Found) (j j′ : Judged) → a ≡ a′ → (a ≡ Clean → j ≡ j′) → judgedUnless a j ≡ judgedUnless a′ j′
+unless-same a a′ j j′ p q = at a q ∙ ap (λ (x : Found). judgedUnless x j′) p
   where
-    at : (x : Found) → (x ≡ Clean → j ≡ j′) → unlessFault x j ≡ unlessFault x j′
+    at : (x : Found) → (x ≡ Clean → j ≡ j′) → judgedUnless x j ≡ judgedUnless x j′
     at Clean h = h refl
     at (Fault r) h = refl
 
 module _ (c : Counts) (f f′ k k′ shares : List ℕ) (room : roomy (tables c f k shares) ≡ roomy (tables c f′ k′ shares))
-    (A : roomy (tables c f k shares) ≡ true → c .vars ≤ 8 → Agree c f f′ k k′) where
+    (A : roomy (tables c f k shares) ≡ true → c .vars ≤ mostVars → Agree c f f′ k k′) where
+  few : unless (within 1 mostVars (c .vars)) (OutOfRange lineOfVars) ≡ Clean → c .vars ≤ mostVars
+  few g = within-says 1 mostVars (c .vars) (rule-held (within 1 mostVars (c .vars)) (OutOfRange lineOfVars) g) .1
+
   task-same : roomy (tables c f k shares) ≡ true → taskFault (taskOf (tables c f k shares)) ≡ taskFault (taskOf (tables c f′ k′ shares))
   unfolding taskFault
   task-same e =
       then-same _ _ _ _ refl
-      (λ g. values-same c f f′ k k′ shares (A e (within-says 1 8 (c .vars) (rule-held (within 1 8 (c .vars)) (OutOfRange lineOfVars) g) .1)))
+      (λ g. values-same c f f′ k k′ shares (A e (few g)))
 
   tables-same : tablesFault (tables c f k shares) ≡ tablesFault (tables c f′ k′ shares)
   unfolding tablesFault
@@ -235,7 +238,7 @@ module _ (c : Counts) (f f′ k k′ shares : List ℕ) (room : roomy (tables c 
   unfolding tablesFault taskFault
   clean-agree e =
       A (rule-held (roomy (tables c f k shares)) TableTooShort (clean-first _ _ e))
-      (within-says 1 8 (c .vars) (rule-held (within 1 8 (c .vars)) (OutOfRange lineOfVars) (clean-first _ _ (clean-next (unless (roomy (tables c f k shares)) TableTooShort) _ e))) .1)
+      (few (clean-first _ _ (clean-next (unless (roomy (tables c f k shares)) TableTooShort) _ e)))
 
   input-same : (s : List ℕ) → inputFault (tables c f k shares) s ≡ inputFault (tables c f′ k′ shares) s
   unfolding inputFault

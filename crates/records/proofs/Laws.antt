@@ -1,6 +1,6 @@
 -- Laws of records laid into the tables: a turn of each walk and its end; and what the entry answers is what judging answers over the row's tables.
 -- Assumes nothing.
-use Prim.Native.Nat.{ℕ, zero, suc, _+_, _*_, _≤_, _<_}
+use Prim.Native.Nat.{ℕ, zero, suc, _+_, _≤_, _<_}
 use mathlib.Core.Path.{_≡_, refl, ap, sym, _∙_}
 use mathlib.Core.List.{List}
 use native.Mathlib.Numerals.{add-one}
@@ -10,9 +10,12 @@ use lib.ListN.{length, getD, set, take, replicate, length-set, length-replicate}
 use lib.Seq.{length-take-le, take-all, getD-take, ext-getD}
 use native.Mathlib.Nat.{le-refl}
 use borrow.Author.Tests.{le-leb, lt-leb, leb-true, leb-false}
+use mathlib.Core.Bool.{true, _&&_}
+use Rattle.meaning.proofs.Facts.{and-left}
+use Rattle.meaning.specs.Limits.{mostVars, mostOps}
 use Rattle.refusals.specs.declared.Refusal.the-variants.{TableTooShort}
 use Rattle.tables.specs.declared.Counts.{Counts}
-use Rattle.tables.specs.Layout.{preRow, effRow, factsRoom, costsRoom}
+use Rattle.tables.specs.Layout.{preRow, effRow, factsRoom, costsRoom, place, Tables, sharesRoom}
 use Rattle.tables.specs.Task.{stateOf, tables}
 use Rattle.tables.specs.Steps.{overwritten}
 use Rattle.scan.specs.Scan.{roomy, tablesFault, inputFault}
@@ -23,7 +26,7 @@ use Rattle.sequences.specs.Judging.{judgedOf}
 use Rattle.records.specs.declared.OpRecord.{OpRecord}
 use Rattle.records.specs.declared.laying.Laid.{Laid}
 use Rattle.records.specs.Records.{recordAt, atMost, counted, rowLaid, laidOne, laidOf, blank, recordsTables}
-use Rattle.records.specs.Parts.{copyOf, laidJudged}
+use Rattle.records.specs.Inside.Parts.{copyOf, laidJudged}
 
 -- ---- at most a limit
 
@@ -43,7 +46,7 @@ at-most-number limit n =
 
 -- ---- a row of facts, place by place
 
-pub row-next : (facts values t : List ℕ) (row m : ℕ) → t ≡ rowLaid facts row values m → set t (row * 8 + m) (getD values m 0) ≡ rowLaid facts row values (m + 1)
+pub row-next : (facts values t : List ℕ) (row m : ℕ) → t ≡ rowLaid facts row values m → set t (place row m) (getD values m 0) ≡ rowLaid facts row values (m + 1)
 unfolding rowLaid
 row-next facts values t row m p = rw (add-one, p) refl
 
@@ -62,10 +65,10 @@ laid-next rows t u w o p q = rw (add-one, ← p, q) refl
 
 -- ---- the copy, and judging over it
 
-pub copied-whole : (facts l : List ℕ) (k : ℕ) → l ≡ overwritten (stateOf facts) (replicate 1624 0) k → k ≤ 1624 → 1624 ≤ k
-    → record { facts = l; costs = replicate 64 0 } ≡ copyOf facts
+pub copied-whole : (facts l : List ℕ) (k : ℕ) → l ≡ overwritten (stateOf facts) (replicate factsRoom 0) k → k ≤ factsRoom → factsRoom ≤ k
+    → record { facts = l; costs = replicate costsRoom 0 } ≡ copyOf facts
 copied-whole facts l k p h g =
-    ap (λ (x : List ℕ). record { facts = x; costs = replicate 64 0 }) (filled-end (stateOf facts) (replicate 1624 0) l 1624 k p h g)
+    ap (λ (x : List ℕ). record { facts = x; costs = replicate costsRoom 0 }) (filled-end (stateOf facts) (replicate factsRoom 0) l factsRoom k p h g)
 
 module _ (c d : Counts) (room n : ℕ) (t : Laid) (shares s ops : List ℕ) where
   pub judged-laid : (r : Judged) → factsRoom ≤ room → d ≡ counted c n → r ≡ judgedOf (tables d (t .facts) (t .costs) shares) s ops
@@ -77,21 +80,29 @@ pub judged-short : (c : Counts) (room n : ℕ) (t : Laid) (shares s ops : List �
 unfolding laidJudged
 judged-short c room n t shares s ops h = rw (lt-leb factsRoom room h)
 
+-- tables that have their rooms have it for the facts
+pub room-facts : (t : Tables) → roomy t ≡ true → factsRoom ≤ length (t .facts)
+unfolding roomy
+room-facts t e =
+    let both = leb factsRoom (length (t .facts)) && leb costsRoom (length (t .costs)) in
+    leb-true factsRoom (length (t .facts))
+    (and-left (leb factsRoom (length (t .facts))) (leb costsRoom (length (t .costs))) (and-left both (leb sharesRoom (length (t .shares))) e))
+
 -- ---- nothing changes its length
 
 pub length-row : (facts values : List ℕ) (row n : ℕ) → length (rowLaid facts row values n) ≡ length facts
 unfolding rowLaid
 length-row facts values row zero = refl
 length-row facts values row (suc n) =
-    length-set (rowLaid facts row values n) (row * 8 + n) (getD values n 0) ∙ length-row facts values row n
+    length-set (rowLaid facts row values n) (place row n) (getD values n 0) ∙ length-row facts values row n
 
 pub length-laid-facts : (rows : List OpRecord) (n : ℕ) (t : Laid) → length (laidOf rows n t .facts) ≡ length (t .facts)
 unfolding laidOf laidOne
 length-laid-facts rows zero t = refl
 length-laid-facts rows (suc o) t =
     let u = laidOf rows o t in
-    length-row (rowLaid (u .facts) (preRow o) (recordAt rows o .pre) 8) (recordAt rows o .eff) (effRow o) 8
-    ∙ length-row (u .facts) (recordAt rows o .pre) (preRow o) 8
+    length-row (rowLaid (u .facts) (preRow o) (recordAt rows o .pre) mostVars) (recordAt rows o .eff) (effRow o) mostVars
+    ∙ length-row (u .facts) (recordAt rows o .pre) (preRow o) mostVars
     ∙ length-laid-facts rows o t
 
 pub length-laid-costs : (rows : List OpRecord) (n : ℕ) (t : Laid) → length (laidOf rows n t .costs) ≡ length (t .costs)
@@ -116,22 +127,22 @@ short-refused : (c : Counts) (facts shares s ops : List ℕ) (rows : List OpReco
     → judgedOf (recordsTables c facts shares rows) s ops ≡ Refused TableTooShort
 unfolding recordsTables judgedOf inputFault tablesFault roomy
 short-refused c facts shares s ops rows h =
-    let e : length (laidOf rows (atMost 64 (length rows)) (blank facts) .facts) ≡ length facts
-    = length-laid-facts rows (atMost 64 (length rows)) (blank facts) ∙ ap length (take-all factsRoom facts (omega arith)) in
+    let e : length (laidOf rows (atMost mostOps (length rows)) (blank facts) .facts) ≡ length facts
+    = length-laid-facts rows (atMost mostOps (length rows)) (blank facts) ∙ ap length (take-all factsRoom facts (omega arith)) in
     rw (e, lt-leb factsRoom (length facts) h)
 
 module _ (c : Counts) (facts shares s ops : List ℕ) (rows : List OpRecord) where
-  laid-judged : laidJudged c (length facts) (length rows) (laidOf rows (atMost 64 (length rows)) (copyOf facts)) shares s ops
+  laid-judged : laidJudged c (length facts) (length rows) (laidOf rows (atMost mostOps (length rows)) (copyOf facts)) shares s ops
       ≡ judgedOf (recordsTables c facts shares rows) s ops
   unfolding laidJudged recordsTables
   laid-judged =
       by-cases (leb factsRoom (length facts))
-      (λ e. rw e (ap (λ (b : Laid). let t = laidOf rows (atMost 64 (length rows)) b in judgedOf (tables (counted c (length rows)) (t .facts) (t .costs) shares) s ops)
+      (λ e. rw e (ap (λ (b : Laid). let t = laidOf rows (atMost mostOps (length rows)) b in judgedOf (tables (counted c (length rows)) (t .facts) (t .costs) shares) s ops)
       (copied-blank facts (leb-true factsRoom (length facts) e))))
       (λ e. rw e (sym (short-refused c facts shares s ops rows (omega (arith, leb-false factsRoom (length facts) e)))))
 
   -- the answer from what the three calls answered
-  pub judged-records : (t g : Laid) (r : Judged) → t ≡ copyOf facts → g ≡ laidOf rows (atMost 64 (length rows)) t
+  pub judged-records : (t g : Laid) (r : Judged) → t ≡ copyOf facts → g ≡ laidOf rows (atMost mostOps (length rows)) t
       → r ≡ laidJudged c (length facts) (length rows) g shares s ops → r ≡ judgedOf (recordsTables c facts shares rows) s ops
   judged-records t g r p q e =
-      e ∙ ap (λ (x : Laid). laidJudged c (length facts) (length rows) x shares s ops) (q ∙ ap (laidOf rows (atMost 64 (length rows))) p) ∙ laid-judged
+      e ∙ ap (λ (x : Laid). laidJudged c (length facts) (length rows) x shares s ops) (q ∙ ap (laidOf rows (atMost mostOps (length rows))) p) ∙ laid-judged

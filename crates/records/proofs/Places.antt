@@ -7,7 +7,8 @@ use lib.Dec.{eqb}
 use lib.ListN.{length, getD}
 use lib.Seq.{getD-set-same, getD-set-other}
 use borrow.Author.Tests.{eqb-true, eqb-false}
-use Rattle.tables.specs.Layout.{preRow, effRow, preAt, effAt, costAt}
+use Rattle.meaning.specs.Limits.{mostVars, mostOps}
+use Rattle.tables.specs.Layout.{preRow, effRow, preAt, effAt, costAt, place, prePlace, effPlace}
 use Rattle.tables.proofs.Laws.{by-cases}
 use Rattle.records.specs.declared.OpRecord.{OpRecord}
 use Rattle.records.specs.declared.laying.Laid.{Laid}
@@ -17,57 +18,57 @@ use Rattle.records.proofs.Laws.{length-row, length-laid-facts, length-l
 -- ---- one row
 
 module _ (facts values : List ℕ) (row : ℕ) where
-  row-other : (n q : ℕ) → ((v : ℕ) → v < n → q ≡ row * 8 + v → ⊥) → getD (rowLaid facts row values n) q 0 ≡ getD facts q 0
+  row-other : (n q : ℕ) → ((v : ℕ) → v < n → q ≡ place row v → ⊥) → getD (rowLaid facts row values n) q 0 ≡ getD facts q 0
   unfolding rowLaid
   row-other zero q h = refl
   row-other (suc n) q h =
-      getD-set-other (rowLaid facts row values n) (row * 8 + n) q (getD values n 0) 0 (h n (omega arith))
+      getD-set-other (rowLaid facts row values n) (place row n) q (getD values n 0) 0 (h n (omega arith))
       ∙ row-other n q (λ v l. h v (omega arith))
 
-  row-there : (n v : ℕ) → v < n → row * 8 + n ≤ length facts → getD (rowLaid facts row values n) (row * 8 + v) 0 ≡ getD values v 0
+  row-there : (n v : ℕ) → v < n → place row n ≤ length facts → getD (rowLaid facts row values n) (place row v) 0 ≡ getD values v 0
   unfolding rowLaid
   row-there zero v l h = absurd (let z : ⊥ = omega arith in z)
   row-there (suc n) v l h =
       by-cases (eqb v n)
       (λ e.
       let p : v ≡ n = eqb-true v n e in
-      rw p (getD-set-same (rowLaid facts row values n) (row * 8 + n) (getD values n 0) 0 (omega (arith, length-row facts values row n))))
+      rw p (getD-set-same (rowLaid facts row values n) (place row n) (getD values n 0) 0 (omega (arith, length-row facts values row n))))
       (λ e.
-      getD-set-other (rowLaid facts row values n) (row * 8 + n) (row * 8 + v) (getD values n 0) 0 (λ p. omega (arith, eqb-false v n e))
+      getD-set-other (rowLaid facts row values n) (place row n) (place row v) (getD values n 0) 0 (λ p. omega (arith, eqb-false v n e))
       ∙ row-there n v (omega (arith, eqb-false v n e)) (omega arith))
 
 -- ---- one record
 
 module _ (t : Laid) (o : ℕ) (r : OpRecord) where
   -- a place in neither of its rows
-  one-other : (q : ℕ) → ((v : ℕ) → v < 8 → q ≡ preRow o * 8 + v → ⊥) → ((v : ℕ) → v < 8 → q ≡ effRow o * 8 + v → ⊥) → getD (laidOne t o r .facts) q 0 ≡ getD (t .facts) q 0
+  one-other : (q : ℕ) → ((v : ℕ) → v < mostVars → q ≡ prePlace o v → ⊥) → ((v : ℕ) → v < mostVars → q ≡ effPlace o v → ⊥) → getD (laidOne t o r .facts) q 0 ≡ getD (t .facts) q 0
   unfolding laidOne
   one-other q h g =
-      row-other (rowLaid (t .facts) (preRow o) (r .pre) 8) (r .eff) (effRow o) 8 q g ∙ row-other (t .facts) (r .pre) (preRow o) 8 q h
+      row-other (rowLaid (t .facts) (preRow o) (r .pre) mostVars) (r .eff) (effRow o) mostVars q g ∙ row-other (t .facts) (r .pre) (preRow o) mostVars q h
 
-  one-pre : (v : ℕ) → v < 8 → o < 64 → 1048 ≤ length (t .facts) → preAt (laidOne t o r .facts) o v ≡ getD (r .pre) v 0
+  one-pre : (v : ℕ) → v < mostVars → o < mostOps → 1048 ≤ length (t .facts) → preAt (laidOne t o r .facts) o v ≡ getD (r .pre) v 0
   unfolding laidOne
   one-pre v l few long =
-      row-other (rowLaid (t .facts) (preRow o) (r .pre) 8) (r .eff) (effRow o) 8 (preRow o * 8 + v) (λ u k e. omega arith)
-      ∙ row-there (t .facts) (r .pre) (preRow o) 8 v l (omega arith)
+      row-other (rowLaid (t .facts) (preRow o) (r .pre) mostVars) (r .eff) (effRow o) mostVars (prePlace o v) (λ u k e. omega arith)
+      ∙ row-there (t .facts) (r .pre) (preRow o) mostVars v l (omega arith)
 
-  one-eff : (v : ℕ) → v < 8 → o < 64 → 1048 ≤ length (t .facts) → effAt (laidOne t o r .facts) o v ≡ getD (r .eff) v 0
+  one-eff : (v : ℕ) → v < mostVars → o < mostOps → 1048 ≤ length (t .facts) → effAt (laidOne t o r .facts) o v ≡ getD (r .eff) v 0
   unfolding laidOne
   one-eff v l few long =
-      row-there (rowLaid (t .facts) (preRow o) (r .pre) 8) (r .eff) (effRow o) 8 v l (omega (arith, length-row (t .facts) (r .pre) (preRow o) 8))
+      row-there (rowLaid (t .facts) (preRow o) (r .pre) mostVars) (r .eff) (effRow o) mostVars v l (omega (arith, length-row (t .facts) (r .pre) (preRow o) mostVars))
 
 -- ---- the first n records
 
 module _ (rows : List OpRecord) (t : Laid) where
   -- a place outside the operators' rows
-  pub laid-other : (n q : ℕ) → n ≤ 64 → ((o v : ℕ) → o < 128 → v < 8 → q ≡ preRow o * 8 + v → ⊥) → getD (laidOf rows n t .facts) q 0 ≡ getD (t .facts) q 0
+  pub laid-other : (n q : ℕ) → n ≤ mostOps → ((o v : ℕ) → o < 2 * mostOps → v < mostVars → q ≡ prePlace o v → ⊥) → getD (laidOf rows n t .facts) q 0 ≡ getD (t .facts) q 0
   unfolding laidOf
   laid-other zero q few h = refl
   laid-other (suc o) q few h =
-      one-other (laidOf rows o t) o (recordAt rows o) q (λ v l e. h o v (omega arith) l e) (λ v l e. h (64 + o) v (omega arith) l (omega arith))
+      one-other (laidOf rows o t) o (recordAt rows o) q (λ v l e. h o v (omega arith) l e) (λ v l e. h (mostOps + o) v (omega arith) l (omega arith))
       ∙ laid-other o q (omega arith) h
 
-  pub laid-pre : (n o v : ℕ) → n ≤ 64 → o < n → v < 8 → 1048 ≤ length (t .facts) → preAt (laidOf rows n t .facts) o v ≡ getD (recordAt rows o .pre) v 0
+  pub laid-pre : (n o v : ℕ) → n ≤ mostOps → o < n → v < mostVars → 1048 ≤ length (t .facts) → preAt (laidOf rows n t .facts) o v ≡ getD (recordAt rows o .pre) v 0
   unfolding laidOf
   laid-pre zero o v few l g long = absurd (let z : ⊥ = omega arith in z)
   laid-pre (suc n) o v few l g long =
@@ -76,10 +77,10 @@ module _ (rows : List OpRecord) (t : Laid) where
       let p : o ≡ n = eqb-true o n e in
       rw p (one-pre (laidOf rows n t) n (recordAt rows n) v g (omega arith) (omega (arith, length-laid-facts rows n t))))
       (λ e.
-      one-other (laidOf rows n t) n (recordAt rows n) (preRow o * 8 + v) (λ u k p. omega (arith, eqb-false o n e)) (λ u k p. omega arith)
+      one-other (laidOf rows n t) n (recordAt rows n) (prePlace o v) (λ u k p. omega (arith, eqb-false o n e)) (λ u k p. omega arith)
       ∙ laid-pre n o v (omega arith) (omega (arith, eqb-false o n e)) g long)
 
-  pub laid-eff : (n o v : ℕ) → n ≤ 64 → o < n → v < 8 → 1048 ≤ length (t .facts) → effAt (laidOf rows n t .facts) o v ≡ getD (recordAt rows o .eff) v 0
+  pub laid-eff : (n o v : ℕ) → n ≤ mostOps → o < n → v < mostVars → 1048 ≤ length (t .facts) → effAt (laidOf rows n t .facts) o v ≡ getD (recordAt rows o .eff) v 0
   unfolding laidOf
   laid-eff zero o v few l g long = absurd (let z : ⊥ = omega arith in z)
   laid-eff (suc n) o v few l g long =
@@ -88,7 +89,7 @@ module _ (rows : List OpRecord) (t : Laid) where
       let p : o ≡ n = eqb-true o n e in
       rw p (one-eff (laidOf rows n t) n (recordAt rows n) v g (omega arith) (omega (arith, length-laid-facts rows n t))))
       (λ e.
-      one-other (laidOf rows n t) n (recordAt rows n) (effRow o * 8 + v) (λ u k p. omega arith) (λ u k p. omega (arith, eqb-false o n e))
+      one-other (laidOf rows n t) n (recordAt rows n) (effPlace o v) (λ u k p. omega arith) (λ u k p. omega (arith, eqb-false o n e))
       ∙ laid-eff n o v (omega arith) (omega (arith, eqb-false o n e)) g long)
 
   pub laid-cost : (n o : ℕ) → o < n → n ≤ length (t .costs) → costAt (laidOf rows n t .costs) o ≡ recordAt rows o .cost

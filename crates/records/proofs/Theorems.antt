@@ -1,6 +1,6 @@
 -- What the contract of the entry over records gives: no second answer meets it; and a row that spells the operators of tables is judged as the tables are.
--- (That a row's length above 64 is refused as any such number is: Many.antt.) Assumes nothing.
-use Prim.Native.Nat.{ℕ, _+_, _*_, _≤_, _<_}
+-- (That a row's length above the limit is refused as any such number is: Many.antt.) Assumes nothing.
+use Prim.Native.Nat.{ℕ, _≤_, _<_}
 use mathlib.Core.Path.{_≡_, refl, ap, ap₂, sym, _∙_}
 use mathlib.Core.Bool.{Bool, true, _&&_}
 use mathlib.Core.List.{List}
@@ -9,9 +9,9 @@ use lib.Dec.{leb}
 use lib.ListN.{length, getD, take, length-replicate}
 use lib.Seq.{length-take-le, take-all, getD-take}
 use borrow.Author.Tests.{le-leb, leb-true, leb-false}
-use Rattle.meaning.proofs.Facts.{and-left}
+use Rattle.meaning.specs.Limits.{mostVars, mostOps}
 use Rattle.tables.specs.declared.Counts.{Counts}
-use Rattle.tables.specs.Layout.{Tables, place, factsRoom, costsRoom, sharesRoom, preAt, effAt, costAt}
+use Rattle.tables.specs.Layout.{Tables, place, factsRoom, costsRoom, sharesRoom, preAt, effAt, costAt, classPlace}
 use Rattle.tables.specs.Task.{tables}
 use Rattle.scan.specs.Scan.{roomy}
 use Rattle.tables.proofs.Laws.{by-cases}
@@ -19,8 +19,8 @@ use Rattle.sequences.specs.declared.judging.Judged.{Judged}
 use Rattle.sequences.specs.Judging.{judgedOf}
 use Rattle.records.specs.declared.OpRecord.{OpRecord}
 use Rattle.records.specs.declared.laying.Laid.{Laid}
-use Rattle.records.specs.Records.{recordAt, laidOf, blank, counted, recordsTables}
-use Rattle.records.proofs.Laws.{most-within, length-laid-facts, length-laid-costs}
+use Rattle.records.specs.Records.{recordAt, laidOf, blank, moreOps, counted, recordsTables}
+use Rattle.records.proofs.Laws.{most-within, room-facts, length-laid-facts, length-laid-costs}
 use Rattle.records.proofs.Places.{laid-other, laid-pre, laid-eff, laid-cost}
 use Rattle.records.proofs.Alike.{Agree, judged-same}
 
@@ -35,7 +35,7 @@ judge-records-unique c facts shares s ops rows r r′ p q = p ∙ sym q
 -- the row spells the operators of the tables t: as many, each with its cost, and with its facts at the task's variables; and t's costs have their room, as a row has it always
 pub record Spells (t : Tables) (rows : List OpRecord) : Type 0 where
   pub number : length rows ≡ t .counts .ops
-  pub few : t .counts .ops ≤ 64
+  pub few : t .counts .ops ≤ mostOps
   pub cost : (o : ℕ) → o < t .counts .ops → recordAt rows o .cost ≡ costAt (t .costs) o
   pub pre : (o v : ℕ) → o < t .counts .ops → v < t .counts .vars → getD (recordAt rows o .pre) v 0 ≡ preAt (t .facts) o v
   pub eff : (o v : ℕ) → o < t .counts .ops → v < t .counts .vars → getD (recordAt rows o .eff) v 0 ≡ effAt (t .facts) o v
@@ -59,12 +59,12 @@ module _ (t : Tables) (rows : List OpRecord) (h : Spells t rows) where
   room-same =
       ap (λ (b : Bool). b && leb sharesRoom (length (t .shares)))
       (ap₂ _&&_ (take-room (t .facts) factsRoom ∙ ap (leb factsRoom) (sym (length-laid-facts rows n (blank (t .facts)))))
-      (le-leb costsRoom (length (t .costs)) (h .room) ∙ sym (le-leb costsRoom (length (laid .costs)) (omega (arith, length-laid-costs rows n (blank (t .facts)), length-replicate {A = ℕ} 64 0)))))
+      (le-leb costsRoom (length (t .costs)) (h .room) ∙ sym (le-leb costsRoom (length (laid .costs))
+      (omega (arith, length-laid-costs rows n (blank (t .facts)), length-replicate {A = ℕ} costsRoom 0)))))
 
-  agree : roomy t ≡ true → t .counts .vars ≤ 8 → Agree (t .counts) (t .facts) (laid .facts) (t .costs) (laid .costs)
-  unfolding roomy
+  agree : roomy t ≡ true → t .counts .vars ≤ mostVars → Agree (t .counts) (t .facts) (laid .facts) (t .costs) (laid .costs)
   agree e few =
-      let long : factsRoom ≤ length (t .facts) = leb-true factsRoom (length (t .facts)) (and-left (leb factsRoom (length (t .facts))) (leb costsRoom (length (t .costs))) (and-left (leb factsRoom (length (t .facts)) && leb costsRoom (length (t .costs))) (leb sharesRoom (length (t .shares))) e)) in
+      let long = room-facts t e in
       let whole : length (take factsRoom (t .facts)) ≡ factsRoom = length-take-le factsRoom (t .facts) long in
       record {
         head =
@@ -74,16 +74,16 @@ module _ (t : Tables) (rows : List OpRecord) (h : Spells t rows) where
         eff = λ o v l g. sym (laid-eff rows (blank (t .facts)) n o v (h .few) l (omega arith) (omega arith) ∙ h .eff o v l g);
         class =
             λ m v x a l b.
-            sym (laid-other rows (blank (t .facts)) n (place (131 + (m * 8 + v)) x) (h .few) (λ o u i j e. omega arith)
-            ∙ getD-take factsRoom (t .facts) (place (131 + (m * 8 + v)) x) 0 (omega arith));
-        cost = λ o l. sym (laid-cost rows (blank (t .facts)) n o l (omega (arith, h .few, length-replicate {A = ℕ} 64 0)) ∙ h .cost o l);
+            sym (laid-other rows (blank (t .facts)) n (classPlace m v x) (h .few) (λ o u i j e. omega arith)
+            ∙ getD-take factsRoom (t .facts) (classPlace m v x) 0 (omega arith));
+        cost = λ o l. sym (laid-cost rows (blank (t .facts)) n o l (omega (arith, h .few, length-replicate {A = ℕ} costsRoom 0)) ∙ h .cost o l);
       }
 
   counts-same : counted (t .counts) n ≡ t .counts
-  counts-same = ap (λ (x : ℕ). record { vars = t .counts .vars; ops = x; maps = t .counts .maps }) (sym (most-within 65 n (omega (arith, h .few))))
+  counts-same = ap (λ (x : ℕ). record { vars = t .counts .vars; ops = x; maps = t .counts .maps }) (sym (most-within moreOps n (omega (arith, h .few))))
 
   pub records-agree : (s ops : List ℕ) → judgedOf (recordsTables (t .counts) (t .facts) (t .shares) rows) s ops ≡ judgedOf t s ops
   unfolding recordsTables
   records-agree s ops =
-      rw (h .number, sym (most-within 64 n (h .few)), counts-same)
+      rw (h .number, sym (most-within mostOps n (h .few)), counts-same)
       (sym (judged-same (t .counts) (t .facts) (laid .facts) (t .costs) (laid .costs) (t .shares) room-same agree s ops))

@@ -4,6 +4,7 @@ use mathlib.Core.Bool.{cond}
 use mathlib.Core.List.{List, []}
 use lib.Dec.{leb}
 use lib.ListN.{length, getD, set, take, replicate}
+use Rattle.meaning.specs.Limits.{mostVars, mostOps}
 use Rattle.tables.specs.declared.Counts.{Counts}
 use Rattle.tables.specs.Layout.{Tables, place, preRow, effRow, factsRoom, costsRoom}
 use Rattle.tables.specs.Task.{tables}
@@ -30,7 +31,7 @@ rowLaid facts row values (suc v) = set (rowLaid facts row values v) (place row v
 unfoldable pub laidOne : Laid → ℕ → OpRecord → Laid
 laidOne t o r =
     record {
-      facts = rowLaid (rowLaid (t .facts) (preRow o) (r .pre) 8) (effRow o) (r .eff) 8;
+      facts = rowLaid (rowLaid (t .facts) (preRow o) (r .pre) mostVars) (effRow o) (r .eff) mostVars;
       costs = set (t .costs) o (r .cost);
     }
 
@@ -43,12 +44,16 @@ laidOf rows (suc o) t = laidOne (laidOf rows o t) o (recordAt rows o)
 abbrev pub blank : List ℕ → Laid
 blank facts = record { facts = take factsRoom facts; costs = replicate costsRoom 0 }
 
--- the row's length is the number of operators; 65 stands for every number above 64, which is refused
-abbrev pub counted : Counts → ℕ → Counts
-counted c n = record { vars = c .vars; ops = atMost 65 n; maps = c .maps }
+-- one above the most operators: it stands for every larger number, all of which are refused
+abbrev pub moreOps : ℕ
+moreOps = suc mostOps
 
--- THE ROW'S TABLES: the row's records laid over the lent facts, at most 64 of them; the places of the operators beyond the row stay as they were lent, their costs are 0
+-- the row's length is the number of operators
+abbrev pub counted : Counts → ℕ → Counts
+counted c n = record { vars = c .vars; ops = atMost moreOps n; maps = c .maps }
+
+-- THE ROW'S TABLES: the row's records laid over the lent facts, at most as many as there may be; the places of the operators beyond the row stay as they were lent, their costs are 0
 unfoldable pub recordsTables : Counts → List ℕ → List ℕ → List OpRecord → Tables
 recordsTables c facts shares rows =
-    let t = laidOf rows (atMost 64 (length rows)) (blank facts) in
+    let t = laidOf rows (atMost mostOps (length rows)) (blank facts) in
     tables (counted c (length rows)) (t .facts) (t .costs) shares

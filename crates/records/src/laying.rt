@@ -1,8 +1,9 @@
 // The tables of a row of records, by value: the lent facts with the operators' rows laid over them, and the costs.
 ghost use mathlib.Core.Path.{_≡_};
 ghost use Prim.Native.Nat.{_<_};
+ghost use Rattle.meaning.specs.Limits.{mostVars, mostOps};
 ghost use Rattle.records.specs.Records.{atMost, counted, rowLaid, laidOne};
-ghost use Rattle.records.specs.Parts.{copyOf, laidJudged};
+ghost use Rattle.records.specs.Inside.Parts.{copyOf, laidJudged};
 use crate::OpRecord;
 use meaning::OpNo;
 use refusals::Refusal;
@@ -53,7 +54,7 @@ pub fn copied(facts: &[u8]) -> Laid
 // The facts with a record's 8 places laid at a row.
 pub fn with_row(facts: [u8; 1624], row: usize, values: [u8; 8]) -> [u8; 1624]
     requires { ⌜ row < 203 ⌝ }
-    ensures { λ r. ⌜ r ≡ rowLaid facts row values 8 ⌝ }
+    ensures { λ r. ⌜ r ≡ rowLaid facts row values mostVars ⌝ }
 {
     let mut laid = facts;
     let mut v = 0usize;
@@ -66,7 +67,7 @@ pub fn with_row(facts: [u8; 1624], row: usize, values: [u8; 8]) -> [u8; 1624]
 
 // The tables with an operator's record in its places.
 pub fn with_record(t: Laid, o: usize, r: OpRecord) -> Laid
-    requires { ⌜ o < 64 ⌝ }
+    requires { ⌜ o < mostOps ⌝ }
     ensures { λ u. ⌜ u ≡ laidOne t o r ⌝ }
 {
     let facts = t.facts;

@@ -2,6 +2,7 @@
 ghost use mathlib.Core.Path.{_≡_};
 ghost use Prim.Native.Nat.{_<_};
 ghost use lib.ListN.{length};
+ghost use Rattle.meaning.specs.Limits.{mostOps};
 ghost use Rattle.records.specs.Records.{recordAt, laidOf, atMost};
 use crate::OpRecord;
 use crate::laying::Laid;
@@ -19,7 +20,7 @@ pub fn record_at(rows: &[OpRecord], o: usize) -> OpRecord
 
 // The row's records in their places of the tables, one after the other; as many as there are places for.
 pub fn gather(rows: &[OpRecord], t: Laid) -> Laid
-    ensures { λ u. ⌜ u ≡ laidOf (now (rows .entry)) (atMost 64 (length (now (rows .entry)))) t ⌝ }
+    ensures { λ u. ⌜ u ≡ laidOf (now (rows .entry)) (atMost mostOps (length (now (rows .entry)))) t ⌝ }
 {
     let mut u = t;
     let n = at_most(OPS_MOST, rows.len());

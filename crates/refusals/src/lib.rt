@@ -1,4 +1,4 @@
-// The refusals of the paper's list, each with its place, and the numbers of operators and abstract states.
+// The refusals of the paper's list, each with its number and its place.
 ghost use mathlib.Core.Path.{_≡_};
 ghost use Rattle.refusals.specs.Listed.{numberOf, placeOf};
 

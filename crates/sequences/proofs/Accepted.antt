@@ -3,51 +3,38 @@ use Prim.Native.Nat.{ℕ}
 use mathlib.Core.Path.{_≡_, ap, sym, _∙_, subst}
 use mathlib.Core.List.{List}
 use denote.Ref.{RefT, now}
-use Rattle.refusals.specs.declared.Refusal.{Refusal}
 use Rattle.scan.specs.declared.Found.{Found}
-use Rattle.scan.specs.declared.Found.the-variants.{Clean, Fault}
+use Rattle.scan.specs.declared.Found.the-variants.{Clean}
 use Rattle.tables.specs.Layout.{Tables}
 use Rattle.tables.specs.Task.{sasOf, stateOf}
 use Rattle.scan.specs.Scan.{inputFault}
 use Rattle.scan.proofs.Validity.{clean-valid}
-use Rattle.sequences.specs.declared.judging.Judged.the-variants.{Refused}
 use Rattle.sequences.specs.declared.choosing.Choice.{Choice}
-use Rattle.sequences.specs.declared.choosing.Choice.the-variants.{Unread}
-use Rattle.sequences.specs.Stepping.{Usable}
-use Rattle.sequences.specs.Judging.{limited, unlessFault, judgedOf}
-use Rattle.sequences.specs.Choosing.{reachedOf, choiceOf, unlessUnread, chosenOf, listOf, stepsOf}
+use Rattle.sequences.specs.Inside.Steps.{Usable}
+use Rattle.sequences.specs.Judging.{limited, judgedUnless, judgedOf}
+use Rattle.sequences.specs.Choosing.{chosenFrom, chosenUnless, chosenOf, listOf, stepsOf}
 use Rattle.sequences.specs.Opening.{Opening, OpeningOf}
 use Rattle.sequences.proofs.Passing.{input-clean}
 use Rattle.scan.proofs.Found as F
 
 module _ (t : Tables) (s : List ℕ) where
   -- the steps may be walked
-  pub usable : (f : Found) → f ≡ inputFault t s → f ≡ Clean → Usable (sasOf t)
-  usable f e c =
+  pub usable : {f : Found} → f ≡ inputFault t s → f ≡ Clean → Usable (sasOf t)
+  usable e c =
       let ok = clean-valid t (input-clean t s (sym e ∙ c) .0) in
       record { vars = ok .vars .1; ops = ok .ops; costs = ok .costs }
 
-  -- judging
-  pub judged-clean : (f : Found) (ops : List ℕ) → f ≡ inputFault t s → f ≡ Clean → limited (sasOf t) (stateOf s) ops ≡ judgedOf t s ops
+  -- judging, as the fault that was found has it
+  pub judged-by : {f g : Found} (ops : List ℕ) → f ≡ inputFault t s → f ≡ g → judgedUnless g (limited (sasOf t) (stateOf s) ops) ≡ judgedOf t s ops
   unfolding judgedOf
-  judged-clean f ops e c = ap (λ (g : Found). unlessFault g (limited (sasOf t) (stateOf s) ops)) (sym c ∙ e)
-
-  pub judged-fault : (f : Found) (r : Refusal) (ops : List ℕ) → f ≡ inputFault t s → f ≡ Fault r → Refused r ≡ judgedOf t s ops
-  unfolding judgedOf
-  judged-fault f r ops e c = ap (λ (g : Found). unlessFault g (limited (sasOf t) (stateOf s) ops)) (sym c ∙ e)
+  judged-by ops e c = ap (λ (x : Found). judgedUnless x (limited (sasOf t) (stateOf s) ops)) (sym c ∙ e)
 
   -- choosing
-  pub chosen-clean : (f : Found) (a b : List ℕ) → f ≡ inputFault t s → f ≡ Clean
-      → choiceOf (reachedOf (sasOf t) (stateOf s) a) (reachedOf (sasOf t) (stateOf s) b) ≡ chosenOf t s a b
+  pub chosen-by : {f g : Found} (a b : List ℕ) → f ≡ inputFault t s → f ≡ g → chosenUnless g (chosenFrom (sasOf t) (stateOf s) a b) ≡ chosenOf t s a b
   unfolding chosenOf
-  chosen-clean f a b e c =
-      ap (λ (g : Found). unlessUnread g (choiceOf (reachedOf (sasOf t) (stateOf s) a) (reachedOf (sasOf t) (stateOf s) b))) (sym c ∙ e)
-
-  pub chosen-fault : (f : Found) (r : Refusal) (a b : List ℕ) → f ≡ inputFault t s → f ≡ Fault r → Unread r ≡ chosenOf t s a b
-  unfolding chosenOf
-  chosen-fault f r a b e c =
-      ap (λ (g : Found). unlessUnread g (choiceOf (reachedOf (sasOf t) (stateOf s) a) (reachedOf (sasOf t) (stateOf s) b))) (sym c ∙ e)
+  chosen-by a b e c = ap (λ (x : Found). chosenUnless x (chosenFrom (sasOf t) (stateOf s) a b)) (sym c ∙ e)
 
   -- the opening part of the choice that was made
-  pub opening-of : (a b r : RefT (List ℕ)) (d e : Choice) → d ≡ chosenOf t s (now a) (now b) → d ≡ e → Opening r (listOf e a b) (stepsOf e) → OpeningOf t s a b r
-  opening-of a b r d e p q o = subst (λ (x : Choice). Opening r (listOf x a b) (stepsOf x)) (sym q ∙ p) o
+  pub opening-of : (a b : RefT (List ℕ)) {r : RefT (List ℕ)} {d : Choice} (e : Choice) → d ≡ chosenOf t s (now a) (now b) → d ≡ e
+      → Opening r (listOf e a b) (stepsOf e) → OpeningOf t s a b r
+  opening-of a b {r = r} e p q o = subst (λ (x : Choice). Opening r (listOf x a b) (stepsOf x)) (sym q ∙ p) o

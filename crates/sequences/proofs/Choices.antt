@@ -19,7 +19,7 @@ use Rattle.sequences.specs.declared.choosing.Choice.{Choice}
 use Rattle.sequences.specs.declared.choosing.Choice.the-variants.{FirstPart, SecondPart, NoPart, Unread}
 use Rattle.scan.specs.Scan.{inputFault}
 use Rattle.meaning.specs.Limits.{mostSteps}
-use Rattle.sequences.specs.Choosing.{reachedOf, choiceOf, unlessUnread, chosenOf}
+use Rattle.sequences.specs.Choosing.{reachedOf, choiceOf, chosenFrom, chosenUnless, chosenOf}
 use Rattle.sequences.proofs.Moments.{Moment, moment-of, moment-least, out-none}
 
 -- every opening part of a list within the limit that passes costs at least p
@@ -101,8 +101,6 @@ chosen-promised t s a b = at (inputFault t s) refl
     keeps NoPart e h = (e, none-passes S (stateOf s) a (h .0), none-passes S (stateOf s) b (h .1))
     keeps (Unread r) e h = absurd h
 
-    at : (f : Found) → inputFault t s ≡ f
-        → Promised t s a b (unlessUnread f (choiceOf (reachedOf S (stateOf s) a) (reachedOf S (stateOf s) b)))
-    at Clean e =
-        keeps (choiceOf (reachedOf S (stateOf s) a) (reachedOf S (stateOf s) b)) e (choice-says (reachedOf S (stateOf s) a) (reachedOf S (stateOf s) b))
+    at : (f : Found) → inputFault t s ≡ f → Promised t s a b (chosenUnless f (chosenFrom S (stateOf s) a b))
+    at Clean e = keeps (chosenFrom S (stateOf s) a b) e (choice-says (reachedOf S (stateOf s) a) (reachedOf S (stateOf s) b))
     at (Fault r) e = e

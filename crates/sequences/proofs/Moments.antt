@@ -1,7 +1,7 @@
 -- The first moment a goal holds: what the walk up to it finds is the shortest opening part that passes, and so the cheapest. Assumes nothing.
 use Prim.Native.Nat.{ℕ, zero, suc, _+_, _≤_, _<_}
 use mathlib.Core.Path.{_≡_, refl, sym, _∙_, subst}
-use mathlib.Core.Bool.{Bool, true, false, cond, false≢true}
+use mathlib.Core.Bool.{true, false, false≢true}
 use mathlib.Core.List.{List, [], _∷_}
 use native.Mathlib.Omega.{arith}
 use lib.Dec.{leb}
@@ -11,14 +11,12 @@ use Rattle.meaning.specs.Sas.{State, Sas, after, Passes, paid}
 use Rattle.meaning.specs.Views.{complies}
 use Rattle.meaning.proofs.Facts.{complies-true, true-complies}
 use Rattle.tables.proofs.Laws.{by-cases}
-use Rattle.sequences.specs.declared.stepping.Stepped.{Stepped}
-use Rattle.sequences.specs.declared.stepping.Stepped.the-variants.{Ran, NoSuch, MayNot}
-use Rattle.sequences.specs.declared.choosing.Reached.{Reached}
+use Rattle.sequences.specs.declared.stepping.Stepped.the-variants.{Ran}
 use Rattle.sequences.specs.declared.choosing.Reached.the-variants.{After, Out}
 use Rattle.sequences.specs.Stepping.{stepOf}
 use Rattle.meaning.specs.Limits.{mostSteps}
-use Rattle.sequences.specs.Choosing.{orOut, reachedFrom, reachedOf}
-use Rattle.sequences.proofs.Laws.{step-taken, reached-goal}
+use Rattle.sequences.specs.Choosing.{reachedFrom, reachedOf}
+use Rattle.sequences.proofs.Laws.{apart-taken, cond-held, step-taken, reached-goal}
 use Rattle.sequences.proofs.Passing.{takes}
 
 -- a goal first holds after n steps of the list, which cost q together
@@ -35,13 +33,8 @@ paid-more p os (suc n) zero h = absurd (let z : ⊥ = omega arith in z)
 paid-more p [] (suc n) (suc j) h = omega arith
 paid-more p (o ∷ os) (suc n) (suc j) h = omega (arith, paid-more p os n j (omega arith))
 
-out-after : (m : Stepped) (f : ℕ → Reached) (n q : ℕ) → orOut m f ≡ After n q → (x : ℕ) × (m ≡ Ran x) × (f x ≡ After n q)
-out-after (Ran x) f n q e = (x, refl, e)
-out-after NoSuch f n q e = absurd (let z : _≡_ {A = ℕ} 0 1 = cc in omega arith)
-out-after MayNot f n q e = absurd (let z : _≡_ {A = ℕ} 0 1 = cc in omega arith)
-
-after-out : {A : Type 0} (r : Reached) (n q : ℕ) → r ≡ After n q → r ≡ Out → A
-after-out r n q e o = absurd (let z : _≡_ {A = ℕ} 0 1 = cc in omega arith)
+not-after : (n q : ℕ) → Out ≡ After n q → ⊥
+not-after n q e = let z : _≡_ {A = ℕ} 0 1 = cc in omega arith
 
 module _ (S : Sas) where
   -- no goal holds here, so the empty opening part doesn't pass
@@ -82,11 +75,11 @@ module _ (S : Sas) where
   pub reached-moment : (os : List ℕ) (s : State) (k p n q : ℕ) → reachedFrom S k p s os ≡ After n q → Finds os s k p n q
   unfolding reachedFrom
   reached-moment [] s k p n q e =
-      by-cases (complies S (S .goal) s) (finds-here [] s k p n q e) (λ g. after-out (reachedFrom S k p s []) n q e (rw g))
+      by-cases (complies S (S .goal) s) (finds-here [] s k p n q e) (λ g. absurd (not-after n q (rw g at e)))
   reached-moment (o ∷ os) s k p n q e =
       by-cases (complies S (S .goal) s) (finds-here (o ∷ os) s k p n q e)
       (λ g.
-      let t = out-after (stepOf S s o) (λ x. reachedFrom S (suc k) (p + x) (after S o s) os) n q (rw g at e) in
+      let t = apart-taken (stepOf S s o) (λ x. reachedFrom S (suc k) (p + x) (after S o s) os) (not-after n q) (not-after n q) (rw g at e) in
       let r = reached-moment os (after S o s) (suc k) (p + t .0) n q (t .2) in
       (suc (r .0), t .0 + r .1, omega (arith, r .2), omega (arith, r .3), onward s o (t .0) (r .0) (r .1) os g (t .1) (r .4)))
 
@@ -103,10 +96,6 @@ module _ (S : Sas) where
 
   -- ---- a list of any length
 
-  cond-after : (b : Bool) (r : Reached) (n q : ℕ) → cond b r Out ≡ After n q → (b ≡ true) × (r ≡ After n q)
-  cond-after true r n q e = (refl, e)
-  cond-after false r n q e = after-out Out n q e refl
-
   from-start : (s : State) (os : List ℕ) (n q : ℕ) → Finds os s 0 0 n q → Moment S s os n q
   from-start s os n q r =
       subst (λ (a : ℕ). Moment S s os a q) (omega (arith, r .2)) (subst (λ (b : ℕ). Moment S s os (r .0) b) (omega (arith, r .3)) (r .4))
@@ -114,7 +103,7 @@ module _ (S : Sas) where
   pub moment-of : (s : State) (os : List ℕ) (n q : ℕ) → reachedOf S s os ≡ After n q → (length os ≤ mostSteps) × Moment S s os n q
   unfolding reachedOf
   moment-of s os n q e =
-      let t = cond-after (leb (length os) mostSteps) (reachedFrom S 0 0 s os) n q e in
+      let t = cond-held (leb (length os) mostSteps) (reachedFrom S 0 0 s os) (not-after n q) e in
       (leb-true (length os) mostSteps (t .0), from-start s os n q (reached-moment os s 0 0 n q (t .1)))
 
   -- no opening part that passes is cheaper than the one at the first moment
@@ -128,4 +117,4 @@ module _ (S : Sas) where
   unfolding reachedOf
   out-none s os j e l h =
       let r = passes-reached os s 0 0 j h in
-      after-out (reachedFrom S 0 0 s os) (r .0) (r .1) (r .2) (sym (rw (le-leb (length os) mostSteps l)) ∙ e)
+      not-after (r .0) (r .1) (sym e ∙ rw (le-leb (length os) mostSteps l) (r .2))

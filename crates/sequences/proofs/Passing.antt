@@ -1,7 +1,6 @@
 -- Judging says passed exactly for the sequences that pass. Assumes nothing.
 use Prim.Native.Nat.{ℕ, suc, _+_, _≤_}
 use mathlib.Core.Path.{_≡_, refl, ap, _∙_}
-use mathlib.Core.Bool.{Bool, true, false, cond}
 use mathlib.Core.List.{List, [], _∷_}
 use mathlib.Core.Logic.{_↔_}
 use native.Mathlib.Omega.{arith}
@@ -9,7 +8,7 @@ use lib.Dec.{leb}
 use lib.ListN.{length}
 use borrow.Author.Tests.{leb-true, le-leb, lt-ltb}
 use Rattle.refusals.specs.declared.Refusal.{Refusal}
-use Rattle.refusals.specs.declared.Refusal.the-variants.{SequenceTooLong, NoGoal}
+use Rattle.refusals.specs.declared.Refusal.the-variants.{NoSuchOperator, SequenceTooLong, MayNotRun, NoGoal}
 use Rattle.meaning.specs.Sas.{State, Sas, MayRun, after, Passes, paid}
 use Rattle.meaning.specs.Views.{complies}
 use Rattle.meaning.proofs.Facts.{complies-true, true-complies}
@@ -18,29 +17,22 @@ use Rattle.scan.specs.declared.Found.the-variants.{Clean, Fault}
 use Rattle.tables.specs.Layout.{Tables}
 use Rattle.tables.specs.Task.{sasOf, stateOf}
 use Rattle.scan.specs.Scan.{_then_, tablesFault, stateFault, inputFault}
-use Rattle.sequences.specs.declared.stepping.Stepped.{Stepped}
-use Rattle.sequences.specs.declared.stepping.Stepped.the-variants.{Ran, NoSuch, MayNot}
+use Rattle.sequences.specs.declared.stepping.Stepped.the-variants.{Ran}
 use Rattle.sequences.specs.declared.judging.Judged.{Judged}
 use Rattle.sequences.specs.declared.judging.Judged.the-variants.{Passed, Refused}
 use Rattle.sequences.specs.Stepping.{stepOf}
 use Rattle.meaning.specs.Limits.{mostSteps}
-use Rattle.sequences.specs.Judging.{onto, walked, limited, unlessFault, judgedOf}
-use Rattle.sequences.proofs.Laws.{step-taken}
+use Rattle.sequences.specs.Judging.{walked, limited, judgedUnless, judgedOf}
+use Rattle.sequences.proofs.Laws.{apart-taken, cond-held, step-taken}
 
--- ---- a test, a step and a fault that let pass
+-- ---- what lets pass
 
-cond-passed : (b : Bool) (j : Judged) (r : Refusal) (c : ℕ) → cond b j (Refused r) ≡ Passed c → (b ≡ true) × (j ≡ Passed c)
-cond-passed true j r c e = (refl, e)
-cond-passed false j r c e = absurd (let z : _≡_ {A = ℕ} 0 1 = cc in omega arith)
+not-passed : (r : Refusal) (c : ℕ) → Refused r ≡ Passed c → ⊥
+not-passed r c e = let z : _≡_ {A = ℕ} 0 1 = cc in omega arith
 
-onto-passed : (m : Stepped) (k : ℕ) (f : ℕ → Judged) (c : ℕ) → onto m k f ≡ Passed c → (x : ℕ) × (m ≡ Ran x) × (f x ≡ Passed c)
-onto-passed (Ran x) k f c e = (x, refl, e)
-onto-passed NoSuch k f c e = absurd (let z : _≡_ {A = ℕ} 0 1 = cc in omega arith)
-onto-passed MayNot k f c e = absurd (let z : _≡_ {A = ℕ} 0 1 = cc in omega arith)
-
-fault-passed : (f : Found) (j : Judged) (c : ℕ) → unlessFault f j ≡ Passed c → (f ≡ Clean) × (j ≡ Passed c)
+fault-passed : (f : Found) (j : Judged) (c : ℕ) → judgedUnless f j ≡ Passed c → (f ≡ Clean) × (j ≡ Passed c)
 fault-passed Clean j c e = (refl, e)
-fault-passed (Fault r) j c e = absurd (let z : _≡_ {A = ℕ} 0 1 = cc in omega arith)
+fault-passed (Fault r) j c e = absurd (not-passed r c e)
 
 both-clean : (f g : Found) → f then g ≡ Clean → (f ≡ Clean) × (g ≡ Clean)
 both-clean Clean g e = (refl, e)
@@ -71,11 +63,11 @@ module _ (S : Sas) where
   pub walked-passes : (os : List ℕ) (s : State) (k p c : ℕ) → walked S k p s os ≡ Passed c → Passes S os s × (c ≡ p + paid (S .cost) os)
   unfolding walked
   walked-passes [] s k p c e =
-      let t = cond-passed (complies S (S .goal) s) (Passed p) (NoGoal k) c e in
+      let t = cond-held (complies S (S .goal) s) (Passed p) (not-passed (NoGoal k) c) e in
       let q : p ≡ c = cc in
       ((tt, complies-true S (S .goal) s (t .0)), omega arith)
   walked-passes (o ∷ os) s k p c e =
-      let t = onto-passed (stepOf S s o) (suc k) (λ x. walked S (suc k) (p + x) (after S o s) os) c e in
+      let t = apart-taken (stepOf S s o) (λ x. walked S (suc k) (p + x) (after S o s) os) (not-passed (NoSuchOperator (suc k)) c) (not-passed (MayNotRun (suc k)) c) e in
       let u = step-taken S s o (t .0) (t .1) in
       let r = walked-passes os (after S o s) (suc k) (p + t .0) c (t .2) in
       (((u .exists, u .runs, r .0 .0), r .0 .1), omega (arith, r .1, u .cost))
@@ -97,7 +89,7 @@ passed-exactly t s ops c = (says, passes)
     says e =
         let f = fault-passed (inputFault t s) (limited (sasOf t) (stateOf s) ops) c e in
         let i = input-clean t s (f .0) in
-        let l = cond-passed (leb (length ops) mostSteps) (walked (sasOf t) 0 0 (stateOf s) ops) SequenceTooLong c (f .1) in
+        let l = cond-held (leb (length ops) mostSteps) (walked (sasOf t) 0 0 (stateOf s) ops) (not-passed SequenceTooLong c) (f .1) in
         let w = walked-passes (sasOf t) ops (stateOf s) 0 0 c (l .1) in
         record { tables = i .0; state = i .1; length = leb-true (length ops) mostSteps (l .0); passes = w .0; cost = omega (arith, w .1) }
 

@@ -43,14 +43,18 @@ choiceOf (After n p) Out = FirstPart n p
 choiceOf Out (After m q) = SecondPart m q
 choiceOf Out Out = NoPart
 
+-- of two lists from a state
+abbrev pub chosenFrom : Sas → State → List ℕ → List ℕ → Choice
+chosenFrom S s a b = choiceOf (reachedOf S s a) (reachedOf S s b)
+
 -- a fault of what was handed in decides before all
-abbrev pub unlessUnread : Found → Choice → Choice
-unlessUnread Clean d = d
-unlessUnread (Fault r) d = Unread r
+abbrev pub chosenUnless : Found → Choice → Choice
+chosenUnless Clean d = d
+chosenUnless (Fault r) d = Unread r
 
 -- THE CHEAPER OF TWO: which opening part, of how many steps, at what cost
 unfoldable pub chosenOf : Tables → List ℕ → List ℕ → List ℕ → Choice
-chosenOf t s a b = unlessUnread (inputFault t s) (choiceOf (reachedOf (sasOf t) (stateOf s) a) (reachedOf (sasOf t) (stateOf s) b))
+chosenOf t s a b = chosenUnless (inputFault t s) (chosenFrom (sasOf t) (stateOf s) a b)
 
 -- the answer: the first, the second or neither, with the cost
 abbrev pub namedOf : Choice → Cheaper

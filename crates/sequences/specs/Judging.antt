@@ -32,10 +32,10 @@ unfoldable pub limited : Sas → State → List ℕ → Judged
 limited S s ops = cond (leb (length ops) mostSteps) (walked S 0 0 s ops) (Refused SequenceTooLong)
 
 -- a fault of what was handed in decides before all
-abbrev pub unlessFault : Found → Judged → Judged
-unlessFault Clean j = j
-unlessFault (Fault r) j = Refused r
+abbrev pub judgedUnless : Found → Judged → Judged
+judgedUnless Clean j = j
+judgedUnless (Fault r) j = Refused r
 
 -- JUDGING: the tables, the state, the length, the steps in order, the goal
 unfoldable pub judgedOf : Tables → List ℕ → List ℕ → Judged
-judgedOf t s ops = unlessFault (inputFault t s) (limited (sasOf t) (stateOf s) ops)
+judgedOf t s ops = judgedUnless (inputFault t s) (limited (sasOf t) (stateOf s) ops)

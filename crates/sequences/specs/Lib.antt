@@ -2,3 +2,4 @@ pub mod Stepping
 pub mod Judging
 pub mod Choosing
 pub mod Opening
+pub mod Inside

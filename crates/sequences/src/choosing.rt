@@ -3,9 +3,9 @@ ghost use mathlib.Core.Path.{_≡_};
 ghost use Prim.Native.Nat.{_≤_};
 ghost use lib.ListN.{length};
 ghost use Rattle.tables.specs.Task.{stateOf, tables, lent};
-ghost use Rattle.sequences.specs.Stepping.{Usable, sas};
+ghost use Rattle.sequences.specs.Inside.Steps.{Usable, sas};
 ghost use Rattle.meaning.specs.Limits.{mostSteps};
-ghost use Rattle.sequences.specs.Choosing.{reachedFrom, reachedOf, choiceOf, chosenOf, namedOf};
+ghost use Rattle.sequences.specs.Choosing.{reachedFrom, reachedOf, choiceOf, chosenFrom, chosenOf, namedOf};
 ghost use Rattle.sequences.specs.Opening.{Opening};
 use crate::stepping::Stepped;
 use crate::stepping::copy;
@@ -111,7 +111,7 @@ pub fn choose_lists(
     b: &[u32],
 ) -> Choice
     requires { ⌜ Usable (sas c (now facts) (now costs)) ⌝ }
-    ensures { λ r. ⌜ r ≡ choiceOf (reachedOf (sas c (now (facts .entry)) (now (costs .entry))) (stateOf (now (s .entry))) (now (a .entry))) (reachedOf (sas c (now (facts .entry)) (now (costs .entry))) (stateOf (now (s .entry))) (now (b .entry))) ⌝ }
+    ensures { λ r. ⌜ r ≡ chosenFrom (sas c (now (facts .entry)) (now (costs .entry))) (stateOf (now (s .entry))) (now (a .entry)) (now (b .entry)) ⌝ }
 {
     let start = copy(c.vars, s);
     let first = reach_within(c, facts, costs, start, a);

@@ -3,7 +3,7 @@ ghost use mathlib.Core.Path.{_≡_};
 ghost use Prim.Native.Nat.{_≤_};
 ghost use lib.ListN.{length};
 ghost use Rattle.tables.specs.Task.{stateOf};
-ghost use Rattle.sequences.specs.Stepping.{Usable, sas};
+ghost use Rattle.sequences.specs.Inside.Steps.{Usable, sas};
 ghost use Rattle.meaning.specs.Limits.{mostSteps};
 ghost use Rattle.sequences.specs.Judging.{onto, walked, limited};
 use crate::stepping::Stepped;

@@ -1,4 +1,4 @@
--- `cheaper` meets its contract. Assumes nothing.
+-- `cheaper` meets its contract: the choice between the lists, named. Assumes nothing.
 use mathlib.Core.Path.{_∙_, ap}
 use borrow.Author.Needs.{needs}
 use Rattle.sequences.specs.Choosing.{namedOf}

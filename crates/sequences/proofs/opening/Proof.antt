@@ -1,30 +1,27 @@
--- `opening` meets its contract. Assumes nothing.
+-- `opening` meets its contract: the part is of the list, and of the steps, that the choice names. Assumes nothing.
+use Prim.Native.Nat.{ℕ}
+use mathlib.Core.Path.{_≡_}
+use mathlib.Core.List.{List}
+use denote.Ref.{RefT}
 use borrow.Author.Needs.{needs}
 use Rattle.tables.specs.Task.{tables}
+use Rattle.sequences.specs.declared.choosing.Choice.{Choice}
 use Rattle.sequences.specs.declared.choosing.Choice.the-variants.{FirstPart, SecondPart, NoPart, Unread}
+use Rattle.sequences.specs.Choosing.{listOf, stepsOf}
+use Rattle.sequences.specs.Opening.{Opening, OpeningOf}
 use Rattle.sequences.proofs.Accepted.{opening-of}
 use Rattle.sequences.proofs.opening.Statement.{statement}
 use Rattle.sequences.proofs.opening.Tie as tie
 
-returns : tie.Need-returns
-returns c =
-    let a = c .before .before .before .before .before .before .before .before .before .before .before .args in
-    opening-of (tables (a .c) (a .facts .now) (a .costs .now) (a .shares .now)) (a .s .now) (a .a) (a .b) (c .front .result) (c .before .before .before .before .choice-of .result) (FirstPart _ _) (c .before .before .before .before .choice-of .ensures) (c .before .before .d .given .1) (c .front .ensures)
+-- once the choice is made, an answer that is the opening part of what it says is the answer
+abbrev start : tie.After-choice-of → tie.Start
+start x = x .before .before .before .before .before .before .before
 
-returns-2 : tie.Need-returns-2
-returns-2 c =
-    let a = c .before .before .before .before .before .before .before .before .before .before .before .args in
-    opening-of (tables (a .c) (a .facts .now) (a .costs .now) (a .shares .now)) (a .s .now) (a .a) (a .b) (c .front2 .result) (c .before .before .before .before .choice-of .result) (SecondPart _ _) (c .before .before .before .before .choice-of .ensures) (c .before .before .d2 .given .1) (c .front2 .ensures)
-
-returns-3 : tie.Need-returns-3
-returns-3 c =
-    let a = c .before .before .before .before .before .before .before .before .before .before .args in
-    opening-of (tables (a .c) (a .facts .now) (a .costs .now) (a .shares .now)) (a .s .now) (a .a) (a .b) (c .front3 .result) (c .before .before .before .choice-of .result) NoPart (c .before .before .before .choice-of .ensures) (c .before .enum-told .given .1) (c .front3 .ensures)
-
-returns-4 : tie.Need-returns-4
-returns-4 c =
-    let a = c .before .before .before .before .before .before .before .before .before .before .args in
-    opening-of (tables (a .c) (a .facts .now) (a .costs .now) (a .shares .now)) (a .s .now) (a .a) (a .b) (c .front4 .result) (c .before .before .before .choice-of .result) (Unread _) (c .before .before .before .choice-of .ensures) (c .before .enum-told2 .given .1) (c .front4 .ensures)
+made : (x : tie.After-choice-of) {r : RefT (List ℕ)} (d : Choice) → x .choice-of .result ≡ d
+    → let a = start x .args in Opening r (listOf d (a .a) (a .b)) (stepsOf d) → OpeningOf (tables (a .c) (a .facts .now) (a .costs .now) (a .shares .now)) (a .s .now) (a .a) (a .b) r
+made x d e o =
+    let a = start x .args in
+    opening-of (tables (a .c) (a .facts .now) (a .costs .now) (a .shares .now)) (a .s .now) (a .a) (a .b) d (x .choice-of .ensures) e o
 
 pub opening-spec : {M : Type 1} → statement M
 opening-spec =
@@ -39,7 +36,7 @@ opening-spec =
     (λ c κs. search needs)
     (λ c. search needs)
     (λ c κs. search needs)
-    returns
-    returns-2
-    returns-3
-    returns-4)
+    (λ c. made (c .before .before .before .before) (FirstPart _ _) (c .before .before .d .given .1) (c .front .ensures))
+    (λ c. made (c .before .before .before .before) (SecondPart _ _) (c .before .before .d2 .given .1) (c .front2 .ensures))
+    (λ c. made (c .before .before .before) NoPart (c .before .enum-told .given .1) (c .front3 .ensures))
+    (λ c. made (c .before .before .before) (Unread _) (c .before .enum-told2 .given .1) (c .front4 .ensures)))

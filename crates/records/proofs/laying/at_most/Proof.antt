@@ -1,4 +1,4 @@
--- `laying::at_most` meets its contract. Assumes nothing.
+-- `laying::at_most` meets its contract: by its test. Assumes nothing.
 use Rattle.records.proofs.Laws.{most-within, most-beyond}
 use Rattle.records.proofs.laying.at_most.Statement.{statement}
 use Rattle.records.proofs.laying.at_most.Tie as tie

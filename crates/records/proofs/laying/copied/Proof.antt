@@ -5,6 +5,7 @@ use native.Mathlib.Omega.{arith}
 use lib.ListN.{replicate}
 use borrow.Author.Needs.{needs}
 use Rattle.tables.proofs.Laws.{filled-next}
+use Rattle.tables.specs.Layout.{factsRoom}
 use Rattle.tables.specs.Steps.{overwritten}
 use Rattle.tables.specs.Task.{stateOf}
 use Rattle.records.proofs.Laws.{copied-whole}
@@ -12,10 +13,10 @@ use Rattle.records.proofs.laying.copied.Statement.{statement}
 use Rattle.records.proofs.laying.copied.Tie as tie
 
 abbrev Inv-loop : tie.InvT-loop
-Inv-loop facts copy₀ k₀ copy k = (k ≤ 1624) × (copy ≡ overwritten (stateOf facts) (replicate 1624 0) k)
+Inv-loop facts copy₀ k₀ copy k = (k ≤ factsRoom) × (copy ≡ overwritten (stateOf facts) (replicate factsRoom 0) k)
 
 abbrev μ-loop : tie.MeasureT-loop
-μ-loop facts copy₀ k₀ copy k = 1624 - k
+μ-loop facts copy₀ k₀ copy k = factsRoom - k
 
 loop-holds : tie.Need-loop-holds Inv-loop μ-loop
 unfolding overwritten
@@ -24,7 +25,7 @@ loop-holds c = (omega arith, refl)
 loop-again : tie.Need-loop-again Inv-loop μ-loop
 loop-again c =
     let l = c .before .before .loop in
-    (omega arith, filled-next (stateOf (c .before .before .before .before .args .facts .now)) (replicate 1624 0) (l .copy) (l .k) (c .byte-at .result) (l .inv .1) (c .byte-at .ensures))
+    (omega arith, filled-next (stateOf (c .before .before .before .before .args .facts .now)) (replicate factsRoom 0) (l .copy) (l .k) (c .byte-at .result) (l .inv .1) (c .byte-at .ensures))
 
 returns : tie.Need-returns Inv-loop μ-loop
 returns c =

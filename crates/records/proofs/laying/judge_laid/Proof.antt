@@ -1,4 +1,4 @@
--- `laying::judge_laid` meets its contract. Assumes nothing.
+-- `laying::judge_laid` meets its contract: the room of the lent facts decides, then judging over the laid tables. Assumes nothing.
 use native.Mathlib.Omega.{arith}
 use borrow.Author.Needs.{needs}
 use Rattle.records.proofs.Laws.{judged-laid, judged-short}

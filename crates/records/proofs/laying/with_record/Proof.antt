@@ -1,4 +1,4 @@
--- `laying::with_record` meets its contract. Assumes nothing.
+-- `laying::with_record` meets its contract: its two rows laid one after the other. Assumes nothing.
 use borrow.Author.Needs.{needs}
 use Rattle.records.specs.Records.{laidOne}
 use Rattle.records.proofs.laying.with_record.Statement.{statement}

@@ -3,16 +3,17 @@ use Prim.Native.Nat.{_≤_, _-_}
 use mathlib.Core.Path.{_≡_, refl}
 use native.Mathlib.Omega.{arith}
 use borrow.Author.Needs.{needs}
+use Rattle.meaning.specs.Limits.{mostVars}
 use Rattle.records.specs.Records.{rowLaid}
 use Rattle.records.proofs.Laws.{row-next, row-end}
 use Rattle.records.proofs.laying.with_row.Statement.{statement}
 use Rattle.records.proofs.laying.with_row.Tie as tie
 
 abbrev Inv-loop : tie.InvT-loop
-Inv-loop row values laid₀ v₀ laid v = (v ≤ 8) × (laid ≡ rowLaid laid₀ row values v)
+Inv-loop row values laid₀ v₀ laid v = (v ≤ mostVars) × (laid ≡ rowLaid laid₀ row values v)
 
 abbrev μ-loop : tie.MeasureT-loop
-μ-loop row values laid₀ v₀ laid v = 8 - v
+μ-loop row values laid₀ v₀ laid v = mostVars - v
 
 loop-holds : tie.Need-loop-holds Inv-loop μ-loop
 unfolding rowLaid
@@ -28,7 +29,7 @@ returns : tie.Need-returns Inv-loop μ-loop
 returns c =
     let a = c .before .before .args in
     let l = c .before .loop in
-    row-end (a .facts) (a .t3) (l .laid) (a .row) 8 (l .v) (l .inv .1) (omega arith) (omega arith)
+    row-end (a .facts) (a .t3) (l .laid) (a .row) mostVars (l .v) (l .inv .1) (omega arith) (omega arith)
 
 pub with-row-spec : {M : Type 1} → statement M
 with-row-spec =

@@ -23,9 +23,11 @@ use prog.Wp.{Heap, Out, Env, afterSeq, afterBlock, afterTurn, Calls, Loops, Wp, 
 use ghost.Atoms.{Atoms, sem}
 use contract.Monad.{Fun, fact}
 use contract.Running.{givenOf, tables, tablesOf}
-use types.Kit.{Given, Item, Sq, runs, ‵, raw, _⊛_, some, later, ⋆, anyQ, atRet, _$_, _∵_, !, qed, by, move, keep, use1, use0, use2, drop, split, join, pick, rewrite, fsplit, fjoin, suffices, frame, await, done}
+use types.Kit.{Given, Item, Sq, runs, ‵, raw, _⊛_, some, later, ⋆, anyQ, atRet, _$_, _∵_, !, qed, by, move, keep, use1, use0, use2, drop, split, join}
+use types.Kit.{pick, rewrite, fsplit, fjoin, suffices, frame, await, done}
 use types.Part.{whole, sub, look-in}
-use types.Run.{look, store, init, forget, stop, fld, from, load, lit, of-opd, bin, and-then, no-more, assigns, assigns-last, stays, leaves-loop, land, returns, enter, alloc1, alloc0, params1, pass1, pass0, free1, free0, exec}
+use types.Run.{look, store, init, forget, stop, fld, from, load, lit, of-opd, bin, and-then, no-more, assigns, assigns-last, stays, leaves-loop, land}
+use types.Run.{returns, enter, alloc1, alloc0, params1, pass1, pass0, free1, free0, exec}
 use sound.Loop.{loop-rule}
 use sound.WpLaws.{FmC, fmOf, WpFn-mono}
 use denote.RattleType.{owns}
@@ -46,6 +48,7 @@ use denote.Triple.Table.{entered, cited}
 use denote.Triple.Walked.{says, Stays, stay-none-slice, stay-none, walkOf, goes-none-slice, goes-none, Walks, ends-at, walked, walk-meets}
 use denote.Triple.Clauses.{ensured, lasts}
 use denote.Exit.{yes}
+use Rattle.meaning.specs.Limits.{mostOps}
 use Rattle.records.specs.Records.{recordAt, atMost, laidOne, laidOf}
 use Rattle.records.proofs.Laws.{at-most-limit, at-most-number, laid-none, laid-next}
 use Rattle.records.specs.declared.OpRecord.{OpRecord}
@@ -93,7 +96,8 @@ module _ {M : Type 1} (𝓤 : URA M) (H : Heap 𝓤) (A : Atoms 𝓤) (W : Given
   abbrev Start : Val → Val → Fml → Fml → Fml → (l₀ l₁ l₂ l₃ l₄ l₅ l₆ l₇ l₈ : ℕ) → List (Item 𝓤)
   Start v w P Q R l₀ l₁ l₂ l₃ l₄ l₅ l₆ l₇ l₈ = ‵ (froom word l₅ 0) ∷ ‵ (froom U′.mir l₃ 0) ∷ ‵ (froom word l₄ 0) ∷ ‵ (froom word l₆ 0) ∷ ‵ (froom tyBool l₇ 0) ∷ ‵ (froom T′.mir l₈ 0)
       ∷ ‵ (fat fullShare slice l₁ 0 v) ∷ ‵ (fat fullShare U′.mir l₂ 0 w) ∷ ‵ (froom U′.mir l₀ 0) ∷ ‵ P ∷ ‵ Q ∷ ‵ R
-      ∷ ‵ (fdies U′.mir l₀) ∷ ‵ (fdies slice l₁) ∷ ‵ (fdies U′.mir l₂) ∷ ‵ (fdies U′.mir l₃) ∷ ‵ (fdies word l₄) ∷ ‵ (fdies word l₅) ∷ ‵ (fdies word l₆) ∷ ‵ (fdies tyBool l₇) ∷ ‵ (fdies T′.mir l₈) ∷ []
+      ∷ ‵ (fdies U′.mir l₀) ∷ ‵ (fdies slice l₁) ∷ ‵ (fdies U′.mir l₂) ∷ ‵ (fdies U′.mir l₃) ∷ ‵ (fdies word l₄) ∷ ‵ (fdies word l₅) ∷ ‵ (fdies word l₆) ∷ ‵ (fdies tyBool l₇)
+      ∷ ‵ (fdies T′.mir l₈) ∷ []
 
   -- the entry, whatever is owned: the kernel checks it at variables
   enters : (P Q R : Fml) (v w : Val) → Holds (hasTy slice v) × WT v → Holds (hasTy U′.mir w) × WT w → (Kf : Val → SProp 𝓤)
@@ -116,13 +120,14 @@ module _ {M : Type 1} (𝓤 : URA M) (H : Heap 𝓤) (A : Atoms 𝓤) (mem : Mem
   abbrev With : Contract 𝓤
   With = tripleOf 𝓤 H A put.signature (put.spec 𝓤 H A mem run)
 
-module _ {M : Type 1} (𝓤 : URA M) (H : Heap 𝓤) (A : Atoms 𝓤) (W : Given 𝓤 H A) (mem : Memory → SProp 𝓤) (run : Routine → Fun 𝓤) (κ : Lft) (q : Share) (b o : ℕ) (γ : GName) (ys : List OpRecord) (t₀ : Laid) where
+module _ {M : Type 1} (𝓤 : URA M) (H : Heap 𝓤) (A : Atoms 𝓤) (W : Given 𝓤 H A) (mem : Memory → SProp 𝓤) (run : Routine → Fun 𝓤) (κ : Lft) (q : Share) (b o : ℕ) (γ : GName) (ys : List OpRecord)
+    (t₀ : Laid) where
   abbrev n : ℕ
   n = length ys
 
   -- how many records the loop takes
   abbrev bound : ℕ
-  bound = atMost 64 n
+  bound = atMost mostOps n
 
   abbrev s : RefT (List OpRecord)
   s = record { ptr = (b, o); name = γ; now = ys }
@@ -160,9 +165,6 @@ module _ {M : Type 1} (𝓤 : URA M) (H : Heap 𝓤) (A : Atoms 𝓤) (W : Given
       qed W [] ∵ nothing ! $ owned ! usize (Is usize) (uint-makes 𝓤 H A W w64) n _ (refl, fits) $ fjoin ! $
       owned ! usize (Is usize) (uint-makes 𝓤 H A W w64) 64 _ (refl, lit< tt) $ fjoin ! $ nothing ! $ join ! $ frame ! $ done !
 
-  said-most : (r : ℕ) → ent 𝓤 (ensured 𝓤 H A most.ended (most.clauses 𝓤 H A mem run) tt (64, (n, tt)) tt r) (fact 𝓤 (r ≡ bound))
-  said-most r = exE 𝓤 _ (λ ws. snd∗ 𝓤 (sem 𝓤 H A (lasts most.ended tt (64, (n, tt)) ws)) (fact 𝓤 (r ≡ bound)))
-
   -- ---- the call of `record_at`
   abbrev to-op : ℕ → OpAt 𝓤 H A mem run .Ghost
   to-op i = (((κ, tt), (q, tt), tt, (s, (i, tt)), (sliceVal (b, o) n ∷ [], (vint w64 i ∷ [], tt))), tt)
@@ -172,23 +174,18 @@ module _ {M : Type 1} (𝓤 : URA M) (H : Heap 𝓤) (A : Atoms 𝓤) (W : Given
       qed W (‵ (flft κ q) ∷ ‵ S ∷ []) ∵ says ! small $ nothing ! $ move ! (1 ∷ 0 ∷ []) $ join ! $ frame ! $
       nothing ! $ owned ! usize (Is usize) (uint-makes 𝓤 H A W w64) i _ (refl, fits) $ fjoin ! $ move ! (1 ∷ 0 ∷ []) $ fjoin ! $ done !
 
-  said-op : (i : ℕ) (r : OpRecord) → ent 𝓤 (ensured 𝓤 H A op.ended (op.clauses 𝓤 H A mem run) (κ, tt) (s, (i, tt)) tt r) (fact 𝓤 (r ≡ recordAt ys i))
-  said-op i r = exE 𝓤 _ (λ ws. snd∗ 𝓤 (sem 𝓤 H A (lasts op.ended (κ, tt) (s, (i, tt)) ws)) (fact 𝓤 (r ≡ recordAt ys i)))
-
   -- ---- the call of `with_record`
   abbrev to-with : Laid → Val → ℕ → OpRecord → Val → With 𝓤 H A mem run .Ghost
   to-with u w i r v = ((tt, tt, tt, (u, (i, (r, tt))), (w ∷ [], (vint w64 i ∷ [], (v ∷ [], tt)))), tt)
 
-  asks-with : (u : Laid) (w : Val) (i : ℕ) (r : OpRecord) (v : Val) → IsC u w → i < 64 → i < 2 ^ 64 → ent 𝓤 (sem 𝓤 H A (T.the-row .own r (v ∷ []))) (With 𝓤 H A mem run .pre (to-with u w i r v))
+  asks-with : (u : Laid) (w : Val) (i : ℕ) (r : OpRecord) (v : Val) → IsC u w → i < mostOps → i < 2 ^ 64 → ent 𝓤 (sem 𝓤 H A (T.the-row .own r (v ∷ []))) (With 𝓤 H A mem run .pre (to-with u w i r v))
   asks-with u w i r v is few fits =
       qed W (‵ (T.the-row .own r (v ∷ [])) ∷ []) ∵ says ! few $ nothing ! $ move ! (1 ∷ 0 ∷ []) $ fjoin ! $ owned ! usize (Is usize) (uint-makes 𝓤 H A W w64) i _ (refl, fits) $ fjoin ! $
       owned ! U.the-row (Is U.the-row) (LL.makes U.the-type U′.the-plain 𝓤 H A) u _ is $ fjoin ! $ nothing ! $ frame ! $ done !
 
-  said-with : (u : Laid) (i : ℕ) (r : OpRecord) (u′ : Laid) → ent 𝓤 (ensured 𝓤 H A put.ended (put.clauses 𝓤 H A mem run) tt (u, (i, (r, tt))) tt u′) (fact 𝓤 (u′ ≡ laidOne u i r))
-  said-with u i r u′ = exE 𝓤 _ (λ ws. snd∗ 𝓤 (sem 𝓤 H A (lasts put.ended tt (u, (i, (r, tt))) ws)) (fact 𝓤 (u′ ≡ laidOne u i r)))
-
   module _ (𝓣 : Tables 𝓤 H) (gn : Room T.the-row n) (is₀ : IsC t₀ w₀) (fm : FmC 𝓤 H (W .laws) (𝓣 .C))
-      (known-most : Triple 𝓤 (𝓣 .C #records·at-most) (Most 𝓤 H A mem run)) (known-op : Triple 𝓤 (𝓣 .C #records·record-at) (OpAt 𝓤 H A mem run)) (known-with : Triple 𝓤 (𝓣 .C #records·with-record) (With 𝓤 H A mem run)) where
+      (known-most : Triple 𝓤 (𝓣 .C #records·at-most) (Most 𝓤 H A mem run)) (known-op : Triple 𝓤 (𝓣 .C #records·record-at) (OpAt 𝓤 H A mem run))
+      (known-with : Triple 𝓤 (𝓣 .C #records·with-record) (With 𝓤 H A mem run)) where
     abbrev C : Calls 𝓤 H
     C = 𝓣 .C
 
@@ -204,9 +201,12 @@ module _ {M : Type 1} (𝓤 : URA M) (H : Heap 𝓤) (A : Atoms 𝓤) (W : Given
 
       -- at the loop's head: i and the costs so far, and what no turn changes
       abbrev At : ℕ → Val → List (Item 𝓤)
-      At i w = ‵ (fat fullShare word l₅ 0 (vint w64 i)) ∷ ‵ (fat fullShare U′.mir l₃ 0 w) ∷ ‵ (fat fullShare word l₄ 0 (vint w64 bound)) ∷ ‵ (fat fullShare word l₆ 0 (vint w64 n)) ∷ ‵ (froom tyBool l₇ 0) ∷ ‵ (froom T′.mir l₈ 0)
+      At i w =
+          ‵ (fat fullShare word l₅ 0 (vint w64 i)) ∷ ‵ (fat fullShare U′.mir l₃ 0 w) ∷ ‵ (fat fullShare word l₄ 0 (vint w64 bound)) ∷ ‵ (fat fullShare word l₆ 0 (vint w64 n))
+          ∷ ‵ (froom tyBool l₇ 0) ∷ ‵ (froom T′.mir l₈ 0)
           ∷ ‵ (fat fullShare slice l₁ 0 (sliceVal (b, o) n)) ∷ ‵ (fat fullShare U′.mir l₂ 0 w₀) ∷ ‵ (froom U′.mir l₀ 0) ∷ ‵ (flft κ q) ∷ ‵ S ∷ ‵ (Own t₀ w₀)
-          ∷ ‵ (fdies U′.mir l₀) ∷ ‵ (fdies slice l₁) ∷ ‵ (fdies U′.mir l₂) ∷ ‵ (fdies U′.mir l₃) ∷ ‵ (fdies word l₄) ∷ ‵ (fdies word l₅) ∷ ‵ (fdies word l₆) ∷ ‵ (fdies tyBool l₇) ∷ ‵ (fdies T′.mir l₈) ∷ []
+          ∷ ‵ (fdies U′.mir l₀) ∷ ‵ (fdies slice l₁) ∷ ‵ (fdies U′.mir l₂) ∷ ‵ (fdies U′.mir l₃) ∷ ‵ (fdies word l₄) ∷ ‵ (fdies word l₅) ∷ ‵ (fdies word l₆) ∷ ‵ (fdies tyBool l₇)
+          ∷ ‵ (fdies T′.mir l₈) ∷ []
 
       -- v records are left
       abbrev Facts : ℕ → ℕ → Laid → Val → Type 0
@@ -234,8 +234,8 @@ module _ {M : Type 1} (𝓤 : URA M) (H : Heap 𝓤) (A : Atoms 𝓤) (W : Given
       unfolding afterTurn
       more i u w X small is k =
           let g : n < 2 ^ 64 = gn .0 in
-          let few : i < 64 = omega (arith, at-most-limit 64 n) in
-          let there : i < n = omega (arith, at-most-number 64 n) in
+          let few : i < mostOps = omega (arith, at-most-limit mostOps n) in
+          let there : i < n = omega (arith, at-most-number mostOps n) in
           let fits : i < 2 ^ 64 = omega arith in
           let next : i + 1 < 2 ^ 64 = omega arith in
           qed W (At i w) ∵ exec ! C Λ E bits.turn-1 (anyQ (afterTurn 𝓤 H X Left)) $
@@ -245,16 +245,17 @@ module _ {M : Type 1} (𝓤 : URA M) (H : Heap 𝓤) (A : Atoms 𝓤) (W : Given
           use2 W (raw (OpAt 𝓤 H A mem run .pre (to-op i))) (asks-op i there fits) $
           -- [what record_at asks; S; _5; _3; _4; _6; _7; room for _8; _1; _2; room for _0; what t owns; that each dies]
           calls-at ! fm (OpAt 𝓤 H A mem run) known-op (to-op i) (and-then ! (load ! (from ! (stop !)) (look ! 8 refl)) (and-then ! (load ! (from ! (stop !)) (look ! 2 refl)) (no-more !))) (λ v.
-          use1 W (later (some (λ (r : OpRecord). ((‵ (flft κ q) ⊛ ‵ ftrue) ⊛ ‵ (T.the-row .own r (v ∷ []))) ⊛ raw (ensured 𝓤 H A op.ended (op.clauses 𝓤 H A mem run) (κ, tt) (s, (i, tt)) tt r)))) (id⊢ 𝓤 _) $ await ! tt $ pick ! (λ r.
-          split ! $ move ! (1 ∷ []) $ use1 W (raw (fact 𝓤 (r ≡ recordAt ys i))) (said-op i r) $ heard ! (r ≡ recordAt ys i) (λ e. split ! $ move ! (1 ∷ []) $
-          peeks ! T.the-row (Is T.the-row) (shows 𝓤 H A T.the-row) r (v ∷ []) (λ isr.
+          use1 W (later (some (λ (r : OpRecord). ((‵ (flft κ q) ⊛ ‵ ftrue) ⊛ ‵ (T.the-row .own r (v ∷ []))) ⊛ raw (ensured 𝓤 H A op.ended (op.clauses 𝓤 H A mem run) (κ, tt) (s, (i, tt)) tt r))))
+          (id⊢ 𝓤 _) $ await ! tt $ pick ! (λ r. split ! $ move ! (1 ∷ []) $ use1 W (raw (fact 𝓤 (r ≡ recordAt ys i))) (exE 𝓤 _ (λ ws. snd∗ 𝓤 (sem 𝓤 H A (lasts op.ended (κ, tt) (s, (i, tt)) ws)) _)) $
+          heard ! (r ≡ recordAt ys i) (λ e. split ! $ move ! (1 ∷ []) $ peeks ! T.the-row (Is T.the-row) (shows 𝓤 H A T.the-row) r (v ∷ []) (λ isr.
           land ! (from ! (stop !)) (init ! 8 refl (LL.lawful T.the-type T′.the-laws 𝓤 H A W .typed r _ isr .0)) $
           -- [what the record owns; the token; S; _5; _3; _4; _6; _7; _8; _1; _2; room for _0; what t owns; that each dies]
           use1 W (raw (With 𝓤 H A mem run .pre (to-with u w i r v))) (asks-with u w i r v is few fits) $
-          calls-at ! fm (With 𝓤 H A mem run) known-with (to-with u w i r v) (and-then ! (load ! (from ! (stop !)) (look ! 4 refl)) (and-then ! (load ! (from ! (stop !)) (look ! 3 refl)) (and-then ! (load ! (from ! (stop !)) (look ! 8 refl)) (no-more !)))) (λ w′.
+          calls-at ! fm (With 𝓤 H A mem run) known-with (to-with u w i r v) (and-then ! (load ! (from ! (stop !)) (look ! 4 refl))
+          (and-then ! (load ! (from ! (stop !)) (look ! 3 refl)) (and-then ! (load ! (from ! (stop !)) (look ! 8 refl)) (no-more !)))) (λ w′.
           use1 W (later (some (λ (u′ : Laid). (‵ ftrue ⊛ ‵ (Own u′ w′)) ⊛ raw (ensured 𝓤 H A put.ended (put.clauses 𝓤 H A mem run) tt (u, (i, (r, tt))) tt u′)))) (id⊢ 𝓤 _) $ await ! tt $ pick ! (λ u′.
-          split ! $ move ! (1 ∷ []) $ use1 W (raw (fact 𝓤 (u′ ≡ laidOne u i r))) (said-with u i r u′) $ heard ! (u′ ≡ laidOne u i r) (λ e′. split ! $ drop ! $
-          peeks ! U.the-row (Is U.the-row) (shows 𝓤 H A U.the-row) u′ (w′ ∷ []) (λ is′.
+          split ! $ move ! (1 ∷ []) $ use1 W (raw (fact 𝓤 (u′ ≡ laidOne u i r))) (exE 𝓤 _ (λ ws. snd∗ 𝓤 (sem 𝓤 H A (lasts put.ended tt (u, (i, (r, tt))) ws)) _)) $
+          heard ! (u′ ≡ laidOne u i r) (λ e′. split ! $ drop ! $ peeks ! U.the-row (Is U.the-row) (shows 𝓤 H A U.the-row) u′ (w′ ∷ []) (λ is′.
           land ! (from ! (stop !)) (store ! 4 refl (LL.lawful U.the-type U′.the-laws 𝓤 H A W .typed u′ _ is′ .0)) $
           assigns-last ! (bin ! (load ! (from ! (stop !)) (look ! 3 refl)) (lit ! tt) (record { fits = next })) (from ! (stop !)) (store ! 3 refl (tt, record { fits = next })) $
           forget ! 7 refl $ forget ! 8 refl $ drop ! $ split ! $
@@ -281,8 +282,7 @@ module _ {M : Type 1} (𝓤 : URA M) (H : Heap 𝓤) (A : Atoms 𝓤) (W : Given
           ends i u w (Below zero) (omega arith) (f .2) (f .1 ∙ ap (λ (k : ℕ). laidOf ys k t₀) all)
       turn-at (suc v) i u w f =
           let small : i < bound = omega arith in
-          more i u w (Below (suc v)) small (f .2) (λ u′ w′ is′ e.
-          via 𝓤 _ (inv v (i + 1) u′ w′ (omega arith, laid-next ys t₀ u u′ i (f .1) e, is′))
+          more i u w (Below (suc v)) small (f .2) (λ u′ w′ is′ e. via 𝓤 _ (inv v (i + 1) u′ w′ (omega arith, laid-next ys t₀ u u′ i (f .1) e, is′))
           (via 𝓤 _ (guardI 𝓤 (v < suc v) (Inv v) (lt-suc-self v)) (exI 𝓤 (λ (v′ : ℕ). guard 𝓤 (v′ < suc v) (Inv v′)) v)))
 
       turns : (v : ℕ) → ent 𝓤 (Inv v) (Wp 𝓤 H C Λ E bits.turn-1 (afterTurn 𝓤 H (Below v) Left))
@@ -301,10 +301,10 @@ module _ {M : Type 1} (𝓤 : URA M) (H : Heap 𝓤) (A : Atoms 𝓤) (W : Given
           use0 W (raw (Most 𝓤 H A mem run .pre to-most)) (asks-most (gn .0)) $
           -- [what at_most asks; room for _5; _3; room for _4; _6; room for _7, _8; _1; _2; room for _0; the token; S; what t owns; that each dies]
           calls-at ! fm (Most 𝓤 H A mem run) known-most to-most (and-then ! (lit ! tt) (and-then ! (load ! (from ! (stop !)) (look ! 4 refl)) (no-more !))) (λ x.
-          use1 W (later (some (λ (r : ℕ). (‵ ftrue ⊛ ‵ (usize .own r (x ∷ []))) ⊛ raw (ensured 𝓤 H A most.ended (most.clauses 𝓤 H A mem run) tt (64, (n, tt)) tt r)))) (id⊢ 𝓤 _) $ await ! tt $ pick ! (λ r.
-          split ! $ move ! (1 ∷ []) $ use1 W (raw (fact 𝓤 (r ≡ bound))) (said-most r) $ heard ! (r ≡ bound) (λ e. split ! $ drop ! $
-          peeks ! usize (Is usize) (shows 𝓤 H A usize) r (x ∷ []) (λ is.
-          land ! (from ! (stop !)) (init ! 3 refl (uint-lawful 𝓤 H A W w64 .typed r _ is .0)) $ drop ! $
+          use1 W (later (some (λ (r : ℕ). (‵ ftrue ⊛ ‵ (usize .own r (x ∷ []))) ⊛ raw (ensured 𝓤 H A most.ended (most.clauses 𝓤 H A mem run) tt (64, (n, tt)) tt r)))) (id⊢ 𝓤 _) $ await ! tt $
+          pick ! (λ r.
+          split ! $ move ! (1 ∷ []) $ use1 W (raw (fact 𝓤 (r ≡ bound))) (exE 𝓤 _ (λ ws. snd∗ 𝓤 (sem 𝓤 H A (lasts most.ended tt (64, (n, tt)) ws)) _)) $ heard ! (r ≡ bound) (λ e. split ! $ drop ! $
+          peeks ! usize (Is usize) (shows 𝓤 H A usize) r (x ∷ []) (λ is. land ! (from ! (stop !)) (init ! 3 refl (uint-lawful 𝓤 H A W w64 .typed r _ is .0)) $ drop ! $
           rewrite ! 2 (λ (v : Val). ‵ (fat fullShare word l₄ 0 v)) (only x (vint w64 r) (is .0) ∙ ap (vint w64) e) refl $
           assigns ! (of-opd ! (lit ! tt)) (from ! (stop !)) (init ! 0 refl (tt, record { fits = lit< tt })) $ by ! loops))))
 
@@ -318,14 +318,19 @@ module _ {M : Type 1} (𝓤 : URA M) (H : Heap 𝓤) (A : Atoms 𝓤) (W : Given
     walk = via 𝓤 _ apart (enters 𝓤 H A W C Λ (flft κ q) S (Own t₀ w₀) (sliceVal (b, o) n) w₀ (tt, (tt, (record { fits = gn .0 }, tt))) typed₀ Post start)
 
 module _ {M : Type 1} (𝓤 : URA M) (H : Heap 𝓤) (A : Atoms 𝓤) (W : Given 𝓤 H A) (mem : Memory → SProp 𝓤) (run : Routine → Fun 𝓤) (𝓣 : Tables 𝓤 H)
-    (known-most : Triple 𝓤 (𝓣 .C #records·at-most) (Most 𝓤 H A mem run)) (known-op : Triple 𝓤 (𝓣 .C #records·record-at) (OpAt 𝓤 H A mem run)) (known-with : Triple 𝓤 (𝓣 .C #records·with-record) (With 𝓤 H A mem run)) where
+    (known-most : Triple 𝓤 (𝓣 .C #records·at-most) (Most 𝓤 H A mem run)) (known-op : Triple 𝓤 (𝓣 .C #records·record-at) (OpAt 𝓤 H A mem run))
+    (known-with : Triple 𝓤 (𝓣 .C #records·with-record) (With 𝓤 H A mem run)) where
   gather-walks : Walks 𝓤 H A gather.ended stayed (WpFn 𝓤 H (𝓣 .C) (𝓣 .Λ) code.function) (gather.clauses 𝓤 H A mem run)
-  gather-walks = walked 𝓤 H A gather.ended stayed (gather.clauses 𝓤 H A mem run) (WpFn 𝓤 H (𝓣 .C) (𝓣 .Λ) code.function) (λ κs. (slice-vals, (LL.vals U.the-type U′.the-laws, tt))) (λ κs. (shr-slice-tells (named 0) (κs .0) T.the-row, (LL.tells U.the-type U′.the-laws, tt)))
+  gather-walks =
+      walked 𝓤 H A gather.ended stayed (gather.clauses 𝓤 H A mem run) (WpFn 𝓤 H (𝓣 .C) (𝓣 .Λ) code.function) (λ κs. (slice-vals, (LL.vals U.the-type U′.the-laws, tt)))
+      (λ κs. (shr-slice-tells (named 0) (κs .0) T.the-row, (LL.tells U.the-type U′.the-laws, tt)))
       (λ κs qs bounds a g are. via 𝓤 _ (fst∗ 𝓤 _ (emp 𝓤))
       (walk 𝓤 H A W mem run (κs .0) (qs .0) (a .0 .ptr .0) (a .0 .ptr .1) (a .0 .name) (a .0 .now) (a .1 .0) 𝓣 (are .0 .0 .1) (are .1 .0) (fmOf 𝓤 H (W .laws) 𝓣) known-most known-op known-with))
 
   gather-meets : Meets 𝓤 H A gather.signature (WpFn 𝓤 H (𝓣 .C) (𝓣 .Λ) code.function) (gather.spec 𝓤 H A mem run)
-  gather-meets = walk-meets 𝓤 H A gather.ended stayed W (goes-none-slice 𝓤 H A W 1 (0 ∷ []) tt (plain (λ _. T.the-row)) yes, (goes-none 𝓤 H A W 1 (λ _. U.the-row) yes (λ κs x f. refl), tt)) (gather.clauses 𝓤 H A mem run) (WpFn 𝓤 H (𝓣 .C) (𝓣 .Λ) code.function) (WpFn-mono 𝓤 H (W .laws) 𝓣 code.function) gather-walks
+  gather-meets =
+      walk-meets 𝓤 H A gather.ended stayed W (goes-none-slice 𝓤 H A W 1 (0 ∷ []) tt (plain (λ _. T.the-row)) yes, (goes-none 𝓤 H A W 1 (λ _. U.the-row) yes (λ κs x f. refl), tt))
+      (gather.clauses 𝓤 H A mem run) (WpFn 𝓤 H (𝓣 .C) (𝓣 .Λ) code.function) (WpFn-mono 𝓤 H (W .laws) 𝓣 code.function) gather-walks
 
 pub gather-spec : {M : Type 1} → stated.statement M
 unfolding code.routine tablesOf

@@ -4,19 +4,21 @@ use borrow.Author.Needs.{needs}
 use Rattle.meaning.specs.Sas.{Sas}
 use Rattle.tables.specs.Task.{stateOf}
 use Rattle.sequences.specs.Choosing.{choiceOf}
-use Rattle.sequences.specs.Stepping.{sas}
+use Rattle.sequences.specs.Inside.Steps.{sas}
 use Rattle.sequences.proofs.Laws.{reachedOf-same, same-copied}
 use Rattle.sequences.proofs.choosing.choose_lists.Statement.{statement}
 use Rattle.sequences.proofs.choosing.choose_lists.Tie as tie
 
 returns : tie.Need-returns
 returns c =
-    let a = c .before .before .before .before .before .before .before .before .before .args in
+    let y = c .before .before .before in
+    let x = y .before .before .before .before .before .before in
+    let a = x .args in
     let S : Sas = sas (a .c) (a .facts .now) (a .costs .now) in
-    let h = same-copied S (a .s .now) (c .before .before .before .copy .result) (c .before .before .before .before .before .before .before .before .before .pre) (c .before .before .before .copy .ensures) in
+    let h = same-copied S (a .s .now) (y .copy .result) (x .pre) (y .copy .ensures) in
     c .choose .ensures
-    ∙ ap₂ choiceOf (c .before .before .reach-within .ensures ∙ reachedOf-same S (stateOf (c .before .before .before .copy .result)) (stateOf (a .s .now)) (a .a .now) h)
-    (c .before .reach-within2 .ensures ∙ reachedOf-same S (stateOf (c .before .before .before .copy .result)) (stateOf (a .s .now)) (a .b .now) h)
+    ∙ ap₂ choiceOf (c .before .before .reach-within .ensures ∙ reachedOf-same S (stateOf (y .copy .result)) (stateOf (a .s .now)) (a .a .now) h)
+    (c .before .reach-within2 .ensures ∙ reachedOf-same S (stateOf (y .copy .result)) (stateOf (a .s .now)) (a .b .now) h)
 
 pub choose-lists-spec : {M : Type 1} → statement M
 choose-lists-spec =

@@ -1,4 +1,4 @@
--- `choosing::front` meets its contract. Assumes nothing.
+-- `choosing::front` meets its contract: a part of the lent list where it is that long, else the list. Assumes nothing.
 use Prim.Native.Nat.{_≤_}
 use mathlib.Core.Path.{refl, sym}
 use native.Mathlib.Omega.{arith}

@@ -1,4 +1,4 @@
--- `choosing::named` meets its contract. Assumes nothing.
+-- `choosing::named` meets its contract: case by case. Assumes nothing.
 use borrow.Author.Needs.{needs}
 use Rattle.sequences.proofs.choosing.named.Statement.{statement}
 use Rattle.sequences.proofs.choosing.named.Tie as tie

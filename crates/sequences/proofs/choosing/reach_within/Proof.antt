@@ -1,8 +1,8 @@
--- `choosing::reach_within` meets its contract. Assumes nothing.
+-- `choosing::reach_within` meets its contract: the length decides first. Assumes nothing.
 use mathlib.Core.Path.{_∙_}
 use native.Mathlib.Omega.{arith}
 use Rattle.tables.specs.Task.{stateOf}
-use Rattle.sequences.specs.Stepping.{sas}
+use Rattle.sequences.specs.Inside.Steps.{sas}
 use Rattle.meaning.specs.Limits.{mostSteps}
 use Rattle.sequences.proofs.Laws.{reached-within, reached-above}
 use Rattle.sequences.proofs.choosing.reach_within.Statement.{statement}
@@ -10,7 +10,9 @@ use Rattle.sequences.proofs.choosing.reach_within.Tie as tie
 
 returns : tie.Need-returns
 unfolding mostSteps
-returns c = let a = c .before .before .before .before .args in reached-above (sas (a .c) (a .facts .now) (a .costs .now)) (stateOf (a .start)) (a .ops .now) (omega (arith, c .if1 .taken))
+returns c =
+    let a = c .before .before .before .before .args in
+    reached-above (sas (a .c) (a .facts .now) (a .costs .now)) (stateOf (a .start)) (a .ops .now) (omega (arith, c .if1 .taken))
 
 reach-requires : tie.Need-reach-requires
 unfolding mostSteps
@@ -18,7 +20,9 @@ reach-requires c κs = (c .before .before .before .before .pre, c .if1 .left)
 
 returns-2 : tie.Need-returns-2
 unfolding mostSteps
-returns-2 c = let a = c .before .before .before .before .before .args in c .reach .ensures ∙ reached-within (sas (a .c) (a .facts .now) (a .costs .now)) (stateOf (a .start)) (a .ops .now) (c .before .if1 .left)
+returns-2 c =
+    let a = c .before .before .before .before .before .args in
+    c .reach .ensures ∙ reached-within (sas (a .c) (a .facts .now) (a .costs .now)) (stateOf (a .start)) (a .ops .now) (c .before .if1 .left)
 
 pub reach-within-spec : {M : Type 1} → statement M
 reach-within-spec = tie.close (tie.spec

@@ -4,7 +4,7 @@ use native.Mathlib.Omega.{arith}
 use borrow.Author.Needs.{needs}
 use Rattle.meaning.specs.Sas.{Sas}
 use Rattle.tables.specs.Task.{stateOf}
-use Rattle.sequences.specs.Stepping.{sas}
+use Rattle.sequences.specs.Inside.Steps.{sas}
 use Rattle.meaning.specs.Limits.{mostSteps}
 use Rattle.sequences.proofs.Laws.{limited-within, limited-above, same-copied}
 use Rattle.sequences.proofs.judging.judge_list.Statement.{statement}
@@ -12,7 +12,9 @@ use Rattle.sequences.proofs.judging.judge_list.Tie as tie
 
 returns : tie.Need-returns
 unfolding mostSteps
-returns c = let a = c .before .before .before .before .before .args in limited-above (sas (a .c) (a .facts .now) (a .costs .now)) (stateOf (a .s .now)) (a .ops .now) (omega (arith, c .if1 .taken))
+returns c =
+    let a = c .before .before .before .before .before .args in
+    limited-above (sas (a .c) (a .facts .now) (a .costs .now)) (stateOf (a .s .now)) (a .ops .now) (omega (arith, c .if1 .taken))
 
 walk-requires : tie.Need-walk-requires
 unfolding mostSteps
@@ -21,10 +23,11 @@ walk-requires c κs = (c .before .before .before .before .before .before .pre, c
 returns-2 : tie.Need-returns-2
 unfolding mostSteps
 returns-2 c =
-    let a = c .before .before .before .before .before .before .before .args in
-    let S : Sas = sas (a .c) (a .facts .now) (a .costs .now) in
-    c .walk .ensures
-    ∙ limited-within S (stateOf (a .s .now)) (stateOf (c .before .copy .result)) (a .ops .now) (same-copied S (a .s .now) (c .before .copy .result) (c .before .before .before .before .before .before .before .pre) (c .before .copy .ensures)) (c .before .before .if1 .left)
+    let y = c .before in
+    let x = y .before .before .before .before .before .before in
+    let S : Sas = sas (x .args .c) (x .args .facts .now) (x .args .costs .now) in
+    let same = same-copied S (x .args .s .now) (y .copy .result) (x .pre) (y .copy .ensures) in
+    c .walk .ensures ∙ limited-within S (stateOf (x .args .s .now)) (stateOf (y .copy .result)) (x .args .ops .now) same (y .before .if1 .left)
 
 pub judge-list-spec : {M : Type 1} → statement M
 judge-list-spec = tie.close (tie.spec

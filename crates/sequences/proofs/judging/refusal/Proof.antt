@@ -1,4 +1,4 @@
--- `judging::refusal` meets its contract. Assumes nothing.
+-- `judging::refusal` meets its contract: case by case. Assumes nothing.
 use borrow.Author.Needs.{needs}
 use Rattle.sequences.proofs.judging.refusal.Statement.{statement}
 use Rattle.sequences.proofs.judging.refusal.Tie as tie

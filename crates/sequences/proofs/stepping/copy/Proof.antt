@@ -4,15 +4,16 @@ use mathlib.Core.Path.{_≡_, refl}
 use native.Mathlib.Omega.{arith}
 use lib.ListN.{replicate}
 use borrow.Author.Needs.{needs}
+use Rattle.meaning.specs.Limits.{mostVars}
 use Rattle.tables.proofs.Laws.{filled-next, filled-end}
 use Rattle.tables.specs.Steps.{overwritten}
 use Rattle.tables.specs.Task.{stateOf}
-use Rattle.sequences.specs.Stepping.{copied}
+use Rattle.sequences.specs.Inside.Steps.{copied}
 use Rattle.sequences.proofs.stepping.copy.Statement.{statement}
 use Rattle.sequences.proofs.stepping.copy.Tie as tie
 
 abbrev Inv-loop : tie.InvT-loop
-Inv-loop vars s t₀ v₀ t v = (v ≤ vars) × (t ≡ overwritten (stateOf s) (replicate 8 0) v)
+Inv-loop vars s t₀ v₀ t v = (v ≤ vars) × (t ≡ overwritten (stateOf s) (replicate mostVars 0) v)
 
 abbrev μ-loop : tie.MeasureT-loop
 μ-loop vars s t₀ v₀ t v = vars - v
@@ -22,11 +23,16 @@ unfolding overwritten
 loop-holds c = (omega arith, refl)
 
 loop-again : tie.Need-loop-again Inv-loop μ-loop
-loop-again c = (omega arith, filled-next (stateOf (c .before .before .before .before .args .s .now)) (replicate 8 0) (c .before .before .loop .t) (c .before .before .loop .v) (c .byte-at .result) (c .before .before .loop .inv .1) (c .byte-at .ensures))
+loop-again c =
+    let x = c .before .before in
+    (omega arith, filled-next (stateOf (x .before .before .args .s .now)) (replicate mostVars 0) (x .loop .t) (x .loop .v) (c .byte-at .result) (x .loop .inv .1) (c .byte-at .ensures))
 
 returns : tie.Need-returns Inv-loop μ-loop
 unfolding copied
-returns c = filled-end (stateOf (c .before .before .before .args .s .now)) (replicate 8 0) (c .before .loop .t) (c .before .before .before .args .vars) (c .before .loop .v) (c .before .loop .inv .1) (omega arith) (omega arith)
+returns c =
+    let x = c .before in
+    let a = x .before .before .args in
+    filled-end (stateOf (a .s .now)) (replicate mostVars 0) (x .loop .t) (a .vars) (x .loop .v) (x .loop .inv .1) (omega arith) (omega arith)
 
 pub copy-spec : {M : Type 1} → statement M
 copy-spec =

@@ -1,4 +1,4 @@
--- What the entry's two covered parts answer: the copy of the lent facts, and judging over it.
+-- The copy of the lent facts that the records are laid over, and judging over it.
 use Prim.Native.Nat.{ℕ}
 use mathlib.Core.Bool.{cond}
 use mathlib.Core.List.{List}
