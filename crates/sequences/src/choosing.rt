@@ -16,8 +16,8 @@ use refusals::Refusal;
 use scan::Found;
 use scan::input_fault;
 use tables::Counts;
-use tables::mostSteps::meets_goal;
-use tables::mostSteps::state_after;
+use tables::steps::meets_goal;
+use tables::steps::state_after;
 
 // A list judged up to the first moment a goal holds: after how many steps, and at what cost; or it is out.
 pub enum Reached {

@@ -13,8 +13,8 @@ use meaning::OpNo;
 use meaning::limits::STEPS_MOST;
 use refusals::Refusal;
 use tables::Counts;
-use tables::mostSteps::meets_goal;
-use tables::mostSteps::state_after;
+use tables::steps::meets_goal;
+use tables::steps::state_after;
 
 // A sequence passed, at its cost; or why it didn't.
 pub enum Judged {
