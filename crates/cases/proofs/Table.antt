@@ -55,10 +55,10 @@ use Rattle.grammar.specs.Grammar.{
   verdict,
 }
 use Rattle.grammar.proofs.SpellAccepted.{accepted-spells}
-use Rattle.sequences.specs.Stepping.{stepOf}
+use Rattle.sequences.specs.Stepping.{stepOf, copied}
 use Rattle.meaning.specs.Limits.{mostSteps}
 use Rattle.sequences.specs.Judging.{walked, limited, judgedOf}
-use Rattle.ledger.specs.Ledger.{rest, gain, booked, fresh, advanced, canRun, replayed, given, startAt, startIn, sameTo, sameStates, sameSteps, sameRun, isRun, oldStep, nextStep, offerJudged, answered, offered, startFrom, started, begun}
+use Rattle.ledger.specs.Ledger.{rest, gain, booked, fresh, advanced, canRun, replayed, given, startAt, startIn, sameTo, sameRun, isRun, oldStep, nextStep, offerJudged, answered, offered, started, begun}
 use Rattle.cases.specs.Told.{ofText, Claim, EachAt, Holds, Case, AllHold, Right}
 use Rattle.cases.specs.Cases.{table}
 use Rattle.cases.proofs.Tests.{Test, told?, _and_, into, always, each?}
@@ -81,5 +81,5 @@ right? c =
     (told? (ofText (verdict (bytes (c .text)))) (c .read) and claims? (bytes (c .text)) (verdict (bytes (c .text))) refl (c .claims))
 
 pub cases-hold : EachAt (λ i c. Right c) 0 table
-unfolding table tableOf isDigit shareTotal overLine _▸_ nothing ask keep demand lit choice runLen value formed fits numeral parted row endOfLine line lines editionLine varsLine domLine initLine facts factList goalLine opsLine operator opLines has topOf allOf classCount noneMissing classes variables mapsLine mapLines amounts shareLines taskLines settled theEnd noTask verdict rowHolds mayRun meetsGoal overwritten stepped each factsFault operatorFault classesFault mapFault sharesFault splitFault taskFault roomy tablesFault stateFault mostSteps inputFault stepOf walked limited judgedOf rest gain booked fresh advanced canRun replayed given startAt startIn sameTo sameStates sameSteps sameRun isRun oldStep nextStep offerJudged answered offered startFrom started begun
+unfolding table tableOf isDigit shareTotal overLine _▸_ nothing ask keep demand lit choice runLen value formed fits numeral parted row endOfLine line lines editionLine varsLine domLine initLine facts factList goalLine opsLine operator opLines has topOf allOf classCount noneMissing classes variables mapsLine mapLines amounts shareLines taskLines settled theEnd noTask verdict rowHolds mayRun meetsGoal overwritten stepped each factsFault operatorFault classesFault mapFault sharesFault splitFault taskFault roomy tablesFault stateFault mostSteps inputFault stepOf walked limited judgedOf rest gain booked fresh advanced canRun replayed given startAt startIn sameTo sameRun isRun oldStep nextStep offerJudged answered offered copied started begun
 cases-hold = each? (λ i c. Right c) (λ i c. right? c) 0 table .so refl

@@ -7,7 +7,7 @@ use native.Mathlib.Omega.{arith}
 use lib.Dec.{ltb, eqb}
 use lib.ListN.{length, getD, set, replicate, length-replicate, getD-replicate, List·getD-eq-default}
 use lib.Seq.{set-getD}
-use borrow.Author.Tests.{lt-ltb, le-ltb, eq-eqb, ne-eqb, ltb-true, ltb-false, eqb-true, eqb-false}
+use borrow.Author.Tests.{lt-ltb, le-ltb, eq-eqb, ne-eqb, ltb-true, ltb-false, eqb-true}
 use Rattle.meaning.specs.Limits.{mostCost, mostSteps}
 use Rattle.meaning.specs.Split.{Task, Valid, sum}
 use Rattle.tables.specs.Steps.{overwritten}
@@ -88,9 +88,11 @@ module _ (T : Task) where
   unfolding gain
   gain-rest c o h e = rw (le-ltb c (T .maps) h, eq-eqb c unshared e) refl
 
-  pub gain-unused : (c o : ℕ) → T .maps ≤ c → (c ≡ unshared → ⊥) → gain T c o ≡ 0
+  pub gain-unused : (c o : ℕ) → T .maps ≤ c → c < unshared → gain T c o ≡ 0
   unfolding gain
-  gain-unused c o h g = rw (le-ltb c (T .maps) h, ne-eqb c unshared g) refl
+  gain-unused c o h l =
+      let n : c ≡ unshared → ⊥ = λ e. omega arith in
+      rw (le-ltb c (T .maps) h, ne-eqb c unshared n) refl
 
   pub rest-is : (o x y : ℕ) → x ≡ T .sas .cost o → y ≡ sum (λ m. T .share m o) (T .maps) → x - y ≡ rest T o
   unfolding rest
@@ -105,11 +107,12 @@ module _ (T : Task) where
     shares-fit m h = omega (arith, sum-part (λ m. T .share m o) (T .maps) m h, valid .split o exists)
 
     pub gain-small : (c : ℕ) → gain T c o ≤ mostCost
+    unfolding gain
     gain-small c =
         by-order c (T .maps) (λ l. omega (arith, gain-map c o l, valid .shares c o l exists))
         (λ g.
         by-cases (eqb c unshared) (λ d. omega (arith, gain-rest c o g (eqb-true c unshared d), rest-small))
-        (λ d. omega (arith, gain-unused c o g (eqb-false c unshared d))))
+        (λ d. rw (le-ltb c (T .maps) g, d) (omega arith)))
 
     -- the columns of the cost together grow by the cost: the maps' by the shares, those of no map by nothing, the unshared one by the rest
     pub gain-all : sum (λ c. gain T c o) costColumns ≡ T .sas .cost o
@@ -117,7 +120,7 @@ module _ (T : Task) where
     gain-all =
         omega (
           arith,
-          sum-still (λ c. gain T c o) (T .maps) unshared (valid .maps .1) (λ c a b. gain-unused c o a (λ e. omega arith)),
+          sum-still (λ c. gain T c o) (T .maps) unshared (valid .maps .1) (λ c a b. gain-unused c o a b),
           sum-same (λ c. gain T c o) (λ m. T .share m o) (T .maps) (λ m l. gain-map m o l),
           gain-rest unshared o (valid .maps .1) refl,
           valid .split o exists,
@@ -151,7 +154,7 @@ module _ (T : Task) where
       (p
       ∙ sym
       (overwritten-still (bookedAt T columns o) columns (T .maps) unshared h
-      (λ c a b. omega (arith, gain-unused c o a (λ e. omega arith)))))
+      (λ c a b. omega (arith, gain-unused c o a b))))
       (q ∙ sym (gain-rest unshared o h refl))
 
   pub unshared-still : (columns t : List ℕ) (o m : ℕ) → m ≤ unshared → t ≡ overwritten (bookedAt T columns o) columns m
