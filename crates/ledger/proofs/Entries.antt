@@ -18,7 +18,6 @@ use Rattle.sequences.specs.Stepping.{copied}
 use Rattle.ledger.specs.declared.Run.{Run}
 use Rattle.ledger.specs.declared.Answer.{Answer}
 use Rattle.ledger.specs.declared.Answer.the-variants.{Accepted, Repeated, Refused}
-use Rattle.ledger.specs.declared.Offered.{Offered}
 use Rattle.ledger.specs.Ledger.{fresh, advanced, answered, offered, started, begun}
 use Rattle.ledger.specs.Inside.Bounded.{Bounded}
 use Rattle.ledger.proofs.Accepted.{not-refused, accepted-had}
