@@ -1,6 +1,6 @@
 -- What an answer follows from, and what an accepted offer had. Assumes nothing.
 use Prim.Native.Nat.{ℕ, _+_, _-_, _<_}
-use mathlib.Core.Path.{_≡_, refl, sym}
+use mathlib.Core.Path.{_≡_, refl, sym, _∙_}
 use mathlib.Core.Bool.{Bool, true, false, _||_, cond, false≢true}
 use native.Mathlib.Omega.{arith}
 use lib.Dec.{ltb, leb, eqb}
@@ -13,10 +13,13 @@ use Rattle.scan.specs.declared.Found.{Found}
 use Rattle.scan.specs.declared.Found.the-variants.{Clean, Fault}
 use Rattle.scan.specs.Scan.{tablesFault}
 use Rattle.tables.specs.Layout.{Tables}
+use Rattle.tables.proofs.Laws.{by-cases}
 use Rattle.ledger.specs.declared.Run.{Run}
 use Rattle.ledger.specs.declared.Answer.{Answer}
 use Rattle.ledger.specs.declared.Answer.the-variants.{Accepted, Repeated, Refused}
 use Rattle.ledger.specs.Ledger.{canRun, isRun, oldStep, nextStep, offerJudged, refusedOr, answered, advanced, moved, offered}
+use Rattle.ledger.proofs.Answers.{next-full, next-not}
+use Rattle.ledger.proofs.Gains.{by-order}
 
 -- ---- an accepting answer passed by every refusal before it
 
@@ -67,11 +70,10 @@ module _ (t : Tables) (r : Run) (number o : ℕ) where
     pub can : canRun (t .counts) (t .facts) r o ≡ true
 
   pub accepted-had : answered t r number o ≡ Accepted → Had
-  unfolding answered offerJudged oldStep nextStep
+  unfolding answered offerJudged oldStep
   accepted-had e =
       let judged = offerJudged (t .counts) (t .facts) r number o in
       let next = nextStep (t .counts) (t .facts) r number o in
-      let may = canRun (t .counts) (t .facts) r o in
       let same = eqb (getD (r .log) (number - 1) 0) o in
       let old = cond (leb number (r .len)) (oldStep r number o) next in
       let beyond = eqb number 0 || ltb (r .len + 1) number in
@@ -80,7 +82,9 @@ module _ (t : Tables) (r : Run) (number o : ℕ) where
       let exists = passed (leb (t .counts .ops) o) (NoSuchOperator number) (cond beyond (Refused (NotTheNext number)) old) (run .1) in
       let near = passed beyond (NotTheNext number) old (exists .1) in
       let new = not-old same (leb number (r .len)) (OtherOperator number) next (near .1) in
-      let room = passed (leb mostSteps (r .len)) (RunFull number) (cond may Accepted (Refused (MayNotRun number))) (new .1) in
+      let room : r .len < mostSteps =
+      by-order (r .len) mostSteps (λ l. l)
+      (λ g. absurd (not-refused (RunFull number) (next-full (t .counts) (t .facts) r number o g ∙ new .1))) in
       record {
         clean = found .0;
         run = run .0;
@@ -91,8 +95,10 @@ module _ (t : Tables) (r : Run) (number o : ℕ) where
               ltb-false (r .len + 1) number (neither (eqb number 0) (ltb (r .len + 1) number) (near .0)),
               leb-false number (r .len) (new .0),
             );
-        room = leb-false mostSteps (r .len) (room .0);
-        can = held may Accepted (MayNotRun number) (room .1) .0;
+        room = room;
+        can =
+            by-cases (canRun (t .counts) (t .facts) r o) (λ p. p)
+            (λ p. absurd (not-refused (MayNotRun number) (next-not (t .counts) (t .facts) r number o room p ∙ new .1)));
       }
 
   -- ---- the run that an offer hands back
