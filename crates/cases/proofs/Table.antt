@@ -3,18 +3,15 @@ use mathlib.Core.Path.{_≡_, refl}
 use mathlib.Core.List.{List, [], _∷_}
 use Prim.Native.Nat.{ℕ}
 use mathlib.Core.Bool.{true, false, false≢true}
-use Rattle.tables.specs.Steps.{rowHolds, mayRun, meetsGoal, overwritten, stepped}
+use Rattle.tables.specs.Steps.{rowHolds, mayRun, meetsGoal, overwritten, stepped, copied}
 use Rattle.scan.specs.Scan.{each, factsFault, operatorFault, classesFault, mapFault, sharesFault, splitFault, taskFault, roomy, tablesFault, stateFault, inputFault}
 use Rattle.grammar.specs.Fields.{isDigit, bytes, shareTotal, overLine}
-use Rattle.grammar.specs.Grammar.{Verdict, accepted, refused, _▸_, nothing, ask, keep, demand, lit, choice, runLen, value, formed, fits, numeral, parted, row}
-use Rattle.grammar.specs.Grammar.{endOfLine, line, lines, editionLine, varsLine, domLine, initLine, facts, factList, goalLine, opsLine, operator, opLines}
-use Rattle.grammar.specs.Grammar.{has, topOf, allOf, classCount, noneMissing, classes, variables, mapsLine, mapLines, amounts, shareLines, taskLines, settled, theEnd, noTask, verdict}
+use Rattle.grammar.specs.Grammar.{Verdict, accepted, refused, _▸_, nothing, ask, keep, demand, lit, choice, runLen, value, formed, fits, numeral, parted, row, endOfLine, line, lines, editionLine, varsLine, domLine, initLine, facts, factList, goalLine, opsLine, operator, opLines, has, topOf, allOf, classCount, noneMissing, classes, variables, mapsLine, mapLines, amounts, shareLines, taskLines, settled, theEnd, noTask, verdict}
 use Rattle.grammar.proofs.SpellAccepted.{accepted-spells}
 use Rattle.sequences.specs.Stepping.{stepOf}
 use Rattle.meaning.specs.Limits.{mostSteps}
 use Rattle.sequences.specs.Judging.{walked, limited, judgedOf}
-use Rattle.ledger.specs.Ledger.{rest, gain, booked, fresh, advanced, canRun, replayed, given, startAt, startIn, sameTo, sameStates}
-use Rattle.ledger.specs.Ledger.{sameSteps, sameRun, isRun, oldStep, nextStep, offerJudged, answered, offered, startFrom, started, begun}
+use Rattle.ledger.specs.Ledger.{rest, gain, booked, fresh, advanced, canRun, replayed, given, startAt, startIn, sameTo, sameRun, isRun, oldStep, nextStep, offerJudged, answered, offered, started, begun}
 use Rattle.cases.specs.Told.{ofText, Claim, EachAt, Holds, Case, AllHold, Right}
 use Rattle.cases.specs.Cases.{table}
 use Rattle.cases.proofs.Tests.{Test, told?, _and_, into, always, each?}
@@ -60,12 +57,12 @@ opened-scan = tt
 
 -- steps and sequences
 opened-steps : Unit {0}
-unfolding rowHolds mayRun meetsGoal overwritten stepped mostSteps stepOf walked limited judgedOf
+unfolding rowHolds mayRun meetsGoal overwritten stepped copied mostSteps stepOf walked limited judgedOf
 opened-steps = tt
 
 -- a run
 opened-run : Unit {0}
-unfolding rest gain booked fresh advanced canRun replayed given startAt startIn sameTo sameStates sameSteps sameRun isRun oldStep nextStep offerJudged answered offered startFrom started begun
+unfolding rest gain booked fresh advanced canRun replayed given startAt startIn sameTo sameRun isRun oldStep nextStep offerJudged answered offered started begun
 opened-run = tt
 
 pub cases-hold : EachAt (λ i c. Right c) 0 table

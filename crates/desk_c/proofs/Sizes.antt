@@ -11,10 +11,11 @@ use Rattle.scan.specs.Scan.{inputFault}
 use Rattle.tables.proofs.Laws.{length-filled}
 use Rattle.tables.proofs.Meant.{stepped-length}
 use Rattle.meaning.specs.Limits.{mostSteps}
+use Rattle.tables.specs.Steps.{copied}
 use Rattle.ledger.specs.declared.Run.{Run}
 use Rattle.ledger.specs.declared.Answer.{Answer}
 use Rattle.ledger.specs.declared.Answer.the-variants.{Accepted, Repeated, Refused}
-use Rattle.ledger.specs.Ledger.{allColumns, fresh, advanced, moved, answered, offered, startFrom, started, begun}
+use Rattle.ledger.specs.Ledger.{allColumns, fresh, advanced, moved, answered, offered, started, begun}
 use Rattle.ledger.specs.History.{Sized}
 use Rattle.ledger.proofs.Gains.{booked-length}
 use Rattle.desk_c.specs.Lent.{runIn}
@@ -38,10 +39,10 @@ fresh-sized s e =
     record { start = e; log = length-replicate {A = ℕ} mostSteps 0; now = e; columns = length-replicate {A = ℕ} allColumns 0 }
 
 pub begun-sized : (t : Tables) (s : List ℕ) → Sized (begun t s .run)
-unfolding begun started startFrom
+unfolding begun started copied
 begun-sized t s =
-    either (inputFault t s) (fresh (startFrom (t .counts) s))
-    (fresh-sized (startFrom (t .counts) s)
+    either (inputFault t s) (fresh (copied s (t .counts .vars)))
+    (fresh-sized (copied s (t .counts .vars))
     (length-filled (stateOf s) (replicate 8 0) (t .counts .vars) ∙ length-replicate {A = ℕ} 8 0))
   where
     either : (f : Found) (r : Run) → Sized r → Sized (started f r .run)

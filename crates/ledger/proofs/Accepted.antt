@@ -1,35 +1,52 @@
 -- What an answer follows from, and what an accepted offer had. Assumes nothing.
-use Prim.Native.Nat.{ℕ, _+_, _-_, _≤_, _<_}
-use mathlib.Core.Path.{_≡_, refl, _∙_}
-use mathlib.Core.Bool.{true, false}
+use Prim.Native.Nat.{ℕ, _+_, _-_, _<_}
+use mathlib.Core.Path.{_≡_, refl, sym, _∙_}
+use mathlib.Core.Bool.{Bool, true, false, _||_, cond, false≢true}
 use native.Mathlib.Omega.{arith}
 use lib.Dec.{ltb, leb, eqb}
 use lib.ListN.{getD}
-use borrow.Author.Tests.{leb-true, leb-false, eqb-true, eqb-false, ltb-true, ltb-false}
+use borrow.Author.Tests.{leb-false, ltb-false}
 use Rattle.refusals.specs.declared.Refusal.{Refusal}
 use Rattle.refusals.specs.declared.Refusal.the-variants.{NoSuchOperator, MayNotRun, NotTheNext, OtherOperator, RunFull, NotARun}
+use Rattle.meaning.specs.Limits.{mostSteps}
 use Rattle.scan.specs.declared.Found.{Found}
 use Rattle.scan.specs.declared.Found.the-variants.{Clean, Fault}
-use Rattle.tables.specs.Layout.{Tables}
 use Rattle.scan.specs.Scan.{tablesFault}
+use Rattle.tables.specs.Layout.{Tables}
 use Rattle.tables.proofs.Laws.{by-cases}
 use Rattle.ledger.specs.declared.Run.{Run}
 use Rattle.ledger.specs.declared.Answer.{Answer}
 use Rattle.ledger.specs.declared.Answer.the-variants.{Accepted, Repeated, Refused}
-use Rattle.meaning.specs.Limits.{mostSteps}
-use Rattle.ledger.specs.Ledger.{canRun, isRun, oldStep, nextStep, offerJudged, answered, advanced, moved, offered}
-use Rattle.ledger.proofs.Answers.{old-same, old-other, next-full, next-not, judged-none, judged-zero, judged-beyond, judged-old, judged-next}
+use Rattle.ledger.specs.Ledger.{canRun, isRun, oldStep, nextStep, offerJudged, refusedOr, answered, advanced, moved, offered}
+use Rattle.ledger.proofs.Answers.{next-full, next-not}
+use Rattle.ledger.proofs.Gains.{by-order}
 
--- by cases on what a scan found, with the equation
-pub by-found : {A : Type 0} (x : Found) → (x ≡ Clean → A) → ((f : Refusal) → x ≡ Fault f → A) → A
-by-found Clean c e = c refl
-by-found (Fault f) c e = e f refl
+-- ---- an accepting answer passed by every refusal before it
 
 pub not-refused : (f : Refusal) → Refused f ≡ Accepted → ⊥
 not-refused f e = let z : _≡_ {A = ℕ} 0 1 = cc in omega arith
 
-not-repeated : Repeated ≡ Accepted → ⊥
-not-repeated e = let z : _≡_ {A = ℕ} 0 1 = cc in omega arith
+no-fault : (x : Found) (a : Answer) → refusedOr x a ≡ Accepted → (x ≡ Clean) × (a ≡ Accepted)
+no-fault Clean a e = (refl, e)
+no-fault (Fault f) a e = absurd (not-refused f e)
+
+held : (b : Bool) (a : Answer) (f : Refusal) → cond b a (Refused f) ≡ Accepted → (b ≡ true) × (a ≡ Accepted)
+held true a f e = (refl, e)
+held false a f e = absurd (not-refused f e)
+
+passed : (b : Bool) (f : Refusal) (a : Answer) → cond b (Refused f) a ≡ Accepted → (b ≡ false) × (a ≡ Accepted)
+passed true f a e = absurd (not-refused f e)
+passed false f a e = (refl, e)
+
+not-old : (same old : Bool) (f : Refusal) (a : Answer) → cond old (cond same Repeated (Refused f)) a ≡ Accepted
+    → (old ≡ false) × (a ≡ Accepted)
+not-old true true f a e = absurd (let z : _≡_ {A = ℕ} 0 1 = cc in omega arith)
+not-old false true f a e = absurd (not-refused f e)
+not-old same false f a e = (refl, e)
+
+neither : (a b : Bool) → (a || b) ≡ false → b ≡ false
+neither true b e = absurd (false≢true (sym e))
+neither false b e = e
 
 module _ (t : Tables) (r : Run) (number o : ℕ) where
   pub answered-fault : (f : Refusal) → tablesFault t ≡ Fault f → Refused f ≡ answered t r number o
@@ -44,85 +61,45 @@ module _ (t : Tables) (r : Run) (number o : ℕ) where
   unfolding answered
   answered-judged p q = rw (p, q) refl
 
-  -- ---- what an accepted offer had
+  pub record Had : Type 0 where
+    pub clean : tablesFault t ≡ Clean
+    pub run : isRun t r ≡ true
+    pub exists : o < t .counts .ops
+    pub next : number ≡ r .len + 1
+    pub room : r .len < mostSteps
+    pub can : canRun (t .counts) (t .facts) r o ≡ true
 
-  module _ (e : answered t r number o ≡ Accepted) where
-    pub accepted-clean : tablesFault t ≡ Clean
-    accepted-clean = by-found (tablesFault t) (λ p. p) (λ f p. absurd (not-refused f (answered-fault f p ∙ e)))
-
-    pub accepted-run : isRun t r ≡ true
-    accepted-run =
-        by-cases (isRun t r) (λ p. p) (λ p. absurd (not-refused NotARun (answered-not-a-run accepted-clean p ∙ e)))
-
-    accepted-judged : offerJudged (t .counts) (t .facts) r number o ≡ Accepted
-    accepted-judged = answered-judged accepted-clean accepted-run ∙ e
-
-    pub accepted-exists : o < t .counts .ops
-    accepted-exists =
-        by-cases (leb (t .counts .ops) o)
-        (λ p.
-        absurd
-        (not-refused (NoSuchOperator number)
-        (judged-none (t .counts) (t .facts) r number o (leb-true (t .counts .ops) o p) ∙ accepted-judged)))
-        (λ p. leb-false (t .counts .ops) o p)
-
-    accepted-some : number ≡ 0 → ⊥
-    accepted-some p =
-        not-refused (NotTheNext number) (judged-zero (t .counts) (t .facts) r number o accepted-exists p ∙ accepted-judged)
-
-    accepted-near : number ≤ r .len + 1
-    accepted-near =
-        by-cases (ltb (r .len + 1) number)
-        (λ p.
-        absurd
-        (not-refused (NotTheNext number)
-        (judged-beyond (t .counts) (t .facts) r number o accepted-exists accepted-some (ltb-true (r .len + 1) number p)
-        ∙ accepted-judged)))
-        (λ p. ltb-false (r .len + 1) number p)
-
-    not-old : number ≤ r .len → ⊥
-    not-old h =
-        let old : (x : Answer) → x ≡ oldStep r number o → x ≡ Accepted =
-        λ x p. judged-old (t .counts) (t .facts) r number o accepted-exists accepted-some x h p ∙ accepted-judged in
-        by-cases (eqb (getD (r .log) (number - 1) 0) o)
-        (λ q. not-repeated (old Repeated (old-same r number o (eqb-true (getD (r .log) (number - 1) 0) o q))))
-        (λ q.
-        not-refused (OtherOperator number)
-        (old (Refused (OtherOperator number)) (old-other r number o (eqb-false (getD (r .log) (number - 1) 0) o q))))
-
-    accepted-new : r .len < number
-    accepted-new =
-        by-cases (leb number (r .len)) (λ p. absurd (not-old (leb-true number (r .len) p)))
-        (λ p. leb-false number (r .len) p)
-
-    pub accepted-number : number ≡ r .len + 1
-    accepted-number = omega (arith, accepted-near, accepted-new)
-
-    accepted-next : nextStep (t .counts) (t .facts) r number o ≡ Accepted
-    accepted-next =
-        judged-next (t .counts) (t .facts) r number o accepted-exists accepted-some
-        (nextStep (t .counts) (t .facts) r number o)
-        accepted-near
-        accepted-new
-        refl
-        ∙ accepted-judged
-
-    pub accepted-room : r .len < mostSteps
-    accepted-room =
-        by-cases (leb mostSteps (r .len))
-        (λ p.
-        absurd
-        (not-refused (RunFull number)
-        (next-full (t .counts) (t .facts) r number o (leb-true mostSteps (r .len) p) ∙ accepted-next)))
-        (λ p. leb-false mostSteps (r .len) p)
-
-    pub accepted-can : canRun (t .counts) (t .facts) r o ≡ true
-    accepted-can =
-        by-cases (canRun (t .counts) (t .facts) r o) (λ p. p)
-        (λ p.
-        absurd
-        (not-refused (MayNotRun number)
-        (next-not (t .counts) (t .facts) r number o accepted-room p ∙ accepted-next)))
+  pub accepted-had : answered t r number o ≡ Accepted → Had
+  unfolding answered offerJudged oldStep
+  accepted-had e =
+      let judged = offerJudged (t .counts) (t .facts) r number o in
+      let next = nextStep (t .counts) (t .facts) r number o in
+      let same = eqb (getD (r .log) (number - 1) 0) o in
+      let old = cond (leb number (r .len)) (oldStep r number o) next in
+      let beyond = eqb number 0 || ltb (r .len + 1) number in
+      let found = no-fault (tablesFault t) (cond (isRun t r) judged (Refused NotARun)) e in
+      let run = held (isRun t r) judged NotARun (found .1) in
+      let exists = passed (leb (t .counts .ops) o) (NoSuchOperator number) (cond beyond (Refused (NotTheNext number)) old) (run .1) in
+      let near = passed beyond (NotTheNext number) old (exists .1) in
+      let new = not-old same (leb number (r .len)) (OtherOperator number) next (near .1) in
+      let room : r .len < mostSteps =
+      by-order (r .len) mostSteps (λ l. l)
+      (λ g. absurd (not-refused (RunFull number) (next-full (t .counts) (t .facts) r number o g ∙ new .1))) in
+      record {
+        clean = found .0;
+        run = run .0;
+        exists = leb-false (t .counts .ops) o (exists .0);
+        next =
+            omega (
+              arith,
+              ltb-false (r .len + 1) number (neither (eqb number 0) (ltb (r .len + 1) number) (near .0)),
+              leb-false number (r .len) (new .0),
+            );
+        room = room;
+        can =
+            by-cases (canRun (t .counts) (t .facts) r o) (λ p. p)
+            (λ p. absurd (not-refused (MayNotRun number) (next-not (t .counts) (t .facts) r number o room p ∙ new .1)));
+      }
 
   -- ---- the run that an offer hands back
 

@@ -1,57 +1,50 @@
 -- THE HISTORY: after any offers a run tells the steps that the offers alone say were really run. From that: each map was paid its shares, the unshared
--- column has cost less shares, all columns together are the costs; and what was run between two moments is a sequence from the earlier state. Assumes nothing.
-use Prim.Native.Nat.{ℕ, zero, suc, _<_}
+-- column has cost less shares, these together are the costs; and what was run between two moments is a sequence from the earlier state. Assumes nothing.
+use Prim.Native.Nat.{ℕ, _<_}
 use mathlib.Core.Path.{_≡_, refl, ap, sym, _∙_, subst}
 use mathlib.Core.List.{List, [], _∷_, _++_, append-assoc, append-nil}
-use mathlib.Core.Bool.{true}
 use native.Mathlib.Omega.{arith}
 use lib.ListN.{getD}
 use Rattle.meaning.specs.Sas.{State, IsState, end, paid}
 use Rattle.meaning.specs.Split.{Task, Valid, sum}
 use Rattle.meaning.proofs.Bounds.{end-state}
 use Rattle.scan.specs.declared.Found.the-variants.{Clean}
+use Rattle.scan.specs.Scan.{tablesFault}
+use Rattle.scan.proofs.Validity.{clean-valid}
 use Rattle.tables.specs.Layout.{Tables}
 use Rattle.tables.specs.Task.{taskOf, sasOf, stateOf}
-use Rattle.scan.specs.Scan.{tablesFault, stateFault}
 use Rattle.tables.proofs.Laws.{by-cases}
 use Rattle.ledger.specs.declared.Run.{Run}
 use Rattle.ledger.specs.declared.Answer.the-variants.{Accepted}
-use Rattle.ledger.specs.Ledger.{allColumns, unshared, rest, gain, fresh, startIn, startFrom, offered, begun}
+use Rattle.ledger.specs.Ledger.{costColumns, unshared, rest, gain, fresh, offered, begun}
 use Rattle.ledger.specs.History.{Offer, reallyRuns, added, reallyRun, ran, runAfter, Tells, Between}
-use Rattle.ledger.proofs.Gains.{gain-map, gain-rest, gain-all}
+use Rattle.ledger.proofs.Gains.{sum-same, gain-map, gain-rest, gain-all}
 use Rattle.ledger.proofs.Sequences.{end-append, end-same, runs-later, runs-same, paid-append, paid-same, paid-sum}
-use Rattle.scan.proofs.Walks.{clean-first, clean-next}
-use Rattle.scan.proofs.Validity.{clean-valid, state-clean}
-use Rattle.ledger.proofs.Entries.{begun-no-fault, begun-run}
-use Rattle.ledger.proofs.Begun.{from-inside}
+use Rattle.ledger.proofs.Entries.{Began, accepted-began}
+use Rattle.ledger.proofs.Begun.{startOf}
 use Rattle.ledger.proofs.Told.{Told, fresh-told, offer-told}
 
 -- ---- what a run that tells its steps says of the columns
 
-sum-same : (f g : ℕ → ℕ) (k : ℕ) → ((c : ℕ) → c < k → f c ≡ g c) → sum f k ≡ sum g k
-sum-same f g zero h = refl
-sum-same f g (suc k) h = omega (arith, sum-same f g k (λ c l. h c (omega arith)), h k (omega arith))
-
 module _ (T : Task) (valid : Valid T) (s : State) (done : List ℕ) (r : Run) (tells : Tells T s done r) where
   -- each map was paid its shares
-  pub tells-map : (m : ℕ) → m < T .maps → getD (r .columns) m 0 ≡ paid (T .share m) done
+  tells-map : (m : ℕ) → m < T .maps → getD (r .columns) m 0 ≡ paid (T .share m) done
   tells-map m h =
       tells .column m (omega (arith, valid .maps .1))
       ∙ paid-same (T .sas) (gain T m) (T .share m) (λ o l. gain-map T m o h) done s (tells .legal)
 
   -- what is left of the costs stands in the unshared column
-  pub tells-unshared : getD (r .columns) unshared 0 ≡ paid (rest T) done
+  tells-unshared : getD (r .columns) unshared 0 ≡ paid (rest T) done
   tells-unshared =
       tells .column unshared (omega arith)
       ∙ paid-same (T .sas) (gain T unshared) (rest T) (λ o l. gain-rest T unshared o (valid .maps .1) refl) done s (tells .legal)
 
-  -- all columns together are the costs
-  pub tells-all : sum (λ c. getD (r .columns) c 0) allColumns ≡ paid (T .sas .cost) done
+  -- these together are the costs
+  tells-all : sum (λ c. getD (r .columns) c 0) costColumns ≡ paid (T .sas .cost) done
   tells-all =
-      sum-same (λ c. getD (r .columns) c 0) (λ c. paid (gain T c) done) allColumns (tells .column)
-      ∙ paid-sum (gain T) allColumns done
-      ∙ paid-same (T .sas) (λ o. sum (λ c. gain T c o) allColumns) (T .sas .cost) (λ o l. gain-all T valid o l) done s
-      (tells .legal)
+      sum-same (λ c. getD (r .columns) c 0) (λ c. paid (gain T c) done) costColumns (λ c h. tells .column c (omega arith))
+      ∙ paid-sum (gain T) costColumns done
+      ∙ paid-same (T .sas) (λ o. sum (λ c. gain T c o) costColumns) (T .sas .cost) (gain-all T valid) done s (tells .legal)
 
 -- ---- two runs of which the later tells more steps
 
@@ -76,70 +69,54 @@ unfolding ran
 ran-append t r [] ys = refl
 ran-append t r (x ∷ xs) ys = ran-append t (offered t r (x .number) (x .op) .run) xs ys
 
-module _ (t : Tables) (s : List ℕ) (clean : tablesFault t ≡ Clean) (valid : Valid (taskOf t))
-    (inside : startIn (t .counts) (t .facts) (startFrom (t .counts) s) ≡ true) where
-  ran-told : (xs : List Offer) (done : List ℕ) (q : Run) → Told t s clean valid inside done q
-      → Told t s clean valid inside (done ++ added (sasOf t) (stateOf s) done xs) (ran t q xs)
+module _ (t : Tables) (s : List ℕ) (clean : tablesFault t ≡ Clean) (state : IsState (sasOf t) (stateOf s)) where
+  ran-told : (xs : List Offer) (done : List ℕ) (q : Run) → Told t s done q
+      → Told t s (done ++ added (sasOf t) (stateOf s) done xs) (ran t q xs)
   unfolding ran added
   ran-told [] done q told = rw (append-nil done) told
   ran-told (x ∷ xs) done q told =
+      let next = offered t q (x .number) (x .op) .run in
+      let on = offer-told t s clean state done q told x in
       by-cases (reallyRuns (sasOf t) (stateOf s) done x)
       (λ p.
       rw p
-      (subst (λ (l : List ℕ). Told t s clean valid inside l (ran t (offered t q (x .number) (x .op) .run) xs))
+      (subst (λ (l : List ℕ). Told t s l (ran t next xs))
       (append-assoc done (x .op ∷ []) (added (sasOf t) (stateOf s) (done ++ (x .op ∷ [])) xs))
-      (ran-told xs (done ++ (x .op ∷ [])) (offered t q (x .number) (x .op) .run)
-      (rw p at (offer-told t s clean valid inside done q told x)))))
-      (λ p.
-      rw p
-      (ran-told xs done (offered t q (x .number) (x .op) .run)
-      (rw p at (offer-told t s clean valid inside done q told x))))
+      (ran-told xs (done ++ (x .op ∷ [])) next (rw p at on))))
+      (λ p. rw p (ran-told xs done next (rw p at on)))
 
-  fresh-ran : (xs : List Offer)
-      → Told t s clean valid inside (reallyRun (sasOf t) (stateOf s) xs) (ran t (fresh (startFrom (t .counts) s)) xs)
-  fresh-ran xs = ran-told xs [] (fresh (startFrom (t .counts) s)) (fresh-told t s clean valid inside)
+  fresh-ran : (xs : List Offer) → Told t s (reallyRun (sasOf t) (stateOf s) xs) (ran t (fresh (startOf t s)) xs)
+  fresh-ran xs = ran-told xs [] (fresh (startOf t s)) (fresh-told t s clean state)
 
-  pub fresh-tells : (xs : List Offer)
-      → Tells (taskOf t) (stateOf s) (reallyRun (sasOf t) (stateOf s) xs) (ran t (fresh (startFrom (t .counts) s)) xs)
-  fresh-tells xs = fresh-ran xs .tells
-
-  pub fresh-between : (xs ys : List Offer)
-      → Between (taskOf t) (added (sasOf t) (stateOf s) (reallyRun (sasOf t) (stateOf s) xs) ys)
-      (ran t (fresh (startFrom (t .counts) s)) xs)
-      (ran t (fresh (startFrom (t .counts) s)) (xs ++ ys))
+  fresh-between : (xs ys : List Offer)
+      → Between (taskOf t) (added (sasOf t) (stateOf s) (reallyRun (sasOf t) (stateOf s) xs) ys) (ran t (fresh (startOf t s)) xs)
+      (ran t (fresh (startOf t s)) (xs ++ ys))
   fresh-between xs ys =
-      let earlier = ran t (fresh (startFrom (t .counts) s)) xs in
+      let earlier = ran t (fresh (startOf t s)) xs in
       let done = reallyRun (sasOf t) (stateOf s) xs in
-      rw (ran-append t (fresh (startFrom (t .counts) s)) xs ys)
+      rw (ran-append t (fresh (startOf t s)) xs ys)
       (tells-between (taskOf t) (stateOf s) done (added (sasOf t) (stateOf s) done ys) earlier (ran t earlier ys)
-      (fresh-tells xs)
+      (fresh-ran xs .tells)
       (ran-told ys done earlier (fresh-ran xs) .tells))
 
 -- ---- THE THEOREMS, of any accepted start and any offers, so at every moment
 
 module _ (t : Tables) (s : List ℕ) (accepted : begun t s .answer ≡ Accepted) where
-  clean : tablesFault t ≡ Clean
-  clean = clean-first (tablesFault t) (stateFault (t .counts) (t .facts) s) (begun-no-fault t s accepted)
+  began : Began t s
+  began = accepted-began t s accepted
 
   valid : Valid (taskOf t)
-  valid = clean-valid t clean
-
-  start-state : IsState (sasOf t) (stateOf s)
-  start-state =
-      state-clean t s .0 (clean-next (tablesFault t) (stateFault (t .counts) (t .facts) s) (begun-no-fault t s accepted)) .1
-
-  inside : startIn (t .counts) (t .facts) (startFrom (t .counts) s) ≡ true
-  inside = from-inside t s valid start-state
+  valid = clean-valid t (began .clean)
 
   -- the run tells the steps really run
   pub history : (xs : List Offer) → Tells (taskOf t) (stateOf s) (reallyRun (sasOf t) (stateOf s) xs) (runAfter t s xs)
-  history xs = rw (begun-run t s accepted) (fresh-tells t s clean valid inside xs)
+  history xs = rw (began .run) (fresh-ran t s (began .clean) (began .state) xs .tells)
 
   -- the state now is a state of the task
   pub now-state : (xs : List Offer) → IsState (sasOf t) (stateOf (runAfter t s xs .now))
   now-state xs v l =
       rw (history xs .now v l)
-      (end-state (sasOf t) (valid .proper) (reallyRun (sasOf t) (stateOf s) xs) (stateOf s) start-state (history xs .legal) v l)
+      (end-state (sasOf t) (valid .proper) (reallyRun (sasOf t) (stateOf s) xs) (stateOf s) (began .state) (history xs .legal) v l)
 
   -- each map was paid its shares of them
   pub map-paid : (xs : List Offer) (m : ℕ) → m < t .counts .maps
@@ -152,13 +129,13 @@ module _ (t : Tables) (s : List ℕ) (accepted : begun t s .answer ≡ Accepted)
   unshared-paid xs =
       tells-unshared (taskOf t) valid (stateOf s) (reallyRun (sasOf t) (stateOf s) xs) (runAfter t s xs) (history xs)
 
-  -- all columns together are their costs
+  -- the columns of the cost together are their costs
   pub all-paid : (xs : List Offer)
-      → sum (λ c. getD (runAfter t s xs .columns) c 0) allColumns ≡ paid (sasOf t .cost) (reallyRun (sasOf t) (stateOf s) xs)
+      → sum (λ c. getD (runAfter t s xs .columns) c 0) costColumns ≡ paid (sasOf t .cost) (reallyRun (sasOf t) (stateOf s) xs)
   all-paid xs = tells-all (taskOf t) valid (stateOf s) (reallyRun (sasOf t) (stateOf s) xs) (runAfter t s xs) (history xs)
 
   -- what further offers add runs from the earlier state to the later, and the columns grow by it
   pub between : (xs ys : List Offer)
       → Between (taskOf t) (added (sasOf t) (stateOf s) (reallyRun (sasOf t) (stateOf s) xs) ys) (runAfter t s xs)
       (runAfter t s (xs ++ ys))
-  between xs ys = rw (begun-run t s accepted) (fresh-between t s clean valid inside xs ys)
+  between xs ys = rw (began .run) (fresh-between t s (began .clean) (began .state) xs ys)

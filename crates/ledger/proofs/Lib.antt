@@ -8,5 +8,3 @@ pub mod Sequences
 pub mod Told
 pub mod History
 pub mod Sound
-pub mod Full
-pub mod Cases

@@ -11,7 +11,7 @@ use Rattle.meaning.specs.Split.{Task}
 use Rattle.tables.specs.Layout.{Tables}
 use Rattle.tables.specs.Task.{stateOf}
 use Rattle.ledger.specs.declared.Run.{Run}
-use Rattle.meaning.specs.Limits.{mostSteps}
+use Rattle.meaning.specs.Limits.{mostVars, mostSteps}
 use Rattle.ledger.specs.Ledger.{allColumns, gain, offered, begun}
 
 -- an offer: a step number and an operator
@@ -69,7 +69,7 @@ pub record Between (T : Task) (os : List ℕ) (earlier later : Run) : Type 0 whe
 
 -- a run as its type has it: the lengths of its lists
 pub record Sized (r : Run) : Type 0 where
-  pub start : length (r .start) ≡ 8
+  pub start : length (r .start) ≡ mostVars
   pub log : length (r .log) ≡ mostSteps
-  pub now : length (r .now) ≡ 8
+  pub now : length (r .now) ≡ mostVars
   pub columns : length (r .columns) ≡ allColumns

@@ -11,10 +11,10 @@ use Rattle.tables.specs.declared.Counts.{Counts}
 use Rattle.scan.specs.declared.Found.{Found}
 use Rattle.scan.specs.declared.Found.the-variants.{Clean, Fault}
 use Rattle.tables.specs.Layout.{Tables, domAt}
-use Rattle.tables.specs.Task.{taskOf, stateOf}
-use Rattle.tables.specs.Steps.{mayRun, overwritten, stepped}
+use Rattle.tables.specs.Task.{taskOf}
+use Rattle.tables.specs.Steps.{mayRun, overwritten, stepped, copied}
 use Rattle.scan.specs.Scan.{tablesFault, inputFault}
-use Rattle.meaning.specs.Limits.{mostSteps}
+use Rattle.meaning.specs.Limits.{mostVars, mostMaps, mostSteps}
 use Rattle.ledger.specs.declared.Run.{Run}
 use Rattle.ledger.specs.declared.Tried.{Tried}
 use Rattle.ledger.specs.declared.Answer.{Answer}
@@ -22,11 +22,16 @@ use Rattle.ledger.specs.declared.Answer.the-variants.{Accepted, Repeated
 use Rattle.ledger.specs.declared.Offered.{Offered}
 
 -- columns 0 to 7 are what the maps were paid, column 8 is the unshared one
-abbrev pub allColumns : ℕ
-allColumns = 9
-
 abbrev pub unshared : ℕ
-unshared = 8
+unshared = mostMaps
+
+-- these together are the steps' cost
+abbrev pub costColumns : ℕ
+costColumns = unshared + 1
+
+-- all columns that a run has: for now there is none that is no payment
+abbrev pub allColumns : ℕ
+allColumns = costColumns
 
 -- cost less shares
 unfoldable pub rest : Task → ℕ → ℕ
@@ -80,7 +85,7 @@ abbrev pub startsAt : Counts → List ℕ → List ℕ → ℕ → Bool
 startsAt c facts s v = startAt c facts v (getD s v 0)
 
 unfoldable pub startIn : Counts → List ℕ → List ℕ → Bool
-startIn c facts s = every (startsAt c facts s) 8
+startIn c facts s = every (startsAt c facts s) mostVars
 
 -- two lists have the same numbers at the first k places; two runs are the same at every place
 abbrev pub sameAt : List ℕ → List ℕ → ℕ → Bool
@@ -89,14 +94,10 @@ sameAt xs ys i = eqb (getD xs i 0) (getD ys i 0)
 unfoldable pub sameTo : ℕ → List ℕ → List ℕ → Bool
 sameTo k xs ys = every (sameAt xs ys) k
 
-unfoldable pub sameStates : Run → Run → Bool
-sameStates r q = sameTo 8 (r .start) (q .start) && sameTo 8 (r .now) (q .now)
-
-unfoldable pub sameSteps : Run → Run → Bool
-sameSteps r q = eqb (r .len) (q .len) && sameTo mostSteps (r .log) (q .log)
-
 unfoldable pub sameRun : Run → Run → Bool
-sameRun r q = sameStates r q && sameSteps r q && sameTo allColumns (r .columns) (q .columns)
+sameRun r q =
+    sameTo mostVars (r .start) (q .start) && sameTo mostVars (r .now) (q .now) && eqb (r .len) (q .len)
+    && sameTo mostSteps (r .log) (q .log) && sameTo allColumns (r .columns) (q .columns)
 
 -- the run is what its start and log give
 unfoldable pub isRun : Tables → Run → Bool
@@ -121,14 +122,14 @@ offerJudged c facts r number o =
     (cond (leb number (r .len)) (oldStep r number o) (nextStep c facts r number o)))
 
 -- a fault refuses, before all that comes after it
-abbrev pub unlessFault : Found → Answer → Answer
-unlessFault Clean a = a
-unlessFault (Fault f) a = Refused f
+abbrev pub refusedOr : Found → Answer → Answer
+refusedOr Clean a = a
+refusedOr (Fault f) a = Refused f
 
 -- the answer to an offer: tables, then 17, then the offer itself
 unfoldable pub answered : Tables → Run → ℕ → ℕ → Answer
 answered t r number o =
-    unlessFault (tablesFault t) (cond (isRun t r) (offerJudged (t .counts) (t .facts) r number o) (Refused NotARun))
+    refusedOr (tablesFault t) (cond (isRun t r) (offerJudged (t .counts) (t .facts) r number o) (Refused NotARun))
 
 -- only an accepted offer moves the run
 abbrev pub moved : Tables → Run → ℕ → Answer → Run
@@ -140,15 +141,11 @@ moved t r o (Refused f) = r
 unfoldable pub offered : Tables → Run → ℕ → ℕ → Offered
 offered t r number o = record { run = moved t r o (answered t r number o); answer = answered t r number o }
 
--- the start of a run from a lent state: its values, and 0 beyond the variables
-unfoldable pub startFrom : Counts → List ℕ → List ℕ
-startFrom c s = overwritten (stateOf s) (replicate 8 0) (c .vars)
-
 -- a refused start hands back a run of zeros
 unfoldable pub started : Found → Run → Offered
 started Clean r = record { run = r; answer = Accepted }
-started (Fault f) r = record { run = fresh (replicate 8 0); answer = Refused f }
+started (Fault f) r = record { run = fresh (replicate mostVars 0); answer = Refused f }
 
--- A START: tables, then the state
+-- A START: tables, then the state; the run starts from the lent state's values, with 0 beyond the variables
 unfoldable pub begun : Tables → List ℕ → Offered
-begun t s = started (inputFault t s) (fresh (startFrom (t .counts) s))
+begun t s = started (inputFault t s) (fresh (copied s (t .counts .vars)))

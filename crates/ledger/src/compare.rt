@@ -2,11 +2,12 @@
 ghost use mathlib.Core.Path.{_≡_};
 ghost use Prim.Native.Nat.{_≤_};
 ghost use lib.ListN.{length};
+ghost use Rattle.meaning.specs.Limits.{mostVars};
 ghost use Rattle.ledger.specs.Ledger.{sameTo};
 
 // Two states, at all their places.
 pub fn same_bytes(a: &[u8; 8], b: &[u8; 8]) -> bool
-    ensures { λ r. ⌜ r ≡ sameTo 8 (now (a .entry)) (now (b .entry)) ⌝ }
+    ensures { λ r. ⌜ r ≡ sameTo mostVars (now (a .entry)) (now (b .entry)) ⌝ }
 {
     let mut i: usize = 0;
     while i < 8 {

@@ -4,9 +4,9 @@ ghost use Prim.Native.Nat.{_≤_, _<_};
 ghost use lib.ListN.{take};
 ghost use Rattle.meaning.specs.Split.{Valid};
 ghost use Rattle.tables.specs.Task.{taskOf, tables, lent};
-ghost use Rattle.meaning.specs.Limits.{mostSteps};
-ghost use Rattle.ledger.specs.Ledger.{fresh, advanced, canRun, replayed, sameStates, sameSteps, sameRun, isRun, oldStep, nextStep, offerJudged, answered, offered, begun};
-ghost use Rattle.ledger.specs.Inside.{Bounded};
+ghost use Rattle.meaning.specs.Limits.{mostOps, mostSteps};
+ghost use Rattle.ledger.specs.Ledger.{fresh, advanced, canRun, replayed, sameRun, isRun, oldStep, nextStep, offerJudged, answered, offered, begun};
+ghost use Rattle.ledger.specs.Inside.Bounded.{Bounded};
 
 mod columns;
 mod compare;
@@ -15,7 +15,6 @@ mod starts;
 use crate::columns::columns_after;
 use crate::compare::same_bytes;
 use crate::compare::same_words;
-use crate::starts::start_from;
 use crate::starts::start_in;
 use meaning::OpNo;
 use meaning::limits::STEPS_MOST;
@@ -23,15 +22,19 @@ use refusals::Refusal;
 use scan::Found;
 use scan::input_fault;
 use scan::tables_fault;
+use sequences::stepping::copy;
 use tables::Counts;
 use tables::steps::may_run;
 use tables::steps::state_after;
 
-// How many columns a run has: what each of 8 maps was paid, and the unshared one.
-pub const COLUMNS: usize = 9;
-
-// The unshared column.
+// The unshared column, after those of 8 maps.
 pub const UNSHARED: usize = 8;
+
+// The columns that together are the steps' cost: what each map was paid, and the unshared one.
+pub const COST_COLUMNS: usize = UNSHARED + 1;
+
+// All columns that a run has.
+pub const COLUMNS: usize = COST_COLUMNS;
 
 // A run: its start, the operators of its steps, how many they are, the state now, and the columns. Unused places are 0.
 pub struct Run {
@@ -92,7 +95,7 @@ impl Run {
 
     // The operator exists and may run now.
     fn can_run(self, c: Counts, facts: &[u8], op: OpNo) -> bool
-        requires { ⌜ c .ops ≤ 64 ⌝ }
+        requires { ⌜ c .ops ≤ mostOps ⌝ }
         ensures { λ r. ⌜ r ≡ canRun c (now (facts .entry)) self (op .0) ⌝ }
     {
         if c.ops <= op.0 {
@@ -101,34 +104,20 @@ impl Run {
         may_run(c, facts, &self.now, op)
     }
 
-    // The two runs have the same start and the same state now.
-    fn same_states(self, q: Run) -> bool
-        ensures { λ r. ⌜ r ≡ sameStates self q ⌝ }
+    // The two runs are the same at every place, the unused ones too.
+    fn same(self, q: Run) -> bool
+        ensures { λ r. ⌜ r ≡ sameRun self q ⌝ }
     {
         if !same_bytes(&self.start, &q.start) {
             return false;
         }
-        same_bytes(&self.now, &q.now)
-    }
-
-    // The two runs have the same number of steps and the same log, its unused places too.
-    fn same_steps(self, q: Run) -> bool
-        ensures { λ r. ⌜ r ≡ sameSteps self q ⌝ }
-    {
+        if !same_bytes(&self.now, &q.now) {
+            return false;
+        }
         if self.len != q.len {
             return false;
         }
-        same_words(&self.log, &q.log, STEPS_MOST)
-    }
-
-    // The two runs are the same at every place.
-    fn same(self, q: Run) -> bool
-        ensures { λ r. ⌜ r ≡ sameRun self q ⌝ }
-    {
-        if !self.same_states(q) {
-            return false;
-        }
-        if !self.same_steps(q) {
+        if !same_words(&self.log, &q.log, STEPS_MOST) {
             return false;
         }
         same_words(&self.columns, &q.columns, COLUMNS)
@@ -194,7 +183,7 @@ impl Run {
 
     // The next number: refused if the run is full or the operator may not run, else accepted.
     fn next_step(self, c: Counts, facts: &[u8], number: u32, op: OpNo) -> Answer
-        requires { ⌜ c .ops ≤ 64 ⌝ }
+        requires { ⌜ c .ops ≤ mostOps ⌝ }
         ensures { λ r. ⌜ r ≡ nextStep c (now (facts .entry)) self number (op .0) ⌝ }
     {
         if STEPS_MOST <= self.len as usize {
@@ -208,7 +197,7 @@ impl Run {
 
     // What an offer to a run is answered.
     fn judge(self, c: Counts, facts: &[u8], number: u32, op: OpNo) -> Answer
-        requires { ⌜ (c .ops ≤ 64) × (self .len ≤ mostSteps) ⌝ }
+        requires { ⌜ (c .ops ≤ mostOps) × (self .len ≤ mostSteps) ⌝ }
         ensures { λ r. ⌜ r ≡ offerJudged c (now (facts .entry)) self number (op .0) ⌝ }
     {
         if c.ops <= op.0 {
@@ -289,8 +278,7 @@ impl Run {
         let found = input_fault(c, facts, costs, shares, start);
         match found {
             Found::Clean => {
-                let s = start_from(c, start);
-                let run = Run::fresh(s);
+                let run = Run::fresh(copy(c.vars, start));
                 Offered {
                     run,
                     answer: Answer::Accepted,

@@ -1,8 +1,6 @@
-// The start of a run: whether a run's own start is one, and the start from a lent state.
+// Whether a run's own start is one.
 ghost use mathlib.Core.Path.{_≡_};
-ghost use Prim.Native.Nat.{_≤_};
-ghost use Rattle.ledger.specs.Ledger.{startAt, startIn, startFrom};
-use sequences::stepping::copy;
+ghost use Rattle.ledger.specs.Ledger.{startAt, startIn};
 use tables::Counts;
 use tables::readers::DOM_ROW;
 use tables::readers::row_at;
@@ -29,12 +27,4 @@ pub fn start_in(c: Counts, facts: &[u8], s: [u8; 8]) -> bool
         v += 1;
     }
     true
-}
-
-// The values of a lent state, and 0 beyond the variables.
-pub fn start_from(c: Counts, s: &[u8]) -> [u8; 8]
-    requires { ⌜ c .vars ≤ 8 ⌝ }
-    ensures { λ r. ⌜ r ≡ startFrom c (now (s .entry)) ⌝ }
-{
-    copy(c.vars, s)
 }

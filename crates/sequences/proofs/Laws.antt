@@ -20,7 +20,7 @@ use Rattle.meaning.proofs.Facts.{complies-true, complies-same}
 use Rattle.meaning.proofs.Space.{after-same}
 use Rattle.tables.specs.Layout.{Tables}
 use Rattle.tables.specs.Task.{sasOf, stateOf}
-use Rattle.tables.specs.Steps.{meetsGoal, stepped}
+use Rattle.tables.specs.Steps.{meetsGoal, stepped, copied}
 use Rattle.tables.proofs.Laws.{filled-at}
 use Rattle.tables.proofs.Meant.{meets-goal-is, stepped-is, stepped-length}
 use Rattle.sequences.specs.declared.stepping.Stepped.{Stepped}
@@ -29,7 +29,7 @@ use Rattle.sequences.specs.declared.judging.Judged.the-variants.{Passed,
 use Rattle.sequences.specs.declared.choosing.Reached.{Reached}
 use Rattle.sequences.specs.declared.choosing.Reached.the-variants.{After, Out}
 use Rattle.sequences.specs.Stepping.{stepOf, takenApart}
-use Rattle.sequences.specs.Inside.Steps.{Usable, copied}
+use Rattle.sequences.specs.Inside.Steps.{Usable}
 use Rattle.meaning.specs.Limits.{mostVars, mostOps, mostCost, mostSteps}
 use Rattle.sequences.specs.Judging.{onto, walked, limited}
 use Rattle.sequences.specs.Choosing.{orOut, reachedFrom, reachedOf}

@@ -2,10 +2,12 @@
 use mathlib.Core.Bool.{Bool}
 use mathlib.Core.List.{List}
 use Prim.Native.Nat.{ℕ, zero, suc}
-use lib.ListN.{getD, set}
+use lib.ListN.{getD, set, replicate}
+use Rattle.meaning.specs.Limits.{mostVars}
 use Rattle.meaning.specs.Sas.{put}
 use Rattle.meaning.specs.Views.{holds, every}
 use Rattle.tables.specs.declared.Counts.{Counts}
+use Rattle.tables.specs.Task.{stateOf}
 use Rattle.tables.specs.Layout.{rowAt, goalRow, preRow, effRow}
 
 -- what a row of facts says of variable v holds in the state; of the first n variables
@@ -35,3 +37,7 @@ valueAfter facts row s v = put (rowAt facts row v) (getD s v 0)
 -- the state after operator o: each effect holds and all else stays
 unfoldable pub stepped : Counts → List ℕ → List ℕ → ℕ → List ℕ
 stepped c facts s o = overwritten (valueAfter facts (effRow o) s) s (c .vars)
+
+-- the lent state by value: a place for each variable, those beyond the task's 0
+unfoldable pub copied : List ℕ → ℕ → List ℕ
+copied s vars = overwritten (stateOf s) (replicate mostVars 0) vars

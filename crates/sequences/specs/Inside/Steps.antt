@@ -1,20 +1,14 @@
--- What a walk over a list of operators starts from: the task without its split, fit for the steps, and the lent state by value.
+-- What a walk over a list of operators starts from: the task without its split, fit for the steps.
 use Prim.Native.Nat.{ℕ, _≤_, _<_}
 use mathlib.Core.List.{List, []}
-use lib.ListN.{replicate}
 use Rattle.meaning.specs.Limits.{mostVars, mostOps, mostCost}
 use Rattle.meaning.specs.Sas.{Sas}
 use Rattle.tables.specs.declared.Counts.{Counts}
-use Rattle.tables.specs.Task.{sasOf, stateOf, tables}
-use Rattle.tables.specs.Steps.{overwritten}
+use Rattle.tables.specs.Task.{sasOf, tables}
 
 -- the task without its split: judging reads no shares
 abbrev pub sas : Counts → List ℕ → List ℕ → Sas
 sas c facts costs = sasOf (tables c facts costs [])
-
--- the lent state by value: a place for each variable, those beyond the task's 0
-unfoldable pub copied : List ℕ → ℕ → List ℕ
-copied s vars = overwritten (stateOf s) (replicate mostVars 0) vars
 
 -- what accepted tables give the steps
 pub record Usable (S : Sas) : Type 0 where

@@ -1,4 +1,4 @@
--- `Run::advance` meets its contract. Assumes nothing.
+-- `Run::advance` meets its contract: each part as it is written; a bounded run has room in its columns. Assumes nothing.
 use Rattle.ledger.proofs.Gains.{column-room}
 use Rattle.meaning.specs.Limits.{mostSteps}
 use Rattle.ledger.specs.Ledger.{advanced}
@@ -17,7 +17,9 @@ unfolding mostSteps
 add-self c = omega (arith, c .before .before .before .before .before .pre .2)
 
 columns-after-requires : tie.Need-columns-after-requires
-columns-after-requires c κs = (c .before .before .before .before .before .before .pre .0, c .before .before .before .before .before .before .pre .1, column-room _ (c .before .before .before .before .before .before .pre .2) (c .before .before .before .before .before .before .pre .3))
+columns-after-requires c κs =
+    let pre = c .before .before .before .before .before .before .pre in
+    (pre .0, pre .1, column-room _ (pre .2) (pre .3))
 
 returns : tie.Need-returns
 unfolding advanced

@@ -1,4 +1,4 @@
--- `Run::can_run` meets its contract. Assumes nothing.
+-- `Run::can_run` meets its contract: it exists and may run, each test of the definition in turn. Assumes nothing.
 use Rattle.ledger.proofs.Answers.{can-may, can-no}
 use borrow.Author.Needs.{needs}
 use Rattle.ledger.proofs.Run.can_run.Statement.{statement}

@@ -1,4 +1,4 @@
--- `Run::fresh` meets its contract. Assumes nothing.
+-- `Run::fresh` meets its contract: it is the definition. Assumes nothing.
 use Rattle.meaning.specs.Limits.{mostSteps}
 use Rattle.ledger.specs.Ledger.{fresh}
 use mathlib.Core.Path.{refl}

@@ -1,4 +1,4 @@
--- `Run::judge` meets its contract. Assumes nothing.
+-- `Run::judge` meets its contract: the tests in the order of the definition. Assumes nothing.
 use Rattle.ledger.proofs.Answers.{judged-beyond, judged-next, judged-none, judged-old, judged-zero}
 use Rattle.meaning.specs.Limits.{mostSteps}
 use borrow.Author.Needs.{needs}
@@ -20,10 +20,15 @@ returns-3 : tie.Need-returns-3
 returns-3 c = judged-beyond _ _ _ _ _ (c .before .before .before .if1 .left) (c .before .before .if2 .left) (c .if3 .taken)
 
 returns-4 : tie.Need-returns-4
-returns-4 c = judged-old _ _ _ _ _ (c .before .before .before .before .before .before .if1 .left) (c .before .before .before .before .before .if2 .left) _ (c .before .if4 .taken) (c .old-step .ensures)
+returns-4 c =
+    let x = c .before .before .before .before .before in
+    judged-old _ _ _ _ _ (x .before .if1 .left) (x .if2 .left) _ (c .before .if4 .taken) (c .old-step .ensures)
 
 returns-5 : tie.Need-returns-5
-returns-5 c = judged-next _ _ _ _ _ (c .before .before .before .before .before .before .if1 .left) (c .before .before .before .before .before .if2 .left) _ (c .before .before .before .if3 .left) (c .before .if4 .left) (c .next-step .ensures)
+returns-5 c =
+    let y = c .before .before .before in
+    let x = y .before .before in
+    judged-next _ _ _ _ _ (x .before .if1 .left) (x .if2 .left) _ (y .if3 .left) (c .before .if4 .left) (c .next-step .ensures)
 
 pub judge-spec : {M : Type 1} → statement M
 judge-spec =

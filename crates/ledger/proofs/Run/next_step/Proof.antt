@@ -1,4 +1,4 @@
--- `Run::next_step` meets its contract. Assumes nothing.
+-- `Run::next_step` meets its contract: the tests in the order of the definition. Assumes nothing.
 use Rattle.ledger.proofs.Answers.{next-full, next-go, next-not}
 use Rattle.meaning.specs.Limits.{mostSteps}
 use borrow.Author.Needs.{needs}

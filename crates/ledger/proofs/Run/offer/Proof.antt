@@ -1,14 +1,9 @@
 -- `Run::offer` meets its contract: an accepted offer had all that a step asks. Assumes nothing.
 use Rattle.ledger.proofs.Entries.{offered-accepted, offered-refused, offered-repeated, step-asks}
-use Rattle.tables.specs.Layout.{Tables}
-use Rattle.tables.specs.Task.{tables}
 use borrow.Author.Needs.{needs}
 use mathlib.Core.Path.{_∙_, sym}
 use Rattle.ledger.proofs.Run.offer.Statement.{statement}
 use Rattle.ledger.proofs.Run.offer.Tie as tie
-
-abbrev lent : tie.Start → Tables
-lent c = tables (c .args .c) (c .args .facts .now) (c .args .costs .now) (c .args .shares .now)
 
 advance-requires : tie.Need-advance-requires
 advance-requires c κs = step-asks _ _ _ _ (sym (c .before .before .answer .ensures) ∙ c .enum-told .given .1)

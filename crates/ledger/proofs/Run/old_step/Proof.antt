@@ -1,4 +1,4 @@
--- `Run::old_step` meets its contract. Assumes nothing.
+-- `Run::old_step` meets its contract: the logged operator decides. Assumes nothing.
 use Rattle.ledger.proofs.Answers.{old-other, old-same}
 use Rattle.meaning.specs.Limits.{mostSteps}
 use borrow.Author.Needs.{needs}

@@ -22,14 +22,23 @@ loop-holds c = (omega arith, refl)
 
 returns : tie.Need-returns Inv-loop μ-loop
 unfolding sameTo
-returns c = sym (every-false (sameAt (c .before .before .before .before .before .args .a .now) (c .before .before .before .before .before .args .b .now)) (c .before .before .before .before .before .args .k) (c .before .before .before .before .loop .i) (omega arith) (ne-eqb _ _ (c .if1 .taken)))
+returns c =
+    let l = c .before .before .before .before in
+    let a = l .before .args in
+    sym (every-false (sameAt (a .a .now) (a .b .now)) (a .k) (l .loop .i) (omega arith) (ne-eqb _ _ (c .if1 .taken)))
 
 loop-again : tie.Need-loop-again Inv-loop μ-loop
-loop-again c = (omega arith, every-more (sameAt (c .before .before .before .before .before .args .a .now) (c .before .before .before .before .before .args .b .now)) (c .before .before .before .before .loop .i) (c .before .before .before .before .loop .inv .1) (eq-eqb _ _ (c .if1 .left)))
+loop-again c =
+    let l = c .before .before .before .before in
+    let a = l .before .args in
+    (omega arith, every-more (sameAt (a .a .now) (a .b .now)) (l .loop .i) (l .loop .inv .1) (eq-eqb _ _ (c .if1 .left)))
 
 returns-2 : tie.Need-returns-2 Inv-loop μ-loop
 unfolding sameTo
-returns-2 c = every-end (sameAt (c .before .before .args .a .now) (c .before .before .args .b .now)) (c .before .before .args .k) (c .before .loop .i) (c .before .loop .inv .1) (omega arith) (omega arith)
+returns-2 c =
+    let l = c .before in
+    let a = l .before .args in
+    every-end (sameAt (a .a .now) (a .b .now)) (a .k) (l .loop .i) (l .loop .inv .1) (omega arith) (omega arith)
 
 pub same-words-spec : {M : Type 1} → statement M
 same-words-spec =

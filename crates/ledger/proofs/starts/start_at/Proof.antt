@@ -1,4 +1,4 @@
--- `starts::start_at` meets its contract. Assumes nothing.
+-- `starts::start_at` meets its contract: by whether the variable is one of the task. Assumes nothing.
 use Rattle.ledger.proofs.Answers.{start-beyond, start-within}
 use borrow.Author.Needs.{needs}
 use Rattle.ledger.proofs.starts.start_at.Statement.{statement}

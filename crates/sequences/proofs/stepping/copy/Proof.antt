@@ -6,9 +6,8 @@ use lib.ListN.{replicate}
 use borrow.Author.Needs.{needs}
 use Rattle.meaning.specs.Limits.{mostVars}
 use Rattle.tables.proofs.Laws.{filled-next, filled-end}
-use Rattle.tables.specs.Steps.{overwritten}
+use Rattle.tables.specs.Steps.{overwritten, copied}
 use Rattle.tables.specs.Task.{stateOf}
-use Rattle.sequences.specs.Inside.Steps.{copied}
 use Rattle.sequences.proofs.stepping.copy.Statement.{statement}
 use Rattle.sequences.proofs.stepping.copy.Tie as tie
 
