@@ -59,7 +59,7 @@ pub record FactList (l f g r : ℕ) (n : Counts) (place : ℕ → ℕ) (x : ℕ)
   pub dash-ends : (b : ℕ) → listEnd (dashed (num l f 0 0 0 r 0 1 n)) b ≡ mark (dashed (num l f 0 0 0 r 0 1 n)) b x d
   pub room : (v : ℕ) → v < 8 → (8 ≤ place v) × (place v < 1624)
 
-module _ (l f g r : ℕ) (n : Counts) (place : ℕ → ℕ) (x : ℕ) (d : Ctrl) (L : FactList l f g r n place x d) (fits : Fits n) (k : Rest)
+module _ (l f g r : ℕ) (n : Counts) (place : ℕ → ℕ) (x : ℕ) (d : Ctrl) (L : FactList l f g r n place x d) (sized : Fits n) (k : Rest)
     (ok : (w : List ℕ) → Known (n .vars) w → (t : List ℕ) → Bytes t → reading d w t ≡ k t l (tablesOf n w)) where
   -- what follows the list
   ends : Rest
@@ -84,7 +84,7 @@ module _ (l f g r : ℕ) (n : Counts) (place : ℕ → ℕ) (x : ℕ) (d : Ctrl)
         w₁ = put w (place v) (up y)
 
         known : Known (n .vars) w₁
-        known = let j = fits .high in let i = L .room v (omega arith) in known-put p (place v) (up y) (omega arith)
+        known = let j = sized .high in let i = L .room v (omega arith) in known-put p (place v) (up y) (omega arith)
 
         move : reading (withDigit (num l g v 0 0 r 0 1 n) z y) w (b ∷ t)
             ≡ reading (cond (eqb b comma) (num l f 0 (up v) 0 r 0 1 n) (mark (noted (withDigit (num l g v 0 0 r 0 1 n) z y)) b x d)) w₁ t
@@ -98,7 +98,7 @@ module _ (l f g r : ℕ) (n : Counts) (place : ℕ → ℕ) (x : ℕ) (d : Ctrl)
             ≡ cond {A = List ℕ → Verdict} (eqb b comma) (λ u₁. facts place N (v + 1) u₁ l (tablesOf n w₁) ends) (λ u₁. lit (x ∷ []) (b ∷ u₁) l (tablesOf n w₁) k) t
         split true j =
             rw j
-            (ap (λ (m : ℕ). reading (num l f 0 m 0 r 0 1 n) w₁ t) (let i = fits .high in let e₁ : up v ≡ v + 1 = omega arith in e₁) ∙ rest w₁ known t a)
+            (ap (λ (m : ℕ). reading (num l f 0 m 0 r 0 1 n) w₁ t) (let i = sized .high in let e₁ : up v ≡ v + 1 = omega arith in e₁) ∙ rest w₁ known t a)
         split false j = rw j (marked (noted (withDigit (num l g v 0 0 r 0 1 n) z y)) d w₁ b x [] t (tablesOf n w₁) k (λ i. ok w₁ known t a))
 
     value-ok : (w : List ℕ) → Known (n .vars) w → (t : List ℕ) → Bytes t
@@ -106,7 +106,7 @@ module _ (l f g r : ℕ) (n : Counts) (place : ℕ → ℕ) (x : ℕ) (d : Ctrl)
         ≡ numeral 0 (domAt (tablesOf n w .facts) v) (λ y. keep (putFact (place v) (y + 1)) ▸ choice comma (facts place N (v + 1)) nothing) t l (tablesOf n w) ends
     unfolding keep _▸_ withDigit
     value-ok w p t a =
-        let j = fits .high in
+        let j = sized .high in
         let i = p .doms v hv in
         let e : dom w v ≡ domAt (tablesOf n w .facts) v = sym (dom-of n w v (omega arith)) in
         number-at (num l g v 0 0 r 0 1 n) w 0 (domAt (tablesOf n w .facts) v) (L .val-least) (L .val-limit v w ∙ e) (L .val15) (omega arith) (omega arith) _ (tablesOf n w) ends
@@ -138,10 +138,10 @@ module _ (l f g r : ℕ) (n : Counts) (place : ℕ → ℕ) (x : ℕ) (d : Ctrl)
       → reading (num l f 0 m 0 r 0 1 n) w t ≡ facts place N m t l (tablesOf n w) ends
   unfolding facts demand tablesOf withDigit _▸_
   facts-ok zero m h w p t a e =
-      number-at (num l f 0 m 0 r 0 1 n) w 0 (n .vars) (L .var-least) (L .var-limit m w) (L .var15) (omega arith) (let y = fits .high in omega arith) _ (tablesOf n w) ends
+      number-at (num l f 0 m 0 r 0 1 n) w 0 (n .vars) (L .var-least) (L .var-limit m w) (L .var15) (omega arith) (let y = sized .high in omega arith) _ (tablesOf n w) ends
       (λ z v u y o b s q. let j = within-both v 0 (n .vars) q in rising m z v w u y o s (omega arith)) t a e
   facts-ok (suc N) m h w p t a e =
-      number-at (num l f 0 m 0 r 0 1 n) w 0 (n .vars) (L .var-least) (L .var-limit m w) (L .var15) (omega arith) (let y = fits .high in omega arith) _ (tablesOf n w) ends
+      number-at (num l f 0 m 0 r 0 1 n) w 0 (n .vars) (L .var-least) (L .var-limit m w) (L .var15) (omega arith) (let y = sized .high in omega arith) _ (tablesOf n w) ends
       (λ z v u y o b s q.
       variable-ok N m w p (λ v₁ i w₁ p₁ u₁ b₁. facts-ok N (v₁ + 1) (omega arith) w₁ p₁ u₁ b₁ (bare-least (num l f 0 (v₁ + 1) 0 r 0 1 n) u₁ (λ q₁. omega arith)))
       z v u y o b s (within-both v 0 (n .vars) q .1) (leb m v) refl)

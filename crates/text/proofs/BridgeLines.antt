@@ -132,8 +132,8 @@ pub dom-ok : (n : Counts) → Fits n → (w : List ℕ) → Known 0 w → (k : R
     → ((u : List ℕ) → Known (n .vars) u → (t : List ℕ) → Bytes t → reading (kw 4 3 0 n 0) u t ≡ k t 4 (tablesOf n u))
     → (t : List ℕ) → Bytes t → reading (kw 3 2 0 n 0) w t ≡ domLine t 3 (tablesOf n w) k
 unfolding domLine line endOfLine _▸_ ask opened fresh limit stored withDigit kind spelled keyByte tablesOf
-dom-ok n fits w g k ok =
-    let one : suc (n .vars - 1) ≡ n .vars = let y = fits .low in omega arith in
+dom-ok n sized w g k ok =
+    let one : suc (n .vars - 1) ≡ n .vars = let y = sized .low in omega arith in
     key-ok 3 2 0 n w (λ z. omega arith) (tablesOf n w) _
     (λ t a.
     row-ok 3 2 0 n (λ i. i) (λ i. 0) (n .vars) (λ z. omega arith) (λ z. omega arith) (omega arith) (λ i U. 9) (λ i v. putFact (domPlace i) v) Known (eol k)
@@ -141,12 +141,12 @@ dom-ok n fits w g k ok =
     (λ i u y p. (refl, omega arith))
     (λ i z v u y p q.
     let s = within-both v 1 9 q in
-    let x = fits .high in
+    let x = sized .high in
     (fact-kept n u (p .long) i v (omega arith) (omega arith) ∙ ap (λ (j : ℕ). putFact j v (tablesOf n u)) (sym (zero-add i)), known-dom p v (omega arith) (s .0) (omega arith)))
-    (λ i z v b u y. vars-more 3 z v b i n u (fits .high) domRow y)
+    (λ i z v b u y. vars-more 3 z v b i n u (sized .high) domRow y)
     (λ i z v u t₁ y x o a₁ p e.
     then-mark (num 3 2 i 0 0 0 0 1 n) u z v lineEnd (kw 4 3 0 n 0) _ (λ u₁ m₁ U₁. k u₁ (m₁ + 1) U₁) (λ q. omega arith) x e
-    (λ b. vars-last 3 z v b i n u (fits .high) domRow y) (ok _ (rw y at p)) o a₁)
+    (λ b. vars-last 3 z v b i n u (sized .high) domRow y) (ok _ (rw y at p)) o a₁)
     (n .vars - 1) 0 (omega arith) w g t a
     ∙ ap (λ (m : ℕ). row 1 (λ i U. 9) (λ i v. putFact (domPlace i) v) m 0 t 3 (tablesOf n w) (eol k)) one)
     0 (bytes "dom=") refl
@@ -156,28 +156,28 @@ pub init-ok : (n : Counts) → Fits n → (w : List ℕ) → Known (n .vars) w �
     → ((u : List ℕ) → Known (n .vars) u → (t : List ℕ) → Bytes t → reading (kw 5 4 0 n 0) u t ≡ k t 5 (tablesOf n u))
     → (t : List ℕ) → Bytes t → reading (kw 4 3 0 n 0) w t ≡ initLine t 4 (tablesOf n w) k
 unfolding initLine line endOfLine _▸_ ask opened fresh limit stored withDigit kind spelled keyByte tablesOf
-init-ok n fits w g k ok =
-    let one : suc (n .vars - 1) ≡ n .vars = let y = fits .low in omega arith in
+init-ok n sized w g k ok =
+    let one : suc (n .vars - 1) ≡ n .vars = let y = sized .low in omega arith in
     key-ok 4 3 0 n w (λ z. omega arith) (tablesOf n w) _
     (λ t a.
     row-ok 4 3 0 n (λ i. i) (λ i. 0) (n .vars) (λ z. omega arith) (λ z. omega arith) (omega arith) (λ i U. domAt (U .facts) i) (λ i v. putFact (initPlace i) v)
     (λ i u. Known (n .vars) u) (eol k)
     (λ i u. bare (num 4 3 i 0 0 0 0 1 n) u refl)
     (λ i u y p.
-    let x = fits .high in
+    let x = sized .high in
     let d : domAt (tablesOf n u .facts) i ≡ dom u i = dom-of n u i (omega arith) in
     let s = p .doms i y in
     (sym d, omega arith))
     (λ i z v u y p q.
-    let x = fits .high in
+    let x = sized .high in
     let d : domAt (tablesOf n u .facts) i ≡ dom u i = dom-of n u i (omega arith) in
     let r = p .doms i y in
     let s = within-both v 0 (domAt (tablesOf n u .facts) i) q in
     (fact-kept n u (p .long) (initPlace i) v (omega arith) (omega arith), known-put p (initPlace i) v (omega arith)))
-    (λ i z v b u y. vars-more 4 z v b i n u (fits .high) initRow y)
+    (λ i z v b u y. vars-more 4 z v b i n u (sized .high) initRow y)
     (λ i z v u t₁ y x o a₁ p e.
     then-mark (num 4 3 i 0 0 0 0 1 n) u z v lineEnd (kw 5 4 0 n 0) _ (λ u₁ m₁ U₁. k u₁ (m₁ + 1) U₁) (λ q. omega arith) x e
-    (λ b. vars-last 4 z v b i n u (fits .high) initRow y) (ok _ p) o a₁)
+    (λ b. vars-last 4 z v b i n u (sized .high) initRow y) (ok _ p) o a₁)
     (n .vars - 1) 0 (omega arith) w g t a
     ∙ ap (λ (m : ℕ). row 0 (λ i U. domAt (U .facts) i) (λ i v. putFact (initPlace i) v) m 0 t 4 (tablesOf n w) (eol k)) one)
     0 (bytes "init=") refl

@@ -120,17 +120,17 @@ module _ (l v i r m p : ℕ) (n : Counts) (z x : ℕ) (w : List ℕ) (y : z ≡ 
   told-last h g = class-fault ∙ (let e : up i ≡ dom w v = omega arith in rw (eq-eqb (up i) (dom w v) e))
 
 -- ---- the classes of one variable; `last` reads its last class and what follows
-module _ (l r v : ℕ) (n : Counts) (fits : Fits n) (hr : r < 8) (hv : v < n .vars) (p : ℕ) (P : List ℕ → Part) (k : Rest)
+module _ (l r v : ℕ) (n : Counts) (sized : Fits n) (hr : r < 8) (hv : v < n .vars) (p : ℕ) (P : List ℕ → Part) (k : Rest)
     (last : (cs : List ℕ) (i z x : ℕ) (w u : List ℕ) → Known (n .vars) w → i + 1 ≡ dom w v → (z ≡ 0 → ⊥) → fits x 0 (dom w v) ≡ true → Stop u → Bytes u
     → reading (withDigit (num l 13 v 0 i r (maskOf 8 (has cs)) p n) z x) w u ≡ demand (noneMissing (x ∷ cs)) ClassMissing u l (tablesOf n (put w (classPlace r v i) x)) (λ u₁ m₁ U. P (x ∷ cs) u₁ m₁ U k)) where
   same-dom : (w : List ℕ) (i x : ℕ) → dom (put w (classPlace r v i) x) v ≡ dom w v
-  same-dom w i x = put-getD w (classPlace r v i) x v (let y = fits .high in omega arith)
+  same-dom w i x = put-getD w (classPlace r v i) x v (let y = sized .high in omega arith)
 
   classes-ok : (m i : ℕ) (cs w : List ℕ) → Known (n .vars) w → i + suc m ≡ dom w v → (t : List ℕ) → Bytes t
       → reading (num l 13 v 0 i r (maskOf 8 (has cs)) p n) w t ≡ classes r v P (suc m) i cs t l (tablesOf n w) k
   unfolding classes keep parted _▸_ limit stored withDigit kind
   classes-ok zero i cs w g e t a =
-      let h = fits .high in
+      let h = sized .high in
       let d = g .doms v hv in
       let q : dom w v ≡ domAt (tablesOf n w .facts) v = sym (dom-of n w v (omega arith)) in
       number-at (num l 13 v 0 i r (maskOf 8 (has cs)) p n) w 0 (domAt (tablesOf n w .facts) v) refl q (λ z. omega arith) (omega arith) (omega arith) _ (tablesOf n w) k
@@ -140,7 +140,7 @@ module _ (l r v : ℕ) (n : Counts) (fits : Fits n) (hr : r < 8) (hv : v < n .va
       ∙ ap (λ (T : Tables). demand (noneMissing (x ∷ cs)) ClassMissing u l T (λ u₁ m₁ U. P (x ∷ cs) u₁ m₁ U k)) (fact-kept n w (g .long) (classPlace r v i) x (omega arith) (omega arith)))
       t a (bare (num l 13 v 0 i r (maskOf 8 (has cs)) p n) t refl)
   classes-ok (suc m) i cs w g e t a =
-      let h = fits .high in
+      let h = sized .high in
       let d = g .doms v hv in
       let q : dom w v ≡ domAt (tablesOf n w .facts) v = sym (dom-of n w v (omega arith)) in
       number-at (num l 13 v 0 i r (maskOf 8 (has cs)) p n) w 0 (domAt (tablesOf n w .facts) v) refl q (λ z. omega arith) (omega arith) (omega arith) _ (tablesOf n w) k
@@ -157,7 +157,7 @@ module _ (l r v : ℕ) (n : Counts) (fits : Fits n) (hr : r < 8) (hv : v < n .va
       t a (bare (num l 13 v 0 i r (maskOf 8 (has cs)) p n) t refl)
 
 -- ---- the variables of one map
-module _ (l r : ℕ) (n : Counts) (fits : Fits n) (hr : r < 8) (k : Rest)
+module _ (l r : ℕ) (n : Counts) (sized : Fits n) (hr : r < 8) (k : Rest)
     (ok : (w : List ℕ) → Known (n .vars) w → (t : List ℕ) → Bytes t → reading (afterRow l 13 14 r (n .maps) n) w t ≡ k t (l + 1) (tablesOf n w)) where
   -- a variable's last class: what is told before the next byte
   module _ (v s : ℕ) (hv : v < n .vars) (cs : List ℕ) (i z x : ℕ) (w u : List ℕ) (g : Known (n .vars) w) (e : i + 1 ≡ dom w v) (y : z ≡ 0 → ⊥)
@@ -175,10 +175,10 @@ module _ (l r : ℕ) (n : Counts) (fits : Fits n) (hr : r < 8) (k : Rest)
     class-low = let d = g .doms v hv in omega (arith, within-both x 0 (dom w v) q)
 
     var-low : v < 8
-    var-low = let d = fits .high in omega arith
+    var-low = let d = sized .high in omega arith
 
     known : Known (n .vars) (put w (classPlace r v i) x)
-    known = let d = fits .high in known-put g (classPlace r v i) x (omega arith)
+    known = let d = sized .high in known-put g (classPlace r v i) x (omega arith)
 
     product : times (min s 4097) (width (withClass (maskOf 8 (has cs)) x)) ≡ min states 4097
     unfolding states
@@ -236,12 +236,12 @@ module _ (l r : ℕ) (n : Counts) (fits : Fits n) (hr : r < 8) (k : Rest)
       ≡ demand (noneMissing (x ∷ cs)) ClassMissing u l (tablesOf n (put w₁ (classPlace r v i) x)) (λ u₁ m₁ U. P (x ∷ cs) u₁ m₁ U (eol k)))
       → (t : List ℕ) → Bytes t → reading (num l 13 v 0 0 r 0 (min s 4097) n) w t ≡ classes r v P (domAt (tablesOf n w .facts) v) 0 [] t l (tablesOf n w) (eol k)
   list-of v s hv P w g last t a =
-      let h = fits .high in
+      let h = sized .high in
       let d = g .doms v hv in
       let e : dom w v ≡ domAt (tablesOf n w .facts) v = sym (dom-of n w v (omega arith)) in
       let f : suc (dom w v - 1) ≡ domAt (tablesOf n w .facts) v = omega arith in
       ap (λ (m : ℕ). reading (num l 13 v 0 0 r m (min s 4097) n) w t) (sym (mask-none 8))
-      ∙ classes-ok l r v n fits hr hv (min s 4097) P (eol k) last (dom w v - 1) 0 [] w g (omega arith) t a
+      ∙ classes-ok l r v n sized hr hv (min s 4097) P (eol k) last (dom w v - 1) 0 [] w g (omega arith) t a
       ∙ ap (λ (N : ℕ). classes r v P N 0 [] t l (tablesOf n w) (eol k)) f
 
   pub variables-ok : (m v s : ℕ) → v + suc m ≡ n .vars → (w : List ℕ) → Known (n .vars) w → (t : List ℕ) → Bytes t
@@ -257,4 +257,4 @@ module _ (l r : ℕ) (n : Counts) (fits : Fits n) (hr : r < 8) (k : Rest)
       (λ cs i z x w₁ u g₁ e₁ y q o b.
       gaps-first v s (omega arith) cs i z x w₁ u g₁ e₁ y q o b _ (noneMissing (x ∷ cs)) refl
       (λ j. last-slash v s (omega arith) cs i z x w₁ u g₁ e₁ y q o b (omega arith) j (λ u₁ m₁ U. variables r (suc m) (v + 1) (s * classCount (x ∷ cs)) u₁ m₁ U (eol k))
-      (variables-ok m (v + 1) (s * classCount (x ∷ cs)) (omega arith) (put w₁ (classPlace r v i) x) (known-put g₁ (classPlace r v i) x (let h = fits .high in omega arith)))))
+      (variables-ok m (v + 1) (s * classCount (x ∷ cs)) (omega arith) (put w₁ (classPlace r v i) x) (known-put g₁ (classPlace r v i) x (let h = sized .high in omega arith)))))

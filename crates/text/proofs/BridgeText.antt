@@ -26,8 +26,8 @@ stop-end l b n w h = rw (ne-eqb b 256 (λ q. omega arith))
 
 end-ok : (l : ℕ) (n : Counts) → Fits n → (w t : List ℕ) → Bytes t → reading (kw l 15 0 n 0) w t ≡ theEnd t l (tablesOf n w)
 unfolding reading told feed ended theEnd countsOf tablesOf
-end-ok l n fits w [] a = ap (λ (o : ℕ). settled o (tablesOf n w)) (over-of (kw l 15 0 n 0) w n (fits .ops) (fits .maps))
-end-ok l n fits w (b ∷ t) (byte h a) = moves (kw l 15 0 n 0) (stopped (kw l 15 0 n 0) 2) w w b t (stop-end l b n w h) ∙ stops-2 (kw l 15 0 n 0) w t
+end-ok l n sized w [] a = ap (λ (o : ℕ). settled o (tablesOf n w)) (over-of (kw l 15 0 n 0) w n (sized .ops) (sized .maps))
+end-ok l n sized w (b ∷ t) (byte h a) = moves (kw l 15 0 n 0) (stopped (kw l 15 0 n 0) 2) w w b t (stop-end l b n w h) ∙ stops-2 (kw l 15 0 n 0) w t
 
 -- ---- before the first line
 zeros-at : (n i : ℕ) → _≡_ {A = ℕ} (getD (replicate n 0) i 0) 0
@@ -60,25 +60,25 @@ empty-area m h = rw (zeros-take 1624 m h, zeros-threes 64 1624 m, zeros-threes 5
 from-maps : (l : ℕ) (n : Counts) → Fits n → l ≤ 80 → (w : List ℕ) → Known (n .vars) w → (t : List ℕ) → Bytes t
     → reading (kw l 12 0 n 0) w t ≡ (mapsLine ▸ mapLines ▸ shareLines) t l (tablesOf n w) theEnd
 unfolding _▸_
-from-maps l n fits h w g =
+from-maps l n sized h w g =
     maps-ok l n w _ (omega arith)
     (λ v low high.
     let n₁ = withMaps v n in
-    let f : Fits n₁ = record { low = fits .low; high = fits .high; ops = fits .ops; maps = high } in
+    let f : Fits n₁ = record { low = sized .low; high = sized .high; ops = sized .ops; maps = high } in
     map-lines-ok (l + 1) n₁ f low (omega arith) w g _
     (λ u g₁. share-lines-ok (l + 1 + v) n₁ f low (omega arith) u g₁ theEnd (λ u₁ g₂. end-ok (l + 1 + v + v) n₁ f u₁)))
 
 from-dom : (n : Counts) → Fits n → (w : List ℕ) → Known 0 w → (t : List ℕ) → Bytes t
     → reading (kw 3 2 0 n 0) w t ≡ (domLine ▸ initLine ▸ goalLine ▸ opsLine ▸ opLines ▸ mapsLine ▸ mapLines ▸ shareLines) t 3 (tablesOf n w) theEnd
 unfolding _▸_
-from-dom n fits w g =
-    dom-ok n fits w g _
-    (λ u₁ g₁. init-ok n fits u₁ g₁ _
-    (λ u₂ g₂. goal-ok n fits u₂ g₂ _
+from-dom n sized w g =
+    dom-ok n sized w g _
+    (λ u₁ g₁. init-ok n sized u₁ g₁ _
+    (λ u₂ g₂. goal-ok n sized u₂ g₂ _
     (λ u₃ g₃. ops-ok n u₃ _
     (λ v h.
     let n₁ = withOps v n in
-    let f : Fits n₁ = record { low = fits .low; high = fits .high; ops = h; maps = fits .maps } in
+    let f : Fits n₁ = record { low = sized .low; high = sized .high; ops = h; maps = sized .maps } in
     op-lines-ok n₁ f u₃ g₃ _ (λ u₄ g₄. from-maps (7 + v) n₁ f (omega arith) u₄ g₄)))))
 
 lines-all : (w : List ℕ) → Known 0 w → (t : List ℕ) → Bytes t → reading (kw 1 0 0 noCounts 0) w t ≡ taskLines t 1 (tablesOf noCounts w) theEnd
