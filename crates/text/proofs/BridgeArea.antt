@@ -11,25 +11,27 @@ use Rattle.tables.specs.Layout.{factsRoom, sharePlace, costAt, shareAt, domAt}
 use Rattle.text.specs.declared.Ctrl.{Ctrl}
 use Rattle.grammar.specs.Fields.{shareTotal, overLine}
 use Rattle.grammar.specs.Grammar.{putFact, putCost, putShare}
-use Rattle.text.specs.Machine.{mk, put, get3, put3, costByte, shareByte, costIn, shareIn, threes, over, dom}
+use Rattle.text.specs.Inside.Area.{putByte, wordIn, putWord, threes, costByte, shareByte, costIn, shareIn, domIn}
+use Rattle.text.specs.Inside.Control.{mk}
+use Rattle.text.specs.Inside.End.{over}
 use Rattle.text.proofs.BridgeReading.{tablesOf}
 
 -- ---- numbers of 3 bytes
-get3-low : (w : List ℕ) (p i v : ℕ) → p < i → get3 (set w p v) i ≡ get3 w i
-unfolding get3
+get3-low : (w : List ℕ) (p i v : ℕ) → p < i → wordIn (set w p v) i ≡ wordIn w i
+unfolding wordIn
 get3-low w p i v h =
     rw (getD-set-other w p i v 0 (λ e. omega arith), getD-set-other w p (i + 1) v 0 (λ e. omega arith), getD-set-other w p (i + 2) v 0 (λ e. omega arith))
 
-get3-high : (w : List ℕ) (p i v : ℕ) → i + 2 < p → get3 (set w p v) i ≡ get3 w i
-unfolding get3
+get3-high : (w : List ℕ) (p i v : ℕ) → i + 2 < p → wordIn (set w p v) i ≡ wordIn w i
+unfolding wordIn
 get3-high w p i v h =
     rw (getD-set-other w p i v 0 (λ e. omega arith), getD-set-other w p (i + 1) v 0 (λ e. omega arith), getD-set-other w p (i + 2) v 0 (λ e. omega arith))
 
 three-bytes : (v : ℕ) → v < 16777216 → v % 256 + 256 * (v / 256 % 256) + 65536 * (v / 65536 % 256) ≡ v
 three-bytes v h = omega arith
 
-get3-put3 : (w : List ℕ) (i v : ℕ) → i + 2 < length w → v < 16777216 → get3 (put3 w i v) i ≡ v
-unfolding get3 put3 put
+get3-put3 : (w : List ℕ) (i v : ℕ) → i + 2 < length w → v < 16777216 → wordIn (putWord w i v) i ≡ v
+unfolding wordIn putWord putByte
 get3-put3 w i v h q =
     let a = v % 256 in
     let b = v / 256 % 256 in
@@ -54,48 +56,48 @@ unfolding threes
 threes-high zero i w p v h = refl
 threes-high (suc n) i w p v h = rw (get3-high w p i v (omega arith), threes-high n (i + 3) w p v (omega arith))
 
-pub put-getD : (w : List ℕ) (p v i : ℕ) → i < p → getD (put w p v) i 0 ≡ getD w i 0
-unfolding put
+pub put-getD : (w : List ℕ) (p v i : ℕ) → i < p → getD (putByte w p v) i 0 ≡ getD w i 0
+unfolding putByte
 put-getD w p v i h = getD-set-other w p i (v % 256) 0 (λ e. omega arith)
 
-pub put-same : (w : List ℕ) (p v : ℕ) → p < length w → v < 256 → getD (put w p v) p 0 ≡ v
-unfolding put
+pub put-same : (w : List ℕ) (p v : ℕ) → p < length w → v < 256 → getD (putByte w p v) p 0 ≡ v
+unfolding putByte
 put-same w p v h q = getD-set-same w p (v % 256) 0 h ∙ (let e : v % 256 ≡ v = omega arith in e)
 
-pub put-length : (w : List ℕ) (p v : ℕ) → length (put w p v) ≡ length w
-unfolding put
+pub put-length : (w : List ℕ) (p v : ℕ) → length (putByte w p v) ≡ length w
+unfolding putByte
 put-length w p v = length-set w p (v % 256)
 
 -- a number of 3 bytes leaves alone what lies before it and after it
 module _ (w : List ℕ) (p v : ℕ) where
-  put3-get-high : (i : ℕ) → i + 2 < p → get3 (put3 w p v) i ≡ get3 w i
-  unfolding put3 put
+  put3-get-high : (i : ℕ) → i + 2 < p → wordIn (putWord w p v) i ≡ wordIn w i
+  unfolding putWord putByte
   put3-get-high i h = get3-high _ (p + 2) i _ (omega arith) ∙ get3-high _ (p + 1) i _ (omega arith) ∙ get3-high w p i _ h
 
-  put3-low : (n i : ℕ) → p + 2 < i → threes n i (put3 w p v) ≡ threes n i w
-  unfolding put3 put
+  put3-low : (n i : ℕ) → p + 2 < i → threes n i (putWord w p v) ≡ threes n i w
+  unfolding putWord putByte
   put3-low n i h = threes-low n i _ (p + 2) _ (omega arith) ∙ threes-low n i _ (p + 1) _ (omega arith) ∙ threes-low n i w p _ (omega arith)
 
-  put3-high : (n i : ℕ) → i + 3 * n ≤ p → threes n i (put3 w p v) ≡ threes n i w
-  unfolding put3 put
+  put3-high : (n i : ℕ) → i + 3 * n ≤ p → threes n i (putWord w p v) ≡ threes n i w
+  unfolding putWord putByte
   put3-high n i h = threes-high n i _ (p + 2) _ (omega arith) ∙ threes-high n i _ (p + 1) _ (omega arith) ∙ threes-high n i w p _ h
 
-  put3-take : (n : ℕ) → n ≤ p → take n (put3 w p v) ≡ take n w
-  unfolding put3 put
+  put3-take : (n : ℕ) → n ≤ p → take n (putWord w p v) ≡ take n w
+  unfolding putWord putByte
   put3-take n h = take-set-le n _ (p + 2) _ (omega arith) ∙ take-set-le n _ (p + 1) _ (omega arith) ∙ take-set-le n w p _ h
 
-  pub put3-length : length (put3 w p v) ≡ length w
-  unfolding put3 put
+  pub put3-length : length (putWord w p v) ≡ length w
+  unfolding putWord putByte
   put3-length = simp length-set
 
-  pub put3-getD : (i : ℕ) → i < p → getD (put3 w p v) i 0 ≡ getD w i 0
-  unfolding put3
+  pub put3-getD : (i : ℕ) → i < p → getD (putWord w p v) i 0 ≡ getD w i 0
+  unfolding putWord
   put3-getD i h =
-      put-getD (put (put w p v) (p + 1) (v / 256)) (p + 2) (v / 65536) i (omega arith)
-      ∙ put-getD (put w p v) (p + 1) (v / 256) i (omega arith)
+      put-getD (putByte (putByte w p v) (p + 1) (v / 256)) (p + 2) (v / 65536) i (omega arith)
+      ∙ put-getD (putByte w p v) (p + 1) (v / 256) i (omega arith)
       ∙ put-getD w p v i h
 
-threes-set : (n i : ℕ) (w : List ℕ) (o v p : ℕ) → p ≡ i + 3 * o → o < n → i + 3 * n ≤ length w → v < 16777216 → threes n i (put3 w p v) ≡ set (threes n i w) o v
+threes-set : (n i : ℕ) (w : List ℕ) (o v p : ℕ) → p ≡ i + 3 * o → o < n → i + 3 * n ≤ length w → v < 16777216 → threes n i (putWord w p v) ≡ set (threes n i w) o v
 unfolding threes
 threes-set zero i w o v p e h g q = let n : ⊥ = omega arith in absurd n
 threes-set (suc n) i w zero v p e h g q =
@@ -104,7 +106,7 @@ threes-set (suc n) i w zero v p e h g q =
 threes-set (suc n) i w (suc o) v p e h g q =
     rw (put3-get-high w p v i (omega arith), threes-set n (i + 3) w o v p (omega arith) (omega arith) (omega arith) q)
 
-threes-get : (n i : ℕ) (w : List ℕ) (o p : ℕ) → p ≡ i + 3 * o → o < n → getD (threes n i w) o 0 ≡ get3 w p
+threes-get : (n i : ℕ) (w : List ℕ) (o p : ℕ) → p ≡ i + 3 * o → o < n → getD (threes n i w) o 0 ≡ wordIn w p
 unfolding threes
 threes-get zero i w o p e h = let n : ⊥ = omega arith in absurd n
 threes-get (suc n) i w zero p e h = let z : p ≡ i = omega arith in rw z
@@ -112,24 +114,24 @@ threes-get (suc n) i w (suc o) p e h = threes-get n (i + 3) w o p (omega arith) 
 
 -- ---- the three laws
 module _ (n : Counts) (w : List ℕ) (long : length w ≡ 3352) where
-  pub fact-kept : (p v : ℕ) → p < factsRoom → v < 256 → tablesOf n (put w p v) ≡ putFact p v (tablesOf n w)
-  unfolding tablesOf put
+  pub fact-kept : (p v : ℕ) → p < factsRoom → v < 256 → tablesOf n (putByte w p v) ≡ putFact p v (tablesOf n w)
+  unfolding tablesOf putByte
   fact-kept p v h q =
       let e : v % 256 ≡ v = omega arith in
       rw e (simp (take-set-lt 1624 w p v h, threes-low 64 1624 w p v h, threes-low 512 1816 w p v (omega arith)))
 
-  pub cost-kept : (o v : ℕ) → o < 64 → v < 16777216 → tablesOf n (put3 w (costByte o) v) ≡ putCost o v (tablesOf n w)
+  pub cost-kept : (o v : ℕ) → o < 64 → v < 16777216 → tablesOf n (putWord w (costByte o) v) ≡ putCost o v (tablesOf n w)
   unfolding tablesOf
   cost-kept o v h q =
       simp (put3-take w (costByte o) v 1624 (omega arith), threes-set 64 1624 w o v (costByte o) refl h (omega arith) q, put3-low w (costByte o) v 512 1816 (omega arith))
 
-  pub share-kept : (i v : ℕ) → i < 512 → v < 16777216 → tablesOf n (put3 w (1816 + 3 * i) v) ≡ putShare i v (tablesOf n w)
+  pub share-kept : (i v : ℕ) → i < 512 → v < 16777216 → tablesOf n (putWord w (1816 + 3 * i) v) ≡ putShare i v (tablesOf n w)
   unfolding tablesOf
   share-kept i v h q =
       simp (put3-take w (1816 + 3 * i) v 1624 (omega arith), put3-high w (1816 + 3 * i) v 64 1624 (omega arith), threes-set 512 1816 w i v (1816 + 3 * i) refl h (omega arith) q)
 
 -- what stands in the tables
-pub dom-of : (n : Counts) (w : List ℕ) (v : ℕ) → v < 1624 → domAt (tablesOf n w .facts) v ≡ dom w v
+pub dom-of : (n : Counts) (w : List ℕ) (v : ℕ) → v < 1624 → domAt (tablesOf n w .facts) v ≡ domIn w v
 unfolding tablesOf
 dom-of n w v h = ap (λ (i : ℕ). getD (take 1624 w) i 0) (zero-add v) ∙ getD-take 1624 w v 0 h
 
@@ -145,13 +147,13 @@ module _ (cost cost′ : ℕ → ℕ) (share share′ : ℕ → ℕ → ℕ) (mo
   over-same m zero o h e = refl
   over-same m (suc k) o h e = rw (total-same m o (λ i g. e i o g (omega arith)), same o (omega arith), over-same m k (o + 1) (omega arith) e)
 
-pub over-of : (c : Ctrl) (w : List ℕ) (n : Counts) → c .ops ≤ 64 → c .maps ≤ 8
-    → over (mk c w) ≡ overLine (costAt (tablesOf n w .costs)) (shareAt (tablesOf n w .shares)) (c .maps) (c .ops) 0
+pub over-of : (c : Ctrl) (w : List ℕ) (n : Counts) → c .counts .ops ≤ 64 → c .counts .maps ≤ 8
+    → over (mk c w) ≡ overLine (costAt (tablesOf n w .costs)) (shareAt (tablesOf n w .shares)) (c .counts .maps) (c .counts .ops) 0
 unfolding over tablesOf
 over-of c w n h g =
-    let e : min (c .maps) 8 ≡ c .maps = omega arith in
-    let q : min (c .ops) 64 ≡ c .ops = omega arith in
+    let e : min (c .counts .maps) 8 ≡ c .counts .maps = omega arith in
+    let q : min (c .counts .ops) 64 ≡ c .counts .ops = omega arith in
     rw (e, q)
     (over-same (costIn w) (costAt (threes 64 1624 w)) (shareIn w) (shareAt (threes 512 1816 w)) 64
-    (λ o a. sym (threes-get 64 1624 w o (costByte o) refl a)) (c .maps) (c .ops) 0 (omega arith)
+    (λ o a. sym (threes-get 64 1624 w o (costByte o) refl a)) (c .counts .maps) (c .counts .ops) 0 (omega arith)
     (λ i j a b. sym (threes-get 512 1816 w (sharePlace i j) (shareByte i j) refl (omega arith))))

@@ -11,9 +11,13 @@ use Rattle.refusals.specs.declared.Refusal.the-variants.{NotRising}
 use Rattle.tables.specs.declared.Counts.{Counts}
 use Rattle.tables.specs.Layout.{Tables, domAt}
 use Rattle.text.specs.declared.Ctrl.{Ctrl}
+use Rattle.text.specs.declared.Halt.the-variants.{Going, Order}
 use Rattle.grammar.specs.Fields.{isDigit, comma, dash, colon}
 use Rattle.grammar.specs.Grammar.{Verdict, refused, Rest, Part, _▸_, nothing, ask, keep, demand, lit, choice, fits, numeral, putFact, facts, factList}
-use Rattle.text.specs.Machine.{mk, up, put, dom, withDigit, leasts, limit, noted, fault, stored, mark, listEnd, after, dashHere, fresh, dashed, atNumber, live, step, refusalOf}
+use Rattle.text.specs.Inside.Area.{putByte, domIn}
+use Rattle.text.specs.Inside.Control.{mk, up, partBegun, withDigit, dashed}
+use Rattle.text.specs.Inside.Fields.{leasts, limit, countsWith, seenWith, noted, fault, stored}
+use Rattle.text.specs.Inside.Steps.{mark, listEnd, afterNumber, dashHere, atNumber, live, byteRead}
 use Rattle.text.proofs.BridgeReading.{tablesOf, reading, Bytes, byte, cut-short, moves, marked}
 use Rattle.grammar.proofs.Runs.{within-both, Stop, nil, other}
 use Rattle.text.proofs.BridgeNumbers.{beginsDash, pick-same, faulty, sound-end, sound-byte, number-ok}
@@ -21,9 +25,9 @@ use Rattle.text.proofs.BridgeArea.{fact-kept, dom-of}
 use Rattle.text.proofs.BridgeRows.{num, then-mark, fault-plain, no-fault, Fits, Known, known-put}
 
 -- a number, with its range named
-module _ (c : Ctrl) (w : List ℕ) (lo lim : ℕ) (e : getD leasts (c .field) 0 ≡ lo) (q : limit c w ≡ lim) (h : c .field ≡ 15 → ⊥) (low : lo ≤ 4294967295) (cap : lim ≤ 4294967295)
+module _ (c : Ctrl) (w : List ℕ) (lo lim : ℕ) (e : getD leasts (c .spot .field) 0 ≡ lo) (q : limit c w ≡ lim) (h : c .spot .field ≡ 15 → ⊥) (low : lo ≤ 4294967295) (cap : lim ≤ 4294967295)
     (p : ℕ → Part) (T : Tables) (k : Rest)
-    (ok : (r v : ℕ) (t : List ℕ) → (r ≡ 0 → ⊥) → Stop t → Bytes t → fits v (getD leasts (c .field) 0) (limit c w) ≡ true → fits v lo lim ≡ true
+    (ok : (r v : ℕ) (t : List ℕ) → (r ≡ 0 → ⊥) → Stop t → Bytes t → fits v (getD leasts (c .spot .field) 0) (limit c w) ≡ true → fits v lo lim ≡ true
     → reading (withDigit c r v) w t ≡ p v t (c .line) T k) where
   pub number-at : (t : List ℕ) → Bytes t → beginsDash c t ≡ false → reading (withDigit c 0 0) w t ≡ numeral lo lim p t (c .line) T k
   number-at t a d =
@@ -32,10 +36,10 @@ module _ (c : Ctrl) (w : List ℕ) (lo lim : ℕ) (e : getD leasts (c .field) 0 
       ∙ ap (λ (x : ℕ). numeral lo x p t (c .line) T k) q
 
 -- after a first fact no dash can stand
-bare-least : (c : Ctrl) (t : List ℕ) → (c .least ≡ 0 → ⊥) → beginsDash c t ≡ false
+bare-least : (c : Ctrl) (t : List ℕ) → (c .turn .least ≡ 0 → ⊥) → beginsDash c t ≡ false
 unfolding dashHere withDigit
 bare-least c [] h = refl
-bare-least c (b ∷ t) h = simp (ne-eqb (c .least) 0 h, pick-same)
+bare-least c (b ∷ t) h = simp (ne-eqb (c .turn .least) 0 h, pick-same)
 
 -- what the machine does with the numbers of a list: variables in field f, values in field g, kept at their places; the mark x ends it, and then d is the control
 pub record FactList (l f g r : ℕ) (n : Counts) (place : ℕ → ℕ) (x : ℕ) (d : Ctrl) : Type 0 where
@@ -46,20 +50,20 @@ pub record FactList (l f g r : ℕ) (n : Counts) (place : ℕ → ℕ) (x : ℕ)
   pub var-least : getD leasts f 0 ≡ 0
   pub val-least : getD leasts g 0 ≡ 0
   pub var-limit : (m : ℕ) (w : List ℕ) → limit (num l f 0 m 0 r 0 1 n) w ≡ n .vars
-  pub val-limit : (v : ℕ) (w : List ℕ) → limit (num l g v 0 0 r 0 1 n) w ≡ dom w v
+  pub val-limit : (v : ℕ) (w : List ℕ) → limit (num l g v 0 0 r 0 1 n) w ≡ domIn w v
   pub var-kept : (m z v : ℕ) (w : List ℕ) → stored (withDigit (num l f 0 m 0 r 0 1 n) z v) w ≡ w
-  pub val-kept : (v z y : ℕ) (w : List ℕ) → stored (withDigit (num l g v 0 0 r 0 1 n) z y) w ≡ put w (place v) (up y)
+  pub val-kept : (v z y : ℕ) (w : List ℕ) → stored (withDigit (num l g v 0 0 r 0 1 n) z y) w ≡ putByte w (place v) (up y)
   pub var-after : (m z v b : ℕ) (w : List ℕ)
-      → after (noted (withDigit (num l f 0 m 0 r 0 1 n) z v)) w b ≡ mark (noted (withDigit (num l f 0 m 0 r 0 1 n) z v)) b colon (num l g v 0 0 r 0 1 n)
+      → afterNumber (noted (withDigit (num l f 0 m 0 r 0 1 n) z v)) w b ≡ mark (noted (withDigit (num l f 0 m 0 r 0 1 n) z v)) b colon (num l g v 0 0 r 0 1 n)
   pub val-after : (v z y b : ℕ) (w : List ℕ)
-      → after (noted (withDigit (num l g v 0 0 r 0 1 n) z y)) w b
+      → afterNumber (noted (withDigit (num l g v 0 0 r 0 1 n) z y)) w b
       ≡ cond (eqb b comma) (num l f 0 (up v) 0 r 0 1 n) (mark (noted (withDigit (num l g v 0 0 r 0 1 n) z y)) b x d)
   pub val-bare : (v : ℕ) (t : List ℕ) → beginsDash (num l g v 0 0 r 0 1 n) t ≡ false
   pub var-dash : (b : ℕ) → dashHere (withDigit (num l f 0 0 0 r 0 1 n) 0 0) b ≡ eqb b dash
   pub dash-ends : (b : ℕ) → listEnd (dashed (num l f 0 0 0 r 0 1 n)) b ≡ mark (dashed (num l f 0 0 0 r 0 1 n)) b x d
   pub room : (v : ℕ) → v < 8 → (8 ≤ place v) × (place v < 1624)
 
-module _ (l f g r : ℕ) (n : Counts) (place : ℕ → ℕ) (x : ℕ) (d : Ctrl) (L : FactList l f g r n place x d) (fits : Fits n) (k : Rest)
+module _ (l f g r : ℕ) (n : Counts) (place : ℕ → ℕ) (x : ℕ) (d : Ctrl) (L : FactList l f g r n place x d) (sized : Fits n) (k : Rest)
     (ok : (w : List ℕ) → Known (n .vars) w → (t : List ℕ) → Bytes t → reading d w t ≡ k t l (tablesOf n w)) where
   -- what follows the list
   ends : Rest
@@ -67,24 +71,23 @@ module _ (l f g r : ℕ) (n : Counts) (place : ℕ → ℕ) (x : ℕ) (d : Ctrl)
 
   rising : (m z v : ℕ) (w t : List ℕ) → (z ≡ 0 → ⊥) → Stop t → fits v (getD leasts f 0) (limit (num l f 0 m 0 r 0 1 n) w) ≡ true → v < m
       → reading (withDigit (num l f 0 m 0 r 0 1 n) z v) w t ≡ refused (NotRising l)
-  unfolding refusalOf
   rising m z v w t y o s h =
-      faulty (num l f 0 m 0 r 0 1 n) w z v 4 (L .var15) y o (fault-plain (num l f 0 m 0 r 0 1 n) w z v y (L .var13) s ∙ rw (lt-leb m v h)) (λ q. omega arith)
+      faulty (num l f 0 m 0 r 0 1 n) w z v Order (NotRising l) (L .var15) y o (fault-plain (num l f 0 m 0 r 0 1 n) w z v y (L .var13) s ∙ rw (lt-leb m v h)) refl refl
 
   module _ (N v : ℕ) (hv : v < n .vars)
       (rest : (w : List ℕ) → Known (n .vars) w → (t : List ℕ) → Bytes t → reading (num l f 0 (v + 1) 0 r 0 1 n) w t ≡ facts place N (v + 1) t l (tablesOf n w) ends) where
     -- after a value: a comma means one more fact, anything else ends the list
-    more-or-end : (z y : ℕ) (w u : List ℕ) → Known (n .vars) w → (z ≡ 0 → ⊥) → Stop u → Bytes u → y < 8 → fault (withDigit (num l g v 0 0 r 0 1 n) z y) w ≡ 0
-        → reading (withDigit (num l g v 0 0 r 0 1 n) z y) w u ≡ choice comma (facts place N (v + 1)) nothing u l (tablesOf n (put w (place v) (up y))) ends
-    unfolding choice nothing lit ends noted withDigit
+    more-or-end : (z y : ℕ) (w u : List ℕ) → Known (n .vars) w → (z ≡ 0 → ⊥) → Stop u → Bytes u → y < 8 → fault (withDigit (num l g v 0 0 r 0 1 n) z y) w ≡ Going
+        → reading (withDigit (num l g v 0 0 r 0 1 n) z y) w u ≡ choice comma (facts place N (v + 1)) nothing u l (tablesOf n (putByte w (place v) (up y))) ends
+    unfolding choice nothing lit ends noted withDigit seenWith countsWith
     more-or-end z y w u p q nil a h e = sound-end (num l g v 0 0 r 0 1 n) w z y (L .val15) e
     more-or-end z y w u p q (other {b = b} {t = t} o) (byte b₁ a) h e = move ∙ split (eqb b comma) refl
       where
         w₁ : List ℕ
-        w₁ = put w (place v) (up y)
+        w₁ = putByte w (place v) (up y)
 
         known : Known (n .vars) w₁
-        known = let j = fits .high in let i = L .room v (omega arith) in known-put p (place v) (up y) (omega arith)
+        known = let j = sized .high in let i = L .room v (omega arith) in known-put p (place v) (up y) (omega arith)
 
         move : reading (withDigit (num l g v 0 0 r 0 1 n) z y) w (b ∷ t)
             ≡ reading (cond (eqb b comma) (num l f 0 (up v) 0 r 0 1 n) (mark (noted (withDigit (num l g v 0 0 r 0 1 n) z y)) b x d)) w₁ t
@@ -98,7 +101,7 @@ module _ (l f g r : ℕ) (n : Counts) (place : ℕ → ℕ) (x : ℕ) (d : Ctrl)
             ≡ cond {A = List ℕ → Verdict} (eqb b comma) (λ u₁. facts place N (v + 1) u₁ l (tablesOf n w₁) ends) (λ u₁. lit (x ∷ []) (b ∷ u₁) l (tablesOf n w₁) k) t
         split true j =
             rw j
-            (ap (λ (m : ℕ). reading (num l f 0 m 0 r 0 1 n) w₁ t) (let i = fits .high in let e₁ : up v ≡ v + 1 = omega arith in e₁) ∙ rest w₁ known t a)
+            (ap (λ (m : ℕ). reading (num l f 0 m 0 r 0 1 n) w₁ t) (let i = sized .high in let e₁ : up v ≡ v + 1 = omega arith in e₁) ∙ rest w₁ known t a)
         split false j = rw j (marked (noted (withDigit (num l g v 0 0 r 0 1 n) z y)) d w₁ b x [] t (tablesOf n w₁) k (λ i. ok w₁ known t a))
 
     value-ok : (w : List ℕ) → Known (n .vars) w → (t : List ℕ) → Bytes t
@@ -106,9 +109,9 @@ module _ (l f g r : ℕ) (n : Counts) (place : ℕ → ℕ) (x : ℕ) (d : Ctrl)
         ≡ numeral 0 (domAt (tablesOf n w .facts) v) (λ y. keep (putFact (place v) (y + 1)) ▸ choice comma (facts place N (v + 1)) nothing) t l (tablesOf n w) ends
     unfolding keep _▸_ withDigit
     value-ok w p t a =
-        let j = fits .high in
+        let j = sized .high in
         let i = p .doms v hv in
-        let e : dom w v ≡ domAt (tablesOf n w .facts) v = sym (dom-of n w v (omega arith)) in
+        let e : domIn w v ≡ domAt (tablesOf n w .facts) v = sym (dom-of n w v (omega arith)) in
         number-at (num l g v 0 0 r 0 1 n) w 0 (domAt (tablesOf n w .facts) v) (L .val-least) (L .val-limit v w ∙ e) (L .val15) (omega arith) (omega arith) _ (tablesOf n w) ends
         (λ z y u q o b s s₁.
         let h : y < 8 = omega (arith, within-both y 0 (domAt (tablesOf n w .facts) v) s₁) in
@@ -116,7 +119,7 @@ module _ (l f g r : ℕ) (n : Counts) (place : ℕ → ℕ) (x : ℕ) (d : Ctrl)
         let m = L .room v (omega arith) in
         more-or-end z y w u p q o b h (no-fault (num l g v 0 0 r 0 1 n) w z y q (L .val13) s zero-le)
         ∙ ap (λ (T : Tables). choice comma (facts place N (v + 1)) nothing u l T ends)
-        (ap (λ (i₁ : ℕ). tablesOf n (put w (place v) i₁)) e₁ ∙ fact-kept n w (p .long) (place v) (y + 1) (m .1) (omega arith)))
+        (ap (λ (i₁ : ℕ). tablesOf n (putByte w (place v) i₁)) e₁ ∙ fact-kept n w (p .long) (place v) (y + 1) (m .1) (omega arith)))
         t a (L .val-bare v t)
 
   -- a variable: its order, its colon, its value
@@ -138,22 +141,22 @@ module _ (l f g r : ℕ) (n : Counts) (place : ℕ → ℕ) (x : ℕ) (d : Ctrl)
       → reading (num l f 0 m 0 r 0 1 n) w t ≡ facts place N m t l (tablesOf n w) ends
   unfolding facts demand tablesOf withDigit _▸_
   facts-ok zero m h w p t a e =
-      number-at (num l f 0 m 0 r 0 1 n) w 0 (n .vars) (L .var-least) (L .var-limit m w) (L .var15) (omega arith) (let y = fits .high in omega arith) _ (tablesOf n w) ends
+      number-at (num l f 0 m 0 r 0 1 n) w 0 (n .vars) (L .var-least) (L .var-limit m w) (L .var15) (omega arith) (let y = sized .high in omega arith) _ (tablesOf n w) ends
       (λ z v u y o b s q. let j = within-both v 0 (n .vars) q in rising m z v w u y o s (omega arith)) t a e
   facts-ok (suc N) m h w p t a e =
-      number-at (num l f 0 m 0 r 0 1 n) w 0 (n .vars) (L .var-least) (L .var-limit m w) (L .var15) (omega arith) (let y = fits .high in omega arith) _ (tablesOf n w) ends
+      number-at (num l f 0 m 0 r 0 1 n) w 0 (n .vars) (L .var-least) (L .var-limit m w) (L .var15) (omega arith) (let y = sized .high in omega arith) _ (tablesOf n w) ends
       (λ z v u y o b s q.
       variable-ok N m w p (λ v₁ i w₁ p₁ u₁ b₁. facts-ok N (v₁ + 1) (omega arith) w₁ p₁ u₁ b₁ (bare-least (num l f 0 (v₁ + 1) 0 r 0 1 n) u₁ (λ q₁. omega arith)))
       z v u y o b s (within-both v 0 (n .vars) q .1) (leb m v) refl)
       t a e
 
   -- the dash of an empty list, and what ends it
-  dash-step : (w : List ℕ) → step (mk (num l f 0 0 0 r 0 1 n) w) dash ≡ mk (dashed (num l f 0 0 0 r 0 1 n)) w
-  unfolding step live atNumber withDigit isDigit
+  dash-step : (w : List ℕ) → byteRead (mk (num l f 0 0 0 r 0 1 n) w) dash ≡ mk (dashed (num l f 0 0 0 r 0 1 n)) w
+  unfolding byteRead live atNumber withDigit isDigit
   dash-step w = rw (L .var-dash dash)
 
   dash-ok : (w t : List ℕ) → Known (n .vars) w → Bytes t → reading (dashed (num l f 0 0 0 r 0 1 n)) w t ≡ ends t l (tablesOf n w)
-  unfolding ends lit dashed fresh step live
+  unfolding ends lit dashed partBegun byteRead live
   dash-ok w [] p a = cut-short (dashed (num l f 0 0 0 r 0 1 n)) w refl (L .var15) refl
   dash-ok w (b ∷ t) p (byte h a) =
       moves (dashed (num l f 0 0 0 r 0 1 n)) _ w w b t (ap (λ (c : Ctrl). mk c w) (L .dash-ends b))

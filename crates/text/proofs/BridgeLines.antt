@@ -31,28 +31,10 @@ use Rattle.grammar.specs.Grammar.{
   domLine,
   initLine,
 }
-use Rattle.text.specs.Machine.{
-  up,
-  dom,
-  keyByte,
-  fresh,
-  due,
-  opened,
-  withDigit,
-  leasts,
-  limit,
-  noted,
-  lastVar,
-  stored,
-  listOf,
-  toLine,
-  nextLine,
-  mark,
-  kind,
-  afterVar,
-  after,
-  dashHere,
-}
+use Rattle.text.specs.Inside.Area.{domIn}
+use Rattle.text.specs.Inside.Control.{up, partBegun, due, opened, withDigit, toLine, nextLine}
+use Rattle.text.specs.Inside.Fields.{keyByte, leasts, limit, countsWith, seenWith, noted, lastVar, stored, kind}
+use Rattle.text.specs.Inside.Steps.{mark, afterVar, afterNumber, dashHere}
 use Rattle.text.proofs.BridgeReading.{tablesOf, reading, Bytes, kw, spelled, key-ok}
 use Rattle.text.proofs.BridgeNumbers.{beginsDash, pick-same, number-ok}
 use Rattle.grammar.proofs.Runs.{within-both}
@@ -64,7 +46,7 @@ abbrev pub eol : Rest → Rest
 eol k u m U = lit (lineEnd ∷ []) u m U (λ u₁ m₁ U₁. k u₁ (m₁ + 1) U₁)
 
 -- no dash can stand for a number that is no fact's variable
-pub bare : (c : Ctrl) (t : List ℕ) → eqb (kind (c .field)) 2 ≡ false → beginsDash c t ≡ false
+pub bare : (c : Ctrl) (t : List ℕ) → eqb (kind (c .spot .field)) 2 ≡ false → beginsDash c t ≡ false
 unfolding dashHere withDigit
 bare c [] e = refl
 bare c (b ∷ t) e = rw e (pick-same (eqb b 45) false)
@@ -73,7 +55,7 @@ bare c (b ∷ t) e = rw e (pick-same (eqb b 45) false)
 module _ (l f : ℕ) (n : Counts) (w : List ℕ) (h : f ≡ 15 → ⊥) (c : f ≡ 13 → ⊥) (low : getD leasts f 0 ≤ 4294967295) (cap : limit (num l f 0 0 0 0 0 1 n) w ≤ 4294967295)
     (e : eqb (kind f) 2 ≡ false) (keeps : ℕ → Tables → Tables) (k : Rest) (d : ℕ → Ctrl)
     (same : (z v : ℕ) → stored (withDigit (num l f 0 0 0 0 0 1 n) z v) w ≡ w)
-    (goes : (z v b : ℕ) → after (noted (withDigit (num l f 0 0 0 0 0 1 n) z v)) w b ≡ mark (noted (withDigit (num l f 0 0 0 0 0 1 n) z v)) b lineEnd (d v))
+    (goes : (z v b : ℕ) → afterNumber (noted (withDigit (num l f 0 0 0 0 0 1 n) z v)) w b ≡ mark (noted (withDigit (num l f 0 0 0 0 0 1 n) z v)) b lineEnd (d v))
     (ok : (v : ℕ) → fits v (getD leasts f 0) (limit (num l f 0 0 0 0 0 1 n) w) ≡ true → (t : List ℕ) → Bytes t → reading (d v) w t ≡ k t (l + 1) (keeps v (tablesOf n w))) where
   pub single-ok : (t : List ℕ) → Bytes t
       → reading (num l f 0 0 0 0 0 1 n) w t ≡ numeral (getD leasts f 0) (limit (num l f 0 0 0 0 0 1 n) w) (λ v. keep (keeps v)) t l (tablesOf n w) (eol k)
@@ -88,7 +70,7 @@ module _ (l f : ℕ) (n : Counts) (w : List ℕ) (h : f ≡ 15 → ⊥) (c : f �
 -- edition=
 pub edition-ok : (n : Counts) (w : List ℕ) (k : Rest) → ((t : List ℕ) → Bytes t → reading (kw 2 1 0 n 0) w t ≡ k t 2 (tablesOf n w))
     → (t : List ℕ) → Bytes t → reading (kw 1 0 0 n 0) w t ≡ editionLine t 1 (tablesOf n w) k
-unfolding editionLine line endOfLine _▸_ nothing keep opened fresh limit stored withDigit noted after kind nextLine listOf toLine spelled keyByte
+unfolding editionLine line endOfLine _▸_ nothing keep opened partBegun limit stored withDigit noted afterNumber kind nextLine toLine spelled keyByte seenWith countsWith
 edition-ok n w k ok =
     key-ok 1 0 0 n w (λ z. omega arith) (tablesOf n w) _
     (single-ok 1 0 n w (λ z. omega arith) (λ z. omega arith) (omega arith) (omega arith) refl (λ v T. T) k (λ v. kw 2 1 0 n 0) (λ z v. refl) (λ z v b. refl) (λ v q. ok))
@@ -101,7 +83,7 @@ withVars v n = record { vars = v; ops = n .ops; maps = n .maps }
 pub vars-ok : (n : Counts) (w : List ℕ) (k : Rest)
     → ((v : ℕ) → 1 ≤ v → v ≤ 8 → (t : List ℕ) → Bytes t → reading (kw 3 2 0 (withVars v n) 0) w t ≡ k t 3 (tablesOf (withVars v n) w))
     → (t : List ℕ) → Bytes t → reading (kw 2 1 0 n 0) w t ≡ varsLine t 2 (tablesOf n w) k
-unfolding varsLine line endOfLine _▸_ keep opened fresh limit stored withDigit noted after kind nextLine listOf toLine spelled keyByte tablesOf
+unfolding varsLine line endOfLine _▸_ keep opened partBegun limit stored withDigit noted afterNumber kind nextLine toLine spelled keyByte tablesOf seenWith countsWith
 vars-ok n w k ok =
     key-ok 2 1 0 n w (λ z. omega arith) (tablesOf n w) _
     (single-ok 2 1 n w (λ z. omega arith) (λ z. omega arith) (omega arith) (omega arith) refl
@@ -116,14 +98,14 @@ data VarRow : ℕ → Type 0 where
 
 module _ (l z v b i : ℕ) (n : Counts) (w : List ℕ) (g : n .vars ≤ 8) where
   vars-more : {f : ℕ} → VarRow f → i + 1 < n .vars
-      → after (noted (withDigit (num l f i 0 0 0 0 1 n) z v)) w b ≡ mark (noted (withDigit (num l f i 0 0 0 0 1 n) z v)) b comma (num l f (i + 1) 0 0 0 0 1 n)
-  unfolding after kind afterVar lastVar noted withDigit due
+      → afterNumber (noted (withDigit (num l f i 0 0 0 0 1 n) z v)) w b ≡ mark (noted (withDigit (num l f i 0 0 0 0 1 n) z v)) b comma (num l f (i + 1) 0 0 0 0 1 n)
+  unfolding afterNumber kind afterVar lastVar noted withDigit due seenWith countsWith
   vars-more domRow h = let e : up i ≡ i + 1 = omega arith in rw (e, ne-eqb (i + 1) (n .vars) (λ q. omega arith))
   vars-more initRow h = let e : up i ≡ i + 1 = omega arith in rw (e, ne-eqb (i + 1) (n .vars) (λ q. omega arith))
 
   vars-last : {f : ℕ} → VarRow f → i + 1 ≡ n .vars
-      → after (noted (withDigit (num l f i 0 0 0 0 1 n) z v)) w b ≡ mark (noted (withDigit (num l f i 0 0 0 0 1 n) z v)) b lineEnd (kw (up l) (up f) 0 n 0)
-  unfolding after kind afterVar lastVar noted withDigit nextLine listOf toLine fresh
+      → afterNumber (noted (withDigit (num l f i 0 0 0 0 1 n) z v)) w b ≡ mark (noted (withDigit (num l f i 0 0 0 0 1 n) z v)) b lineEnd (kw (up l) (up f) 0 n 0)
+  unfolding afterNumber kind afterVar lastVar noted withDigit nextLine toLine partBegun seenWith countsWith
   vars-last domRow h = let e : up i ≡ n .vars = omega arith in rw (eq-eqb (up i) (n .vars) e)
   vars-last initRow h = let e : up i ≡ n .vars = omega arith in rw (eq-eqb (up i) (n .vars) e)
 
@@ -131,9 +113,9 @@ module _ (l z v b i : ℕ) (n : Counts) (w : List ℕ) (g : n .vars ≤ 8) where
 pub dom-ok : (n : Counts) → Fits n → (w : List ℕ) → Known 0 w → (k : Rest)
     → ((u : List ℕ) → Known (n .vars) u → (t : List ℕ) → Bytes t → reading (kw 4 3 0 n 0) u t ≡ k t 4 (tablesOf n u))
     → (t : List ℕ) → Bytes t → reading (kw 3 2 0 n 0) w t ≡ domLine t 3 (tablesOf n w) k
-unfolding domLine line endOfLine _▸_ ask opened fresh limit stored withDigit kind spelled keyByte tablesOf
-dom-ok n fits w g k ok =
-    let one : suc (n .vars - 1) ≡ n .vars = let y = fits .low in omega arith in
+unfolding domLine line endOfLine _▸_ ask opened partBegun limit stored withDigit kind spelled keyByte tablesOf
+dom-ok n sized w g k ok =
+    let one : suc (n .vars - 1) ≡ n .vars = let y = sized .low in omega arith in
     key-ok 3 2 0 n w (λ z. omega arith) (tablesOf n w) _
     (λ t a.
     row-ok 3 2 0 n (λ i. i) (λ i. 0) (n .vars) (λ z. omega arith) (λ z. omega arith) (omega arith) (λ i U. 9) (λ i v. putFact (domPlace i) v) Known (eol k)
@@ -141,12 +123,12 @@ dom-ok n fits w g k ok =
     (λ i u y p. (refl, omega arith))
     (λ i z v u y p q.
     let s = within-both v 1 9 q in
-    let x = fits .high in
+    let x = sized .high in
     (fact-kept n u (p .long) i v (omega arith) (omega arith) ∙ ap (λ (j : ℕ). putFact j v (tablesOf n u)) (sym (zero-add i)), known-dom p v (omega arith) (s .0) (omega arith)))
-    (λ i z v b u y. vars-more 3 z v b i n u (fits .high) domRow y)
+    (λ i z v b u y. vars-more 3 z v b i n u (sized .high) domRow y)
     (λ i z v u t₁ y x o a₁ p e.
     then-mark (num 3 2 i 0 0 0 0 1 n) u z v lineEnd (kw 4 3 0 n 0) _ (λ u₁ m₁ U₁. k u₁ (m₁ + 1) U₁) (λ q. omega arith) x e
-    (λ b. vars-last 3 z v b i n u (fits .high) domRow y) (ok _ (rw y at p)) o a₁)
+    (λ b. vars-last 3 z v b i n u (sized .high) domRow y) (ok _ (rw y at p)) o a₁)
     (n .vars - 1) 0 (omega arith) w g t a
     ∙ ap (λ (m : ℕ). row 1 (λ i U. 9) (λ i v. putFact (domPlace i) v) m 0 t 3 (tablesOf n w) (eol k)) one)
     0 (bytes "dom=") refl
@@ -155,29 +137,29 @@ dom-ok n fits w g k ok =
 pub init-ok : (n : Counts) → Fits n → (w : List ℕ) → Known (n .vars) w → (k : Rest)
     → ((u : List ℕ) → Known (n .vars) u → (t : List ℕ) → Bytes t → reading (kw 5 4 0 n 0) u t ≡ k t 5 (tablesOf n u))
     → (t : List ℕ) → Bytes t → reading (kw 4 3 0 n 0) w t ≡ initLine t 4 (tablesOf n w) k
-unfolding initLine line endOfLine _▸_ ask opened fresh limit stored withDigit kind spelled keyByte tablesOf
-init-ok n fits w g k ok =
-    let one : suc (n .vars - 1) ≡ n .vars = let y = fits .low in omega arith in
+unfolding initLine line endOfLine _▸_ ask opened partBegun limit stored withDigit kind spelled keyByte tablesOf
+init-ok n sized w g k ok =
+    let one : suc (n .vars - 1) ≡ n .vars = let y = sized .low in omega arith in
     key-ok 4 3 0 n w (λ z. omega arith) (tablesOf n w) _
     (λ t a.
     row-ok 4 3 0 n (λ i. i) (λ i. 0) (n .vars) (λ z. omega arith) (λ z. omega arith) (omega arith) (λ i U. domAt (U .facts) i) (λ i v. putFact (initPlace i) v)
     (λ i u. Known (n .vars) u) (eol k)
     (λ i u. bare (num 4 3 i 0 0 0 0 1 n) u refl)
     (λ i u y p.
-    let x = fits .high in
-    let d : domAt (tablesOf n u .facts) i ≡ dom u i = dom-of n u i (omega arith) in
+    let x = sized .high in
+    let d : domAt (tablesOf n u .facts) i ≡ domIn u i = dom-of n u i (omega arith) in
     let s = p .doms i y in
     (sym d, omega arith))
     (λ i z v u y p q.
-    let x = fits .high in
-    let d : domAt (tablesOf n u .facts) i ≡ dom u i = dom-of n u i (omega arith) in
+    let x = sized .high in
+    let d : domAt (tablesOf n u .facts) i ≡ domIn u i = dom-of n u i (omega arith) in
     let r = p .doms i y in
     let s = within-both v 0 (domAt (tablesOf n u .facts) i) q in
     (fact-kept n u (p .long) (initPlace i) v (omega arith) (omega arith), known-put p (initPlace i) v (omega arith)))
-    (λ i z v b u y. vars-more 4 z v b i n u (fits .high) initRow y)
+    (λ i z v b u y. vars-more 4 z v b i n u (sized .high) initRow y)
     (λ i z v u t₁ y x o a₁ p e.
     then-mark (num 4 3 i 0 0 0 0 1 n) u z v lineEnd (kw 5 4 0 n 0) _ (λ u₁ m₁ U₁. k u₁ (m₁ + 1) U₁) (λ q. omega arith) x e
-    (λ b. vars-last 4 z v b i n u (fits .high) initRow y) (ok _ p) o a₁)
+    (λ b. vars-last 4 z v b i n u (sized .high) initRow y) (ok _ p) o a₁)
     (n .vars - 1) 0 (omega arith) w g t a
     ∙ ap (λ (m : ℕ). row 0 (λ i U. domAt (U .facts) i) (λ i v. putFact (initPlace i) v) m 0 t 4 (tablesOf n w) (eol k)) one)
     0 (bytes "init=") refl

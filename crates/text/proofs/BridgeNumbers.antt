@@ -7,34 +7,19 @@ use mathlib.Core.Bool.{Bool, true, false, cond}
 use lib.ListN.{getD, take, drop}
 use lib.Dec.{ltb, leb, eqb}
 use borrow.Author.Tests.{eq-eqb, ne-eqb, eqb-true, eqb-false, le-leb, lt-leb, lt-ltb, le-ltb, leb-true, leb-false, ltb-true, ltb-false}
+use Rattle.refusals.specs.declared.Refusal.{Refusal}
 use Rattle.refusals.specs.declared.Refusal.the-variants.{OffForm, OutOfRange}
 use Rattle.tables.specs.Layout.{Tables}
 use Rattle.text.specs.declared.Ctrl.{Ctrl}
+use Rattle.text.specs.declared.Halt.{Halt}
+use Rattle.text.specs.declared.Halt.the-variants.{Going, Form, Range}
+use Rattle.scan.specs.declared.Found.the-variants.{Clean, Fault}
 use Rattle.grammar.specs.Fields.{isDigit}
 use Rattle.grammar.specs.Grammar.{Verdict, refused, Rest, Part, _▸_, demand, runLen, value, formed, fits, numeral}
-use Rattle.text.specs.Machine.{
-  mk,
-  stopped,
-  more,
-  withDigit,
-  digit,
-  leasts,
-  limit,
-  inRange,
-  judged,
-  noted,
-  fault,
-  stored,
-  after,
-  closed,
-  dashHere,
-  atNumber,
-  live,
-  step,
-  feed,
-  ended,
-  refusalOf,
-}
+use Rattle.text.specs.Inside.Control.{mk, runZero, runOn, going, stopped, withDigit}
+use Rattle.text.specs.Inside.Fields.{leasts, limit, inRange, numberFault, noted, fault, stored}
+use Rattle.text.specs.Inside.Steps.{more, runWith, digitRead, afterNumber, closed, dashHere, atNumber, live, byteRead, feed}
+use Rattle.text.specs.Inside.End.{ended, refusalOf, endFault}
 use Rattle.grammar.proofs.Runs.{
   within-both,
   digit-both,
@@ -51,7 +36,7 @@ use Rattle.grammar.proofs.Runs.{
   formed-lead,
   formed-other,
 }
-use Rattle.text.proofs.BridgeReading.{told, reading, Bytes, byte, bytes-drop, stops, stops-2, moves, cut-short}
+use Rattle.text.proofs.BridgeReading.{told, reading, Bytes, byte, bytes-drop, stops, off-form, moves, cut-short}
 
 -- ---- a run's value, capped
 value-min : (t : List ℕ) (v : ℕ) → min (value (min v 4294967295) t) 4294967295 ≡ min (value v t) 4294967295
@@ -74,10 +59,10 @@ more-zero : (d : ℕ) → d ≡ 0 → more 0 d ≡ 0
 unfolding more
 more-zero d e = omega arith
 
-run-two : (r d : ℕ) → (r + d ≡ 0 → ⊥) → _≡_ {A = ℕ} (cond (eqb (r + d) 0) 1 2) 2
+run-two : (r d : ℕ) → (r + d ≡ 0 → ⊥) → runWith r d ≡ runOn
 run-two r d h = simp (ne-eqb (r + d) 0 h)
 
-run-one : (d : ℕ) → d ≡ 0 → _≡_ {A = ℕ} (cond (eqb (0 + d) 0) 1 2) 1
+run-one : (d : ℕ) → d ≡ 0 → runWith 0 d ≡ runZero
 run-one d h = simp (eq-eqb (0 + d) 0 (omega arith))
 
 -- a capped value is in a range below the cap exactly if the value is
@@ -140,18 +125,18 @@ pub pick-same : (q b : Bool) → cond q b b ≡ b
 pick-same true b = refl
 pick-same false b = refl
 
-pub run-of : (c : Ctrl) (r v : ℕ) → withDigit c r v .run ≡ r
+pub run-of : (c : Ctrl) (r v : ℕ) → withDigit c r v .digits .run ≡ r
 unfolding withDigit
 run-of c r v = refl
 
 module _ (c : Ctrl) (w : List ℕ) where
   digit-step : (r v b : ℕ) → isDigit b ≡ true → (r ≡ 1 → ⊥)
-      → step (mk (withDigit c r v) w) b ≡ mk (withDigit c (cond (eqb (r + (b - 48)) 0) 1 2) (more v (b - 48))) w
-  unfolding step live atNumber digit withDigit
+      → byteRead (mk (withDigit c r v) w) b ≡ mk (withDigit c (runWith r (b - 48)) (more v (b - 48))) w
+  unfolding byteRead live atNumber digitRead withDigit
   digit-step r v b e h = simp (e, ne-eqb r 1 h)
 
-  digit-off : (v b : ℕ) → isDigit b ≡ true → step (mk (withDigit c 1 v) w) b ≡ mk (stopped (withDigit c 1 v) 2) w
-  unfolding step live atNumber digit withDigit
+  digit-off : (v b : ℕ) → isDigit b ≡ true → byteRead (mk (withDigit c 1 v) w) b ≡ mk (stopped (withDigit c 1 v) Form) w
+  unfolding byteRead live atNumber digitRead withDigit
   digit-off v b e = simp e
 
   -- the digits of a run after one that is no leading zero
@@ -175,51 +160,51 @@ module _ (c : Ctrl) (w : List ℕ) where
   unfolding dashHere withDigit
   no-dash r v b z = simp (ne-eqb r 0 z, pick-same)
 
-  closes : (r v b : ℕ) → (r ≡ 0 → ⊥) → isDigit b ≡ false → step (mk (withDigit c r v) w) b ≡ closed (withDigit c r v) w b
-  unfolding step live atNumber withDigit
+  closes : (r v b : ℕ) → (r ≡ 0 → ⊥) → isDigit b ≡ false → byteRead (mk (withDigit c r v) w) b ≡ closed (withDigit c r v) w b
+  unfolding byteRead live atNumber withDigit
   closes r v b z o = simp (o, no-dash r v b z)
 
   -- a run with a fault of its own
-  pub faulty : (r v k : ℕ) {t : List ℕ} → (c .field ≡ 15 → ⊥) → (r ≡ 0 → ⊥) → Stop t → fault (withDigit c r v) w ≡ k → (k ≡ 0 → ⊥)
-      → reading (withDigit c r v) w t ≡ refused (refusalOf k (c .line))
-  unfolding reading told feed ended withDigit closed
-  faulty r v k h z nil e n = simp (ne-eqb (c .field) 15 h, e, ne-eqb k 0 n)
-  faulty r v k h z (other {b = b} {t = t} o) e n =
-      moves (withDigit c r v) (stopped (withDigit c r v) k) w w b t (closes r v b z o ∙ simp (e, ne-eqb k 0 n)) ∙ stops (withDigit c r v) k w t n
+  pub faulty : (r v : ℕ) (k : Halt) (f : Refusal) {t : List ℕ} → (c .spot .field ≡ 15 → ⊥) → (r ≡ 0 → ⊥) → Stop t → fault (withDigit c r v) w ≡ k → going k ≡ false
+      → refusalOf k (c .line) ≡ Fault f → reading (withDigit c r v) w t ≡ refused f
+  unfolding reading told feed endFault ended withDigit closed
+  faulty r v k f h z nil e n q = simp (ne-eqb (c .spot .field) 15 h, e, n, q)
+  faulty r v k f h z (other {b = b} {t = t} o) e n q =
+      moves (withDigit c r v) (stopped (withDigit c r v) k) w w b t (closes r v b z o ∙ simp (e, n)) ∙ stops (withDigit c r v) k f w t n q
 
   -- a run without a fault: the text must go on, and the byte is judged by `after`
-  pub sound-end : (r v : ℕ) → (c .field ≡ 15 → ⊥) → fault (withDigit c r v) w ≡ 0 → reading (withDigit c r v) w [] ≡ refused (OffForm (c .line))
-  unfolding reading told feed ended withDigit refusalOf
-  sound-end r v h e = simp (ne-eqb (c .field) 15 h, e)
+  pub sound-end : (r v : ℕ) → (c .spot .field ≡ 15 → ⊥) → fault (withDigit c r v) w ≡ Going → reading (withDigit c r v) w [] ≡ refused (OffForm (c .line))
+  unfolding reading told feed endFault ended withDigit
+  sound-end r v h e = simp (ne-eqb (c .spot .field) 15 h, e)
 
-  pub sound-byte : (r v b : ℕ) (t : List ℕ) → (r ≡ 0 → ⊥) → isDigit b ≡ false → fault (withDigit c r v) w ≡ 0
-      → reading (withDigit c r v) w (b ∷ t) ≡ reading (after (noted (withDigit c r v)) w b) (stored (withDigit c r v) w) t
+  pub sound-byte : (r v b : ℕ) (t : List ℕ) → (r ≡ 0 → ⊥) → isDigit b ≡ false → fault (withDigit c r v) w ≡ Going
+      → reading (withDigit c r v) w (b ∷ t) ≡ reading (afterNumber (noted (withDigit c r v)) w b) (stored (withDigit c r v) w) t
   unfolding closed
   sound-byte r v b t z o e = moves (withDigit c r v) _ w _ b t (closes r v b z o ∙ simp e)
 
   -- a run out of its range
-  pub in-range : (r v : ℕ) → inRange (withDigit c r v) w ≡ fits v (getD leasts (c .field) 0) (limit c w)
+  pub in-range : (r v : ℕ) → inRange (withDigit c r v) w ≡ fits v (getD leasts (c .spot .field) 0) (limit c w)
   unfolding inRange fits limit withDigit
   in-range r v = refl
 
-  fault-3 : (r v : ℕ) → (r ≡ 0 → ⊥) → fits v (getD leasts (c .field) 0) (limit c w) ≡ false → fault (withDigit c r v) w ≡ 3
-  unfolding fault judged
-  fault-3 r v z e = rw (in-range r v ∙ e) (simp (run-of c r v, ne-eqb r 0 z))
+  fault-range : (r v : ℕ) → (r ≡ 0 → ⊥) → fits v (getD leasts (c .spot .field) 0) (limit c w) ≡ false → fault (withDigit c r v) w ≡ Range
+  unfolding fault numberFault
+  fault-range r v z e = rw (in-range r v ∙ e) (simp (run-of c r v, ne-eqb r 0 z))
 
   empty-byte : (b : ℕ) (t : List ℕ) → isDigit b ≡ false → dashHere (withDigit c 0 0) b ≡ false → reading (withDigit c 0 0) w (b ∷ t) ≡ refused (OffForm (c .line))
-  unfolding step live atNumber closed fault withDigit
-  empty-byte b t o d = moves (withDigit c 0 0) (stopped (withDigit c 0 0) 2) w w b t (simp (o, d)) ∙ stops-2 (withDigit c 0 0) w t
+  unfolding byteRead live atNumber closed fault withDigit
+  empty-byte b t o d = moves (withDigit c 0 0) (stopped (withDigit c 0 0) Form) w w b t (simp (o, d)) ∙ off-form (withDigit c 0 0) w t
 
-module _ (c : Ctrl) (w : List ℕ) (h : c .field ≡ 15 → ⊥) (low : getD leasts (c .field) 0 ≤ 4294967295) (cap : limit c w ≤ 4294967295)
+module _ (c : Ctrl) (w : List ℕ) (h : c .spot .field ≡ 15 → ⊥) (low : getD leasts (c .spot .field) 0 ≤ 4294967295) (cap : limit c w ≤ 4294967295)
     (p : ℕ → Part) (T : Tables) (k : Rest)
-    (ok : (r v : ℕ) (t : List ℕ) → (r ≡ 0 → ⊥) → Stop t → Bytes t → fits v (getD leasts (c .field) 0) (limit c w) ≡ true
+    (ok : (r v : ℕ) (t : List ℕ) → (r ≡ 0 → ⊥) → Stop t → Bytes t → fits v (getD leasts (c .spot .field) 0) (limit c w) ≡ true
     → reading (withDigit c r v) w t ≡ p v t (c .line) T k) where
   lo : ℕ
-  lo = getD leasts (c .field) 0
+  lo = getD leasts (c .spot .field) 0
 
   -- where a run has ended
   closing : (r v : ℕ) (t : List ℕ) → (r ≡ 0 → ⊥) → Stop t → Bytes t → reading (withDigit c r (min v 4294967295)) w t ≡ ranged lo (limit c w) p (c .line) T k v t
-  unfolding ranged demand lo refusalOf
+  unfolding ranged demand lo
   closing r v t z o a = split (fits v lo (limit c w)) refl
     where
       same : fits (min v 4294967295) lo (limit c w) ≡ fits v lo (limit c w)
@@ -227,7 +212,7 @@ module _ (c : Ctrl) (w : List ℕ) (h : c .field ≡ 15 → ⊥) (low : getD lea
 
       split : (q : Bool) → fits v lo (limit c w) ≡ q → reading (withDigit c r (min v 4294967295)) w t ≡ demand (fits v lo (limit c w)) OutOfRange t (c .line) T (λ u₁ m U. p v u₁ m U k)
       split true q = rw q (ap (λ (x : ℕ). reading (withDigit c r x) w t) (within-low v lo (limit c w) cap (within-both v lo (limit c w) q .1)) ∙ ok r v t z o a q)
-      split false q = rw q (faulty c w r (min v 4294967295) 3 h z o (fault-3 c w r (min v 4294967295) z (same ∙ q)) (λ y. omega arith))
+      split false q = rw q (faulty c w r (min v 4294967295) Range (OutOfRange (c .line)) h z o (fault-range c w r (min v 4294967295) z (same ∙ q)) refl refl)
 
   -- after a leading zero
   zero-then : (b : ℕ) (t : List ℕ) → isDigit b ≡ true → b ≡ 48 → Bytes t → reading (withDigit c 1 0) w t ≡ numeral lo (limit c w) p (b ∷ t) (c .line) T k
@@ -237,16 +222,16 @@ module _ (c : Ctrl) (w : List ℕ) (h : c .field ≡ 15 → ⊥) (low : getD lea
     where
       split : (y : Bool) → isDigit x ≡ y → reading (withDigit c 1 0) w (x ∷ t) ≡ numeral lo (limit c w) p (b ∷ x ∷ t) (c .line) T k
       split true y =
-          moves _ (stopped (withDigit c 1 0) 2) w w x t (digit-off c w 0 x y) ∙ stops-2 (withDigit c 1 0) w t
+          moves _ (stopped (withDigit c 1 0) Form) w w x t (digit-off c w 0 x y) ∙ off-form (withDigit c 1 0) w t
           ∙ sym (number-off lo (limit c w) p (c .line) T k (b ∷ x ∷ t) (formed-lead b (x ∷ t) (runLen t) q z (run-hit x t y)))
       split false y = closing 1 0 (x ∷ t) (λ o. omega arith) (other y) a ∙ sym (number-zero lo (limit c w) p (c .line) T k b (x ∷ t) q z (other y))
 
-  pub number-ok : (t : List ℕ) → Bytes t → beginsDash c t ≡ false → reading (withDigit c 0 0) w t ≡ numeral (getD leasts (c .field) 0) (limit c w) p t (c .line) T k
+  pub number-ok : (t : List ℕ) → Bytes t → beginsDash c t ≡ false → reading (withDigit c 0 0) w t ≡ numeral (getD leasts (c .spot .field) 0) (limit c w) p t (c .line) T k
   unfolding lo withDigit
   number-ok [] a d = cut-short (withDigit c 0 0) w refl h refl ∙ sym (number-off lo (limit c w) p (c .line) T k [] formed-nil)
   number-ok (b ∷ t) (byte y a) d = split (isDigit b) refl
     where
-      state : (q : isDigit b ≡ true) → reading (withDigit c 0 0) w (b ∷ t) ≡ reading (withDigit c (cond (eqb (0 + (b - 48)) 0) 1 2) (more 0 (b - 48))) w t
+      state : (q : isDigit b ≡ true) → reading (withDigit c 0 0) w (b ∷ t) ≡ reading (withDigit c (runWith 0 (b - 48)) (more 0 (b - 48))) w t
       state q = moves _ _ w w b t (digit-step c w 0 0 b q (λ z. omega arith))
 
       lead : (e : Bool) → eqb b 48 ≡ e → isDigit b ≡ true → reading (withDigit c 0 0) w (b ∷ t) ≡ numeral lo (limit c w) p (b ∷ t) (c .line) T k

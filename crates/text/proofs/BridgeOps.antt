@@ -27,29 +27,10 @@ use Rattle.grammar.specs.Grammar.{
   operator,
   opLines,
 }
-use Rattle.text.specs.Machine.{
-  up,
-  put3,
-  costByte,
-  keyByte,
-  fresh,
-  due,
-  opened,
-  withDigit,
-  limit,
-  noted,
-  stored,
-  listOf,
-  toLine,
-  rowOr,
-  nextLine,
-  listEnd,
-  kind,
-  afterValue,
-  after,
-  dashHere,
-  dashed,
-}
+use Rattle.text.specs.Inside.Area.{putWord, costByte}
+use Rattle.text.specs.Inside.Control.{up, partBegun, due, opened, withDigit, dashed, toLine, rowOr, nextLine}
+use Rattle.text.specs.Inside.Fields.{keyByte, limit, countsWith, seenWith, noted, stored, kind}
+use Rattle.text.specs.Inside.Steps.{listEnd, afterValue, afterNumber, dashHere}
 use Rattle.text.proofs.BridgeReading.{tablesOf, reading, Bytes, kw, spelled, key-ok}
 use Rattle.grammar.proofs.Runs.{within-both}
 use Rattle.text.proofs.BridgeArea.{cost-kept}
@@ -63,7 +44,7 @@ pick-self false = refl
 
 -- ---- the three lists of facts: the goal's, and an operator's preconditions and effects
 goal-list : (n : Counts) → FactList 5 4 5 0 n goalPlace lineEnd (kw 6 6 0 n 0)
-unfolding limit stored withDigit noted after kind afterValue listEnd listOf nextLine toLine due dashHere dashed fresh
+unfolding limit stored withDigit noted afterNumber kind afterValue listEnd nextLine toLine due dashHere dashed partBegun seenWith countsWith
 goal-list n =
     record {
       var15 = λ z. omega arith;
@@ -85,7 +66,7 @@ goal-list n =
     }
 
 pre-list : (l r : ℕ) (n : Counts) → r < 64 → FactList l 8 9 r n (prePlace r) semicolon (num l 10 0 0 0 r 0 1 n)
-unfolding limit stored withDigit noted after kind afterValue listEnd listOf due dashHere dashed fresh
+unfolding limit stored withDigit noted afterNumber kind afterValue listEnd due dashHere dashed partBegun seenWith countsWith
 pre-list l r n h =
     record {
       var15 = λ z. omega arith;
@@ -111,7 +92,7 @@ abbrev pub afterRow : ℕ → ℕ → ℕ → ℕ → ℕ → Counts → Ctrl
 afterRow l f g r N n = cond (ltb (up r) N) (kw (up l) f (up r) n 0) (kw (up l) g 0 n 0)
 
 eff-list : (l r : ℕ) (n : Counts) → r < 64 → FactList l 10 11 r n (effPlace r) lineEnd (afterRow l 7 12 r (n .ops) n)
-unfolding limit stored withDigit noted after kind afterValue listEnd listOf nextLine toLine rowOr due dashHere dashed fresh
+unfolding limit stored withDigit noted afterNumber kind afterValue listEnd nextLine toLine rowOr due dashHere dashed partBegun seenWith countsWith
 eff-list l r n h =
     record {
       var15 = λ z. omega arith;
@@ -136,10 +117,10 @@ eff-list l r n h =
 pub goal-ok : (n : Counts) → Fits n → (w : List ℕ) → Known (n .vars) w → (k : Rest)
     → ((u : List ℕ) → Known (n .vars) u → (t : List ℕ) → Bytes t → reading (kw 6 6 0 n 0) u t ≡ k t 6 (tablesOf n u))
     → (t : List ℕ) → Bytes t → reading (kw 5 4 0 n 0) w t ≡ goalLine t 5 (tablesOf n w) k
-unfolding goalLine line endOfLine _▸_ opened fresh spelled keyByte
-goal-ok n fits w p k ok =
+unfolding goalLine line endOfLine _▸_ opened partBegun spelled keyByte
+goal-ok n sized w p k ok =
     key-ok 5 4 0 n w (λ z. omega arith) (tablesOf n w) _
-    (list-ok 5 4 5 0 n goalPlace lineEnd (kw 6 6 0 n 0) (goal-list n) fits (λ u m U. k u (m + 1) U) ok w p)
+    (list-ok 5 4 5 0 n goalPlace lineEnd (kw 6 6 0 n 0) (goal-list n) sized (λ u m U. k u (m + 1) U) ok w p)
     0 (bytes "goal=") refl
 
 -- ops=
@@ -149,7 +130,7 @@ withOps v n = record { vars = n .vars; ops = v; maps = n .maps }
 pub ops-ok : (n : Counts) (w : List ℕ) (k : Rest)
     → ((v : ℕ) → v ≤ 64 → (t : List ℕ) → Bytes t → reading (kw 7 (cond (eqb v 0) 12 7) 0 (withOps v n) 0) w t ≡ k t 7 (tablesOf (withOps v n) w))
     → (t : List ℕ) → Bytes t → reading (kw 6 6 0 n 0) w t ≡ opsLine t 6 (tablesOf n w) k
-unfolding opsLine line endOfLine _▸_ keep opened fresh limit stored withDigit noted after kind nextLine listOf toLine spelled keyByte tablesOf
+unfolding opsLine line endOfLine _▸_ keep opened partBegun limit stored withDigit noted afterNumber kind nextLine toLine spelled keyByte tablesOf seenWith countsWith
 ops-ok n w k ok =
     key-ok 6 6 0 n w (λ z. omega arith) (tablesOf n w) _
     (single-ok 6 6 n w (λ z. omega arith) (λ z. omega arith) (omega arith) (omega arith) refl
@@ -161,19 +142,19 @@ ops-ok n w k ok =
 operator-ok : (l r : ℕ) (n : Counts) → Fits n → r < 64 → (w : List ℕ) → Known (n .vars) w → (k : Rest)
     → ((u : List ℕ) → Known (n .vars) u → (t : List ℕ) → Bytes t → reading (afterRow l 7 12 r (n .ops) n) u t ≡ k t (l + 1) (tablesOf n u))
     → (t : List ℕ) → Bytes t → reading (kw l 7 r n 0) w t ≡ line "op=" (operator r) t l (tablesOf n w) k
-unfolding line operator endOfLine _▸_ keep opened fresh limit stored withDigit noted after kind due spelled keyByte
-operator-ok l r n fits h w p k ok =
+unfolding line operator endOfLine _▸_ keep opened partBegun limit stored withDigit noted afterNumber kind due spelled keyByte seenWith countsWith
+operator-ok l r n sized h w p k ok =
     key-ok l 7 r n w (λ z. omega arith) (tablesOf n w) _
     (λ t a.
     number-at (num l 7 0 0 0 r 0 1 n) w 0 1000001 refl refl (λ z. omega arith) (omega arith) (omega arith) _ (tablesOf n w) _
     (λ z v u y o b s q.
-    let x = fits .high in
+    let x = sized .high in
     then-mark (num l 7 0 0 0 r 0 1 n) w z v semicolon (num l 8 0 0 0 r 0 1 n) _ _ (λ i. omega arith) y
     (no-fault (num l 7 0 0 0 r 0 1 n) w z v y (λ i. omega arith) s zero-le)
     (λ i. refl)
-    (list-ok l 8 9 r n (prePlace r) semicolon (num l 10 0 0 0 r 0 1 n) (pre-list l r n h) fits (λ u₁ m₁ U. factList (effPlace r) u₁ m₁ U (eol k))
-    (list-ok l 10 11 r n (effPlace r) lineEnd (afterRow l 7 12 r (n .ops) n) (eff-list l r n h) fits (λ u₁ m₁ U. k u₁ (m₁ + 1) U) ok)
-    (put3 w (costByte r) v) (known-put3 p (costByte r) v (omega arith)))
+    (list-ok l 8 9 r n (prePlace r) semicolon (num l 10 0 0 0 r 0 1 n) (pre-list l r n h) sized (λ u₁ m₁ U. factList (effPlace r) u₁ m₁ U (eol k))
+    (list-ok l 10 11 r n (effPlace r) lineEnd (afterRow l 7 12 r (n .ops) n) (eff-list l r n h) sized (λ u₁ m₁ U. k u₁ (m₁ + 1) U) ok)
+    (putWord w (costByte r) v) (known-put3 p (costByte r) v (omega arith)))
     o b
     ∙ ap (λ (T : Tables). lit (semicolon ∷ []) u l T (λ u₁ m₁ U. factList (prePlace r) u₁ m₁ U (λ u₂ m₂ U₂. lit (semicolon ∷ []) u₂ m₂ U₂ (λ u₃ m₃ U₃. factList (effPlace r) u₃ m₃ U₃ (eol k)))))
     (cost-kept n w (p .long) r v h (omega (arith, within-both v 0 1000001 q))))
@@ -211,7 +192,7 @@ pub op-lines-ok : (n : Counts) → Fits n → (w : List ℕ) → Known (n .vars)
     → ((u : List ℕ) → Known (n .vars) u → (t : List ℕ) → Bytes t → reading (kw (7 + n .ops) 12 0 n 0) u t ≡ k t (7 + n .ops) (tablesOf n u))
     → (t : List ℕ) → Bytes t → reading (kw 7 (cond (eqb (n .ops) 0) 12 7) 0 n 0) w t ≡ opLines t 7 (tablesOf n w) k
 unfolding opLines ask tablesOf lines
-op-lines-ok n fits w p k ok t a = split (n .ops) refl
+op-lines-ok n sized w p k ok t a = split (n .ops) refl
   where
     part : ℕ → Part
     part r = line "op=" (operator r)
@@ -225,7 +206,7 @@ op-lines-ok n fits w p k ok t a = split (n .ops) refl
         ∙ sym (ap (λ (m : ℕ). lines part m 0 t 7 (tablesOf n w) k) e)
     split (suc m) e =
         let f : _≡_ {A = ℕ} (cond (eqb (n .ops) 0) 12 7) 7 = rw (ne-eqb (n .ops) 0 (λ z. omega arith)) in
-        let y = fits .ops in
+        let y = sized .ops in
         ap (λ (x : ℕ). reading (kw 7 x 0 n 0) w t) f
-        ∙ lines-ok 7 12 (n .ops) (7 + n .ops) n (n .vars) part k y (omega arith) (λ l r h. operator-ok l r n fits (omega arith)) ok m 0 7 (omega arith) (omega arith) w p t a
+        ∙ lines-ok 7 12 (n .ops) (7 + n .ops) n (n .vars) part k y (omega arith) (λ l r h. operator-ok l r n sized (omega arith)) ok m 0 7 (omega arith) (omega arith) w p t a
         ∙ sym (ap (λ (x : ℕ). lines part x 0 t 7 (tablesOf n w) k) e)

@@ -10,9 +10,14 @@ use borrow.Author.Tests.{ne-eqb, eqb-true, eqb-false, le-leb}
 use Rattle.tables.specs.declared.Counts.{Counts}
 use Rattle.tables.specs.Layout.{Tables}
 use Rattle.text.specs.declared.Ctrl.{Ctrl}
+use Rattle.text.specs.declared.Halt.{Halt}
+use Rattle.text.specs.declared.Halt.the-variants.{Going, Order}
 use Rattle.grammar.specs.Fields.{comma}
 use Rattle.grammar.specs.Grammar.{Rest, _▸_, keep, lit, fits, numeral, parted, row}
-use Rattle.text.specs.Machine.{put, put3, dom, withDigit, leasts, limit, judged, noted, lastClass, before, fault, stored, mark, after}
+use Rattle.text.specs.Inside.Area.{areaRoom, putByte, putWord, domIn}
+use Rattle.text.specs.Inside.Control.{partNumber, going, spotAt, noDigits, turnOf, seenOf, withDigit}
+use Rattle.text.specs.Inside.Fields.{leasts, limit, numberFault, countsWith, seenWith, noted, lastClass, before, fault, stored}
+use Rattle.text.specs.Inside.Steps.{mark, afterNumber}
 use Rattle.text.proofs.BridgeReading.{tablesOf, reading, Bytes, byte, marked}
 use Rattle.grammar.proofs.Runs.{Stop, nil, other}
 use Rattle.text.proofs.BridgeNumbers.{beginsDash, sound-end, sound-byte, in-range, run-of, number-ok}
@@ -21,41 +26,41 @@ use Rattle.text.proofs.BridgeArea.{put-getD, put-same, put-length, put3
 -- a number is due: of field f in line l and row r, for variable v, at least n, the i-th, with the classes seen and the abstract states so far
 abbrev pub num : ℕ → ℕ → ℕ → ℕ → ℕ → ℕ → ℕ → ℕ → Counts → Ctrl
 num l f v n i r m p c =
-    record { code = 0; line = l; part = 1; field = f; key = 0; run = 0; val = 0; var = v; least = n; item = i; row = r; mask = m; prod = p; vars = c .vars; ops = c .ops; maps = c .maps }
+    record { halt = Going; line = l; spot = spotAt partNumber f 0 r; digits = noDigits; turn = turnOf v n i; seen = seenOf m p; counts = c }
 
 -- ---- the mark after a number without a fault
-pub then-mark : (c : Ctrl) (w : List ℕ) (r v x : ℕ) (d : Ctrl) (T : Tables) (k : Rest) → (c .field ≡ 15 → ⊥) → (r ≡ 0 → ⊥) → fault (withDigit c r v) w ≡ 0
-    → ((b : ℕ) → after (noted (withDigit c r v)) w b ≡ mark (noted (withDigit c r v)) b x d)
+pub then-mark : (c : Ctrl) (w : List ℕ) (r v x : ℕ) (d : Ctrl) (T : Tables) (k : Rest) → (c .spot .field ≡ 15 → ⊥) → (r ≡ 0 → ⊥) → fault (withDigit c r v) w ≡ Going
+    → ((b : ℕ) → afterNumber (noted (withDigit c r v)) w b ≡ mark (noted (withDigit c r v)) b x d)
     → ((t : List ℕ) → Bytes t → reading d (stored (withDigit c r v) w) t ≡ k t (c .line) T)
     → {t : List ℕ} → Stop t → Bytes t → reading (withDigit c r v) w t ≡ lit (x ∷ []) t (c .line) T k
-unfolding lit noted withDigit
+unfolding lit noted withDigit seenWith countsWith
 then-mark c w r v x d T k h z e goes ok nil a = sound-end c w r v h e
 then-mark c w r v x d T k h z e goes ok (other {b = b} {t = t} o) (byte y a) =
     sound-byte c w r v b t z o e
     ∙ ap (λ (y : Ctrl). reading y (stored (withDigit c r v) w) t) (goes b)
     ∙ marked (noted (withDigit c r v)) d (stored (withDigit c r v) w) b x [] t T k (λ q. ok t a)
 
-pub judged-in : (c : Ctrl) (w : List ℕ) (r v : ℕ) → fits v (getD leasts (c .field) 0) (limit c w) ≡ true → judged (withDigit c r v) w ≡ cond (leb (c .least) v) 0 4
-unfolding judged withDigit
+pub judged-in : (c : Ctrl) (w : List ℕ) (r v : ℕ) → fits v (getD leasts (c .spot .field) 0) (limit c w) ≡ true → numberFault (withDigit c r v) w ≡ cond (leb (c .turn .least) v) Going Order
+unfolding numberFault withDigit
 judged-in c w r v q = rw (in-range c w r v ∙ q)
 
-order-only : (y : Bool) → _≡_ {A = ℕ} (cond (eqb (cond y 0 4) 0) 0 (cond y 0 4)) (cond y 0 4)
+order-only : (y : Bool) → cond (going (cond y Going Order)) Going (cond y Going Order) ≡ cond y Going Order
 order-only true = refl
 order-only false = refl
 
-before-plain : (c : Ctrl) (w : List ℕ) (r v : ℕ) → (c .field ≡ 13 → ⊥) → before (noted (withDigit c r v)) w ≡ 0
-unfolding before lastClass noted withDigit
-before-plain c w r v f = simp (ne-eqb (c .field) 13 f)
+before-plain : (c : Ctrl) (w : List ℕ) (r v : ℕ) → (c .spot .field ≡ 13 → ⊥) → before (noted (withDigit c r v)) w ≡ Going
+unfolding before lastClass noted withDigit seenWith countsWith
+before-plain c w r v f = simp (ne-eqb (c .spot .field) 13 f)
 
 -- a number in its range, of no class: only its order can be a fault
-pub fault-plain : (c : Ctrl) (w : List ℕ) (r v : ℕ) → (r ≡ 0 → ⊥) → (c .field ≡ 13 → ⊥) → fits v (getD leasts (c .field) 0) (limit c w) ≡ true
-    → fault (withDigit c r v) w ≡ cond (leb (c .least) v) 0 4
+pub fault-plain : (c : Ctrl) (w : List ℕ) (r v : ℕ) → (r ≡ 0 → ⊥) → (c .spot .field ≡ 13 → ⊥) → fits v (getD leasts (c .spot .field) 0) (limit c w) ≡ true
+    → fault (withDigit c r v) w ≡ cond (leb (c .turn .least) v) Going Order
 unfolding fault
-fault-plain c w r v z f q = rw (judged-in c w r v q, before-plain c w r v f, run-of c r v, ne-eqb r 0 z) (order-only (leb (c .least) v))
+fault-plain c w r v z f q = rw (judged-in c w r v q, before-plain c w r v f, run-of c r v, ne-eqb r 0 z) (order-only (leb (c .turn .least) v))
 
-pub no-fault : (c : Ctrl) (w : List ℕ) (r v : ℕ) → (r ≡ 0 → ⊥) → (c .field ≡ 13 → ⊥) → fits v (getD leasts (c .field) 0) (limit c w) ≡ true → c .least ≤ v
-    → fault (withDigit c r v) w ≡ 0
-no-fault c w r v z f q h = fault-plain c w r v z f q ∙ rw (le-leb (c .least) v h)
+pub no-fault : (c : Ctrl) (w : List ℕ) (r v : ℕ) → (r ≡ 0 → ⊥) → (c .spot .field ≡ 13 → ⊥) → fits v (getD leasts (c .spot .field) 0) (limit c w) ≡ true → c .turn .least ≤ v
+    → fault (withDigit c r v) w ≡ Going
+no-fault c w r v z f q h = fault-plain c w r v z f q ∙ rw (le-leb (c .turn .least) v h)
 
 -- ---- what is known of the counts and of the area
 pub record Fits (n : Counts) : Type 0 where
@@ -66,17 +71,17 @@ pub record Fits (n : Counts) : Type 0 where
 
 -- its length, and how many values each variable below j has
 pub record Known (j : ℕ) (w : List ℕ) : Type 0 where
-  pub long : length w ≡ 3352
-  pub doms : (v : ℕ) → v < j → (1 ≤ dom w v) × (dom w v ≤ 8)
+  pub long : length w ≡ areaRoom
+  pub doms : (v : ℕ) → v < j → (1 ≤ domIn w v) × (domIn w v ≤ 8)
 
-pub known-put : {j : ℕ} {w : List ℕ} → Known j w → (p v : ℕ) → j ≤ p → Known j (put w p v)
+pub known-put : {j : ℕ} {w : List ℕ} → Known j w → (p v : ℕ) → j ≤ p → Known j (putByte w p v)
 known-put {j} {w} g p v h =
     record {
       long = put-length w p v ∙ g .long;
       doms = λ i a. rw (put-getD w p v i (omega arith)) (g .doms i a);
     }
 
-pub known-put3 : {j : ℕ} {w : List ℕ} → Known j w → (p v : ℕ) → j ≤ p → Known j (put3 w p v)
+pub known-put3 : {j : ℕ} {w : List ℕ} → Known j w → (p v : ℕ) → j ≤ p → Known j (putWord w p v)
 known-put3 {j} {w} g p v h =
     record {
       long = put3-length w p v ∙ g .long;
@@ -84,14 +89,14 @@ known-put3 {j} {w} g p v h =
     }
 
 -- one variable's number of values more
-pub known-dom : {j : ℕ} {w : List ℕ} → Known j w → (v : ℕ) → j < 3352 → 1 ≤ v → v ≤ 8 → Known (j + 1) (put w j v)
+pub known-dom : {j : ℕ} {w : List ℕ} → Known j w → (v : ℕ) → j < areaRoom → 1 ≤ v → v ≤ 8 → Known (j + 1) (putByte w j v)
 known-dom {j} {w} g v h a b =
     record { long = put-length w j v ∙ g .long; doms = λ i q. split i (eqb i j) refl q }
   where
-    same : dom (put w j v) j ≡ v
+    same : domIn (putByte w j v) j ≡ v
     same = put-same w j v (let l = g .long in omega arith) (omega arith)
 
-    split : (i : ℕ) (q : Bool) → eqb i j ≡ q → i < j + 1 → (1 ≤ dom (put w j v) i) × (dom (put w j v) i ≤ 8)
+    split : (i : ℕ) (q : Bool) → eqb i j ≡ q → i < j + 1 → (1 ≤ domIn (putByte w j v) i) × (domIn (putByte w j v) i ≤ 8)
     split i true e q = rw (eqb-true i j e, same) (a, b)
     split i false e q = let n : i ≡ j → ⊥ = eqb-false i j e in rw (put-getD w j v i (omega arith)) (g .doms i (omega arith))
 
@@ -104,10 +109,10 @@ module _ (l f r : ℕ) (n : Counts) (vi it : ℕ → ℕ) (N : ℕ) (h : f ≡ 1
     → (tablesOf n (stored (withDigit (num l f (vi i) 0 (it i) r 0 1 n) z v) w) ≡ keeps i v (tablesOf n w))
     × P (i + 1) (stored (withDigit (num l f (vi i) 0 (it i) r 0 1 n) z v) w))
     (more : (i z v b : ℕ) (w : List ℕ) → i + 1 < N
-    → after (noted (withDigit (num l f (vi i) 0 (it i) r 0 1 n) z v)) w b
+    → afterNumber (noted (withDigit (num l f (vi i) 0 (it i) r 0 1 n) z v)) w b
     ≡ mark (noted (withDigit (num l f (vi i) 0 (it i) r 0 1 n) z v)) b comma (num l f (vi (i + 1)) 0 (it (i + 1)) r 0 1 n))
     (last : (i z v : ℕ) (w u : List ℕ) → i + 1 ≡ N → (z ≡ 0 → ⊥) → Stop u → Bytes u → P (i + 1) (stored (withDigit (num l f (vi i) 0 (it i) r 0 1 n) z v) w)
-    → fault (withDigit (num l f (vi i) 0 (it i) r 0 1 n) z v) w ≡ 0
+    → fault (withDigit (num l f (vi i) 0 (it i) r 0 1 n) z v) w ≡ Going
     → reading (withDigit (num l f (vi i) 0 (it i) r 0 1 n) z v) w u ≡ k u l (tablesOf n (stored (withDigit (num l f (vi i) 0 (it i) r 0 1 n) z v) w))) where
   pub row-ok : (m i : ℕ) → i + suc m ≡ N → (w : List ℕ) → P i w → (t : List ℕ) → Bytes t
       → reading (num l f (vi i) 0 (it i) r 0 1 n) w t ≡ row (getD leasts f 0) lim keeps (suc m) i t l (tablesOf n w) k

@@ -29,30 +29,10 @@ use Rattle.grammar.specs.Grammar.{
   amounts,
   shareLines,
 }
-use Rattle.text.specs.Machine.{
-  up,
-  shareByte,
-  keyByte,
-  fresh,
-  due,
-  opened,
-  withDigit,
-  limit,
-  noted,
-  stored,
-  listOf,
-  toLine,
-  rowOr,
-  nextLine,
-  mark,
-  listEnd,
-  kind,
-  afterShare,
-  after,
-  dashed,
-  live,
-  step,
-}
+use Rattle.text.specs.Inside.Area.{shareByte}
+use Rattle.text.specs.Inside.Control.{up, partBegun, due, opened, withDigit, dashed, toLine, rowOr, nextLine}
+use Rattle.text.specs.Inside.Fields.{keyByte, limit, countsWith, seenWith, noted, stored, kind}
+use Rattle.text.specs.Inside.Steps.{mark, listEnd, afterShare, afterNumber, live, byteRead}
 use Rattle.text.proofs.BridgeReading.{tablesOf, reading, Bytes, byte, cut-short, moves, marked, kw, spelled, key-ok}
 use Rattle.grammar.proofs.Runs.{within-both}
 use Rattle.text.proofs.BridgeArea.{share-kept}
@@ -68,7 +48,7 @@ withMaps v n = record { vars = n .vars; ops = n .ops; maps = v }
 pub maps-ok : (l : ℕ) (n : Counts) (w : List ℕ) (k : Rest) → l ≤ 100
     → ((v : ℕ) → 1 ≤ v → v ≤ 8 → (t : List ℕ) → Bytes t → reading (kw (l + 1) 13 0 (withMaps v n) 0) w t ≡ k t (l + 1) (tablesOf (withMaps v n) w))
     → (t : List ℕ) → Bytes t → reading (kw l 12 0 n 0) w t ≡ mapsLine t l (tablesOf n w) k
-unfolding mapsLine line endOfLine _▸_ keep opened fresh limit stored withDigit noted after kind nextLine listOf toLine spelled keyByte tablesOf
+unfolding mapsLine line endOfLine _▸_ keep opened partBegun limit stored withDigit noted afterNumber kind nextLine toLine spelled keyByte tablesOf seenWith countsWith
 maps-ok l n w k h ok =
     let e : up l ≡ l + 1 = omega arith in
     key-ok l 12 0 n w (λ z. omega arith) (tablesOf n w) _
@@ -81,12 +61,12 @@ maps-ok l n w k h ok =
 map-ok : (l r : ℕ) (n : Counts) → Fits n → r < 8 → (w : List ℕ) → Known (n .vars) w → (k : Rest)
     → ((u : List ℕ) → Known (n .vars) u → (t : List ℕ) → Bytes t → reading (afterRow l 13 14 r (n .maps) n) u t ≡ k t (l + 1) (tablesOf n u))
     → (t : List ℕ) → Bytes t → reading (kw l 13 r n 0) w t ≡ line "map=" (variables r (n .vars) 0 1) t l (tablesOf n w) k
-unfolding line endOfLine _▸_ opened fresh spelled keyByte
-map-ok l r n fits h w g k ok =
-    let y = fits .low in
+unfolding line endOfLine _▸_ opened partBegun spelled keyByte
+map-ok l r n sized h w g k ok =
+    let y = sized .low in
     let e : suc (n .vars - 1) ≡ n .vars = omega arith in
     key-ok l 13 r n w (λ z. omega arith) (tablesOf n w) _
-    (λ t a. variables-ok l r n fits h k ok (n .vars - 1) 0 1 (omega arith) w g t a ∙ ap (λ (m : ℕ). variables r m 0 1 t l (tablesOf n w) (eol k)) e)
+    (λ t a. variables-ok l r n sized h k ok (n .vars - 1) 0 1 (omega arith) w g t a ∙ ap (λ (m : ℕ). variables r m 0 1 t l (tablesOf n w) (eol k)) e)
     0 (bytes "map=") refl
 
 -- as many lines of one kind as there are maps
@@ -96,8 +76,8 @@ maps-many : (n : Counts) → Fits n → 1 ≤ n .maps → (f g l : ℕ) (p : ℕ
     → (t : List ℕ) → Bytes t → reading (kw l₁ f r n 0) w t ≡ p r t l₁ (tablesOf n w) k₁)
     → ((w : List ℕ) → Known (n .vars) w → (t : List ℕ) → Bytes t → reading (kw (l + n .maps) g 0 n 0) w t ≡ k t (l + n .maps) (tablesOf n w))
     → (w : List ℕ) → Known (n .vars) w → (t : List ℕ) → Bytes t → reading (kw l f 0 n 0) w t ≡ lines p (n .maps) 0 t l (tablesOf n w) k
-maps-many n fits low f g l p k h one done w q t a =
-    let y = fits .maps in
+maps-many n sized low f g l p k h one done w q t a =
+    let y = sized .maps in
     let e : suc (n .maps - 1) ≡ n .maps = omega arith in
     lines-ok f g (n .maps) (l + n .maps) n (n .vars) p k (omega arith) (omega arith) one done (n .maps - 1) 0 l (omega arith) (omega arith) w q t a
     ∙ ap (λ (m : ℕ). lines p m 0 t l (tablesOf n w) k) e
@@ -106,35 +86,35 @@ pub map-lines-ok : (l : ℕ) (n : Counts) → Fits n → 1 ≤ n .maps → l ≤
     → ((u : List ℕ) → Known (n .vars) u → (t : List ℕ) → Bytes t → reading (kw (l + n .maps) 14 0 n 0) u t ≡ k t (l + n .maps) (tablesOf n u))
     → (t : List ℕ) → Bytes t → reading (kw l 13 0 n 0) w t ≡ mapLines t l (tablesOf n w) k
 unfolding mapLines ask tablesOf
-map-lines-ok l n fits low h w g k ok =
-    maps-many n fits low 13 14 l (λ m. line "map=" (variables m (n .vars) 0 1)) k h (λ l₁ r q. map-ok l₁ r n fits (let y = fits .maps in omega arith)) ok w g
+map-lines-ok l n sized low h w g k ok =
+    maps-many n sized low 13 14 l (λ m. line "map=" (variables m (n .vars) 0 1)) k h (λ l₁ r q. map-ok l₁ r n sized (let y = sized .maps in omega arith)) ok w g
 
 -- ---- share=: a dash without operators, else one number an operator
-module _ (l r : ℕ) (n : Counts) (fits : Fits n) (hr : r < 8) (w : List ℕ) (g : Known (n .vars) w) (k : Rest)
+module _ (l r : ℕ) (n : Counts) (sized : Fits n) (hr : r < 8) (w : List ℕ) (g : Known (n .vars) w) (k : Rest)
     (ok : (u : List ℕ) → Known (n .vars) u → (t : List ℕ) → Bytes t → reading (afterRow l 14 15 r (n .maps) n) u t ≡ k t (l + 1) (tablesOf n u)) where
   -- the line's control in each of its parts
   part : ℕ → Ctrl
-  part p = fresh (kw l 14 r n 0) l p 14 r
+  part p = partBegun (kw l 14 r n 0) l p 14 r
 
   dash-end : (t : List ℕ) → Bytes t → reading (part 2) w t ≡ eol k t l (tablesOf n w)
-  unfolding part fresh lit step live listEnd listOf nextLine rowOr toLine
+  unfolding part partBegun lit byteRead live listEnd nextLine rowOr toLine
   dash-end [] a = cut-short (part 2) w refl (λ z. omega arith) refl
   dash-end (b ∷ t) (byte h a) =
       moves (part 2) (mark (part 2) b lineEnd (afterRow l 14 15 r (n .maps) n)) w w b t refl
       ∙ marked (part 2) (afterRow l 14 15 r (n .maps) n) w b lineEnd [] t (tablesOf n w) (λ u m U. k u (m + 1) U) (λ q. ok w g t a)
 
   dash-due : (t : List ℕ) → Bytes t → reading (part 3) w t ≡ lit (dash ∷ []) t l (tablesOf n w) (eol k)
-  unfolding part fresh lit step live dashed
+  unfolding part partBegun lit byteRead live dashed
   dash-due [] a = cut-short (part 3) w refl (λ z. omega arith) refl
   dash-due (b ∷ t) (byte h a) =
       moves (part 3) (mark (part 3) b dash (part 2)) w w b t refl ∙ marked (part 3) (part 2) w b dash [] t (tablesOf n w) (eol k) (λ q. dash-end t a)
 
   row-due : (m : ℕ) → n .ops ≡ suc m → (t : List ℕ) → Bytes t
       → reading (part 1) w t ≡ row 0 (λ o U. 1000001) (λ o v. putShare (sharePlace r o) v) (suc m) 0 t l (tablesOf n w) (eol k)
-  unfolding part fresh limit stored withDigit noted after afterShare kind due nextLine rowOr toLine listOf
+  unfolding part partBegun limit stored withDigit noted afterNumber afterShare kind due nextLine rowOr toLine seenWith countsWith
   row-due m e t a =
-      let f = fits .ops in
-      let y = fits .high in
+      let f = sized .ops in
+      let y = sized .high in
       row-ok l 14 r n (λ i. 0) (λ i. i) (n .ops) (λ z. omega arith) (λ z. omega arith) (omega arith) (λ i U. 1000001) (λ i v. putShare (sharePlace r i) v)
       (λ i u. Known (n .vars) u) (eol k)
       (λ i u. bare (num l 14 0 0 i r 0 1 n) u refl)
@@ -168,5 +148,5 @@ pub share-lines-ok : (l : ℕ) (n : Counts) → Fits n → 1 ≤ n .maps → l �
     → ((u : List ℕ) → Known (n .vars) u → (t : List ℕ) → Bytes t → reading (kw (l + n .maps) 15 0 n 0) u t ≡ k t (l + n .maps) (tablesOf n u))
     → (t : List ℕ) → Bytes t → reading (kw l 14 0 n 0) w t ≡ shareLines t l (tablesOf n w) k
 unfolding shareLines ask tablesOf
-share-lines-ok l n fits low h w g k ok =
-    maps-many n fits low 14 15 l (λ m. line "share=" (amounts m (n .ops))) k h (λ l₁ r q. share-ok l₁ r n fits (let y = fits .maps in omega arith)) ok w g
+share-lines-ok l n sized low h w g k ok =
+    maps-many n sized low 14 15 l (λ m. line "share=" (amounts m (n .ops))) k h (λ l₁ r q. share-ok l₁ r n sized (let y = sized .maps in omega arith)) ok w g

@@ -8,11 +8,18 @@ use lib.ListN.{length, getD, take, replicate, length-replicate}
 use lib.Dec.{eqb}
 use borrow.Author.Tests.{ne-eqb}
 use Rattle.tables.specs.declared.Counts.{Counts}
+use Rattle.scan.specs.declared.Found.{Found}
+use Rattle.scan.specs.declared.Found.the-variants.{Clean, Fault}
+use Rattle.text.specs.declared.Halt.the-variants.{Form}
 use Rattle.tables.specs.Layout.{Tables}
 use Rattle.grammar.specs.Fields.{Outcome, admitted}
 use Rattle.grammar.specs.Grammar.{Verdict, _▸_, domLine, initLine, goalLine, opsLine, opLines, mapsLine, mapLines, shareLines, taskLines, settled, theEnd, noTask, verdict, outcome, readText}
-use Rattle.text.specs.Machine.{St, mk, get3, threes, keyByte, stopped, inKey, live, step, feed, start, ended, over, countsOf, written, done, areaRoom, readAll}
-use Rattle.text.proofs.BridgeReading.{tablesOf, told, reading, Bytes, none, byte, stops-2, moves, kw}
+use Rattle.text.specs.Inside.Area.{areaRoom, wordIn, threes}
+use Rattle.text.specs.Inside.Control.{mk, start, stopped, St}
+use Rattle.text.specs.Inside.Fields.{keyByte}
+use Rattle.text.specs.Inside.Steps.{inKey, live, byteRead, feed}
+use Rattle.text.specs.Inside.End.{ended, endFault, over, written, answered, machineEnd, machineRead, readAll}
+use Rattle.text.proofs.BridgeReading.{tablesOf, verdictBy, told, reading, Bytes, none, byte, off-form, moves, kw}
 use Rattle.text.proofs.BridgeArea.{over-of}
 use Rattle.text.proofs.BridgeRows.{Fits, Known}
 use Rattle.text.proofs.BridgeLines.{edition-ok, vars-ok, dom-ok, init-ok, withVars}
@@ -20,14 +27,14 @@ use Rattle.text.proofs.BridgeOps.{goal-ok, ops-ok, op-lines-ok, withOps
 use Rattle.text.proofs.BridgeShares.{maps-ok, map-lines-ok, share-lines-ok, withMaps}
 
 -- ---- after the last line
-stop-end : (l b : ℕ) (n : Counts) (w : List ℕ) → b < 256 → step (mk (kw l 15 0 n 0) w) b ≡ mk (stopped (kw l 15 0 n 0) 2) w
-unfolding step live inKey keyByte
+stop-end : (l b : ℕ) (n : Counts) (w : List ℕ) → b < 256 → byteRead (mk (kw l 15 0 n 0) w) b ≡ mk (stopped (kw l 15 0 n 0) Form) w
+unfolding byteRead live inKey keyByte
 stop-end l b n w h = rw (ne-eqb b 256 (λ q. omega arith))
 
 end-ok : (l : ℕ) (n : Counts) → Fits n → (w t : List ℕ) → Bytes t → reading (kw l 15 0 n 0) w t ≡ theEnd t l (tablesOf n w)
-unfolding reading told feed ended theEnd countsOf tablesOf
-end-ok l n fits w [] a = ap (λ (o : ℕ). settled o (tablesOf n w)) (over-of (kw l 15 0 n 0) w n (fits .ops) (fits .maps))
-end-ok l n fits w (b ∷ t) (byte h a) = moves (kw l 15 0 n 0) (stopped (kw l 15 0 n 0) 2) w w b t (stop-end l b n w h) ∙ stops-2 (kw l 15 0 n 0) w t
+unfolding reading told feed endFault ended theEnd tablesOf
+end-ok l n sized w [] a = ap (λ (o : ℕ). settled o (tablesOf n w)) (over-of (kw l 15 0 n 0) w n (sized .ops) (sized .maps))
+end-ok l n sized w (b ∷ t) (byte h a) = moves (kw l 15 0 n 0) (stopped (kw l 15 0 n 0) Form) w w b t (stop-end l b n w h) ∙ off-form (kw l 15 0 n 0) w t
 
 -- ---- before the first line
 zeros-at : (n i : ℕ) → _≡_ {A = ℕ} (getD (replicate n 0) i 0) 0
@@ -40,8 +47,8 @@ zeros-take zero m h = refl
 zeros-take (suc n) zero h = let q : ⊥ = omega arith in absurd q
 zeros-take (suc n) (suc m) h = ap (λ (l : List ℕ). 0 ∷ l) (zeros-take n m (omega arith))
 
-zeros-get3 : (m i : ℕ) → get3 (replicate m 0) i ≡ 0
-unfolding get3
+zeros-get3 : (m i : ℕ) → wordIn (replicate m 0) i ≡ 0
+unfolding wordIn
 zeros-get3 m i = rw (zeros-at m i, zeros-at m (i + 1), zeros-at m (i + 2))
 
 zeros-threes : (n i m : ℕ) → threes n i (replicate m 0) ≡ replicate n 0
@@ -60,25 +67,25 @@ empty-area m h = rw (zeros-take 1624 m h, zeros-threes 64 1624 m, zeros-threes 5
 from-maps : (l : ℕ) (n : Counts) → Fits n → l ≤ 80 → (w : List ℕ) → Known (n .vars) w → (t : List ℕ) → Bytes t
     → reading (kw l 12 0 n 0) w t ≡ (mapsLine ▸ mapLines ▸ shareLines) t l (tablesOf n w) theEnd
 unfolding _▸_
-from-maps l n fits h w g =
+from-maps l n sized h w g =
     maps-ok l n w _ (omega arith)
     (λ v low high.
     let n₁ = withMaps v n in
-    let f : Fits n₁ = record { low = fits .low; high = fits .high; ops = fits .ops; maps = high } in
+    let f : Fits n₁ = record { low = sized .low; high = sized .high; ops = sized .ops; maps = high } in
     map-lines-ok (l + 1) n₁ f low (omega arith) w g _
     (λ u g₁. share-lines-ok (l + 1 + v) n₁ f low (omega arith) u g₁ theEnd (λ u₁ g₂. end-ok (l + 1 + v + v) n₁ f u₁)))
 
 from-dom : (n : Counts) → Fits n → (w : List ℕ) → Known 0 w → (t : List ℕ) → Bytes t
     → reading (kw 3 2 0 n 0) w t ≡ (domLine ▸ initLine ▸ goalLine ▸ opsLine ▸ opLines ▸ mapsLine ▸ mapLines ▸ shareLines) t 3 (tablesOf n w) theEnd
 unfolding _▸_
-from-dom n fits w g =
-    dom-ok n fits w g _
-    (λ u₁ g₁. init-ok n fits u₁ g₁ _
-    (λ u₂ g₂. goal-ok n fits u₂ g₂ _
+from-dom n sized w g =
+    dom-ok n sized w g _
+    (λ u₁ g₁. init-ok n sized u₁ g₁ _
+    (λ u₂ g₂. goal-ok n sized u₂ g₂ _
     (λ u₃ g₃. ops-ok n u₃ _
     (λ v h.
     let n₁ = withOps v n in
-    let f : Fits n₁ = record { low = fits .low; high = fits .high; ops = h; maps = fits .maps } in
+    let f : Fits n₁ = record { low = sized .low; high = sized .high; ops = h; maps = sized .maps } in
     op-lines-ok n₁ f u₃ g₃ _ (λ u₄ g₄. from-maps (7 + v) n₁ f (omega arith) u₄ g₄)))))
 
 lines-all : (w : List ℕ) → Known 0 w → (t : List ℕ) → Bytes t → reading (kw 1 0 0 noCounts 0) w t ≡ taskLines t 1 (tablesOf noCounts w) theEnd
@@ -95,20 +102,20 @@ verdict-is text a =
     ∙ ap (λ (T : Tables). taskLines text 1 T theEnd) (empty-area areaRoom (omega arith))
 
 -- ---- what is left behind
-done-is : (s : St) (f c h : List ℕ) → done s f c h ≡ outcome (told s) f c h
-unfolding done told outcome settled written tablesOf countsOf
-done-is s f c h = split (eqb (ended (s .ctrl) (s .area)) 0) refl (over s) refl
+machine-end-is : (s : St) (f c h : List ℕ) → machineEnd s f c h ≡ outcome (told s) f c h
+unfolding machineEnd told outcome settled written tablesOf
+machine-end-is s f c h = split (endFault s) (over s) refl
   where
-    split : (q : Bool) → eqb (ended (s .ctrl) (s .area)) 0 ≡ q → (o : ℕ) → over s ≡ o → done s f c h ≡ outcome (told s) f c h
-    split false q o e = rw q
-    split true q zero e = rw (q, e)
-    split true q (suc o) e = rw (q, e, ne-eqb (suc o) 0 (λ z. omega arith))
+    split : (d : Found) (o : ℕ) → over s ≡ o → answered d s f c h ≡ outcome (verdictBy d s) f c h
+    split (Fault r) o e = refl
+    split Clean zero e = rw e
+    split Clean (suc o) e = rw (e, ne-eqb (suc o) 0 (λ z. omega arith))
 
 pub read-bytes : (text f c s : List ℕ) → Bytes text → readAll text f c s ≡ readText text f c s
-unfolding readAll readText reading
+unfolding readAll machineRead readText reading
 read-bytes text f c s a =
     ap (λ (o : Outcome). admitted text f c s o)
-    (done-is (feed (mk start (replicate areaRoom 0)) text) f c s ∙ ap (λ (v : Verdict). outcome v f c s) (verdict-is text a))
+    (machine-end-is (feed (mk start (replicate areaRoom 0)) text) f c s ∙ ap (λ (v : Verdict). outcome v f c s) (verdict-is text a))
 
 -- a text of bytes, place by place
 pub bytes-of : (t : List ℕ) → ((i : ℕ) → i < length t → getD t i 0 < 256) → Bytes t

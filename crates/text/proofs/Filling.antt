@@ -9,7 +9,7 @@ use mathlib.Core.List.{List, _++_}
 use lib.ListN.{length, getD, set, replicate, length-append, length-replicate, getD-replicate, List·getD-append, List·getD-eq-default}
 use lib.Seq.{ext-getD, getD-set-same, getD-set-other, getD-append-add}
 use Rattle.grammar.specs.Fields.{filled}
-use Rattle.text.specs.Machine.{get3, threes}
+use Rattle.text.specs.Inside.Area.{wordIn, threes}
 
 -- past the numbers, a place of the zeros
 zero-at : (n i : ℕ) → i < n → getD {A = ℕ} (replicate n 0) i 0 ≡ 0
@@ -64,8 +64,8 @@ unfolding threes
 threes-length zero at w = refl
 threes-length (suc n) at w = ap suc (threes-length n (at + 3) w)
 
-pub threes-at : (n at i : ℕ) (w : List ℕ) → i < n → getD (threes n at w) i 0 ≡ get3 w (at + 3 * i)
+pub threes-at : (n at i : ℕ) (w : List ℕ) → i < n → getD (threes n at w) i 0 ≡ wordIn w (at + 3 * i)
 unfolding threes
 threes-at zero at i w h = absurd (not-suc-le-zero h)
-threes-at (suc n) at zero w h = ap (get3 w) (omega arith)
-threes-at (suc n) at (suc i) w h = threes-at n (at + 3) i w (le-of-suc-le-suc h) ∙ ap (get3 w) (omega arith)
+threes-at (suc n) at zero w h = ap (wordIn w) (omega arith)
+threes-at (suc n) at (suc i) w h = threes-at n (at + 3) i w (le-of-suc-le-suc h) ∙ ap (wordIn w) (omega arith)

@@ -10,7 +10,8 @@ use lib.ListN.{length, getD, drop}
 use lib.Seq.{drop-cons}
 use borrow.Author.Tests.{le-leb, lt-leb}
 use Rattle.grammar.specs.Fields.{shareTotal, overLine}
-use Rattle.text.specs.Machine.{St, step, feed}
+use Rattle.text.specs.Inside.Control.{St}
+use Rattle.text.specs.Inside.Steps.{byteRead, feed}
 
 -- within a list the default is not read
 pub getD-any : (l : List ℕ) (i d e : ℕ) → i < length l → getD l i d ≡ getD l i e
@@ -23,7 +24,7 @@ pub small-product : (p n : ℕ) → p ≤ 4096 → n < 4294967296 → p * n < 17
 small-product p n h k = let m = mul-le-mul-right n h in omega arith
 
 -- the loop over a piece takes one byte off what is left
-pub feed-next : (s : St) (t : List ℕ) (i : ℕ) → i < length t → feed (step s (getD t i 0)) (drop (i + 1) t) ≡ feed s (drop i t)
+pub feed-next : (s : St) (t : List ℕ) (i : ℕ) → i < length t → feed (byteRead s (getD t i 0)) (drop (i + 1) t) ≡ feed s (drop i t)
 unfolding feed
 feed-next s t i h = rw (add-one, drop-cons t i 0)
 

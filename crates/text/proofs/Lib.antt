@@ -8,7 +8,6 @@ pub mod BridgeOps
 pub mod BridgeMaps
 pub mod BridgeShares
 pub mod BridgeText
-pub mod Cases
 pub mod Filling
 pub mod Laws
 pub mod Masks

@@ -11,7 +11,7 @@ use Rattle.meaning.specs.Views.{every}
 use Rattle.tables.proofs.Laws.{by-cases}
 use Rattle.tables.proofs.Masks.{bits, top, topIf, bits-same, bits-none, or-bits, width-top, width-is-count}
 use Rattle.grammar.specs.Grammar.{has, topOf, allOf, classCount, noneMissing}
-use Rattle.text.specs.Machine.{withClass, width, gapless}
+use Rattle.text.specs.Inside.Fields.{withClass, width, gapless}
 
 -- the mask of the numbers below n that pass a test
 abbrev pub maskOf : ℕ → (ℕ → Bool) → ℕ

@@ -1,1 +1,1 @@
-pub mod Machine
+pub mod Inside

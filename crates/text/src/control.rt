@@ -1,24 +1,60 @@
 // The controls that the machine goes on with.
 ghost use mathlib.Core.Bool.{cond};
 ghost use mathlib.Core.Path.{_≡_};
-ghost use Prim.Native.Nat.{_+_};
 ghost use lib.Dec.{eqb};
-ghost use Rattle.text.specs.Machine.{
+ghost use Rattle.text.specs.Inside.Control.{
+  going,
   up,
+  start,
   stopped,
-  fresh,
+  partBegun,
   due,
   nextKey,
+  firstPart,
   opened,
   withDigit,
   dashed,
   toLine,
   rowOr,
   nextLine,
-  listOf,
-  start,
+  listNo,
+  fieldMaps,
+  fieldCost,
 };
 use crate::Ctrl;
+use crate::Digits;
+use crate::Halt;
+use crate::Seen;
+use crate::Spot;
+use crate::Turn;
+use crate::names::EFF_LIST;
+use crate::names::FIELD_CLASS;
+use crate::names::FIELD_COST;
+use crate::names::FIELD_EDITION;
+use crate::names::FIELD_END;
+use crate::names::FIELD_MAPS;
+use crate::names::FIELD_OPS;
+use crate::names::FIELD_SHARE;
+use crate::names::GOAL_LIST;
+use crate::names::PART_AFTER_DASH;
+use crate::names::PART_DASH_DUE;
+use crate::names::PART_KEY;
+use crate::names::PART_NUMBER;
+use crate::names::RUN_NONE;
+use tables::Counts;
+
+pub fn goes_on(k: Halt) -> bool
+    ensures { λ r. ⌜ r ≡ going k ⌝ }
+{
+    match k {
+        Halt::Going => true,
+        Halt::Form => false,
+        Halt::Range => false,
+        Halt::Order => false,
+        Halt::Missing => false,
+        Halt::States => false,
+    }
+}
 
 // One more, up to a million.
 pub fn one_more(x: u32) -> u32
@@ -32,133 +68,188 @@ pub fn start_of_text() -> Ctrl
     ensures { λ r. ⌜ r ≡ start ⌝ }
 {
     Ctrl {
-        code: 0,
+        halt: Halt::Going,
         line: 1,
-        part: 0,
-        field: 0,
-        key: 0,
-        run: 0,
-        val: 0,
-        var: 0,
-        least: 0,
-        item: 0,
-        row: 0,
-        mask: 0,
-        prod: 1,
-        vars: 0,
-        ops: 0,
-        maps: 0,
+        spot: Spot {
+            part: PART_KEY,
+            field: FIELD_EDITION,
+            key: 0,
+            row: 0,
+        },
+        digits: Digits {
+            run: RUN_NONE,
+            val: 0,
+        },
+        turn: Turn {
+            var: 0,
+            least: 0,
+            item: 0,
+        },
+        seen: Seen { mask: 0, prod: 1 },
+        counts: Counts {
+            vars: 0,
+            ops: 0,
+            maps: 0,
+        },
     }
 }
 
-pub fn stop(c: Ctrl, k: u32) -> Ctrl
+pub fn stop(c: Ctrl, k: Halt) -> Ctrl
     ensures { λ r. ⌜ r ≡ stopped c k ⌝ }
 {
-    let mut n = c;
-    n.code = k;
-    n
+    let spot = c.spot;
+    let digits = c.digits;
+    let turn = c.turn;
+    let seen = c.seen;
+    let counts = c.counts;
+    Ctrl {
+        halt: k,
+        line: c.line,
+        spot: spot,
+        digits: digits,
+        turn: turn,
+        seen: seen,
+        counts: counts,
+    }
 }
 
 pub fn begin_part(c: Ctrl, l: u32, p: u32, f: u32, r: u32) -> Ctrl
-    ensures { λ n. ⌜ n ≡ fresh c l p f r ⌝ }
+    ensures { λ n. ⌜ n ≡ partBegun c l p f r ⌝ }
 {
+    let counts = c.counts;
     Ctrl {
-        code: 0,
+        halt: Halt::Going,
         line: l,
-        part: p,
-        field: f,
-        key: 0,
-        run: 0,
-        val: 0,
-        var: 0,
-        least: 0,
-        item: 0,
-        row: r,
-        mask: 0,
-        prod: 1,
-        vars: c.vars,
-        ops: c.ops,
-        maps: c.maps,
+        spot: Spot {
+            part: p,
+            field: f,
+            key: 0,
+            row: r,
+        },
+        digits: Digits {
+            run: RUN_NONE,
+            val: 0,
+        },
+        turn: Turn {
+            var: 0,
+            least: 0,
+            item: 0,
+        },
+        seen: Seen { mask: 0, prod: 1 },
+        counts: counts,
     }
 }
 
-pub fn await_number(c: Ctrl, f: u32, v: u32, n: u32, i: u32, m: u32, p: u32) -> Ctrl
-    ensures { λ r. ⌜ r ≡ due c f v n i m p ⌝ }
+pub fn await_number(c: Ctrl, f: u32, t: Turn, s: Seen) -> Ctrl
+    ensures { λ r. ⌜ r ≡ due c f t s ⌝ }
 {
+    let counts = c.counts;
     Ctrl {
-        code: 0,
+        halt: Halt::Going,
         line: c.line,
-        part: 1,
-        field: f,
-        key: 0,
-        run: 0,
-        val: 0,
-        var: v,
-        least: n,
-        item: i,
-        row: c.row,
-        mask: m,
-        prod: p,
-        vars: c.vars,
-        ops: c.ops,
-        maps: c.maps,
+        spot: Spot {
+            part: PART_NUMBER,
+            field: f,
+            key: 0,
+            row: c.spot.row,
+        },
+        digits: Digits {
+            run: RUN_NONE,
+            val: 0,
+        },
+        turn: t,
+        seen: s,
+        counts: counts,
     }
 }
 
 pub fn next_key(c: Ctrl) -> Ctrl
     ensures { λ r. ⌜ r ≡ nextKey c ⌝ }
 {
-    let mut n = begin_part(c, c.line, 0, c.field, c.row);
-    n.key = one_more(c.key);
-    n
+    let counts = c.counts;
+    Ctrl {
+        halt: Halt::Going,
+        line: c.line,
+        spot: Spot {
+            part: PART_KEY,
+            field: c.spot.field,
+            key: one_more(c.spot.key),
+            row: c.spot.row,
+        },
+        digits: Digits {
+            run: RUN_NONE,
+            val: 0,
+        },
+        turn: Turn {
+            var: 0,
+            least: 0,
+            item: 0,
+        },
+        seen: Seen { mask: 0, prod: 1 },
+        counts: counts,
+    }
 }
 
-// After the '=': 1 for a number, 3 for the dash of a share line without operators.
+// After the '=': a number, or the dash of a share line without operators.
 pub fn first_part(c: Ctrl) -> u32
-    ensures { λ r. ⌜ r ≡ cond (eqb (c .field) 14) (cond (eqb (c .ops) 0) 3 1) 1 ⌝ }
+    ensures { λ r. ⌜ r ≡ firstPart c ⌝ }
 {
-    if c.field == 14 {
-        if c.ops == 0 { 3 } else { 1 }
+    if c.spot.field == FIELD_SHARE {
+        if c.counts.ops == 0 {
+            PART_DASH_DUE
+        } else {
+            PART_NUMBER
+        }
     } else {
-        1
+        PART_NUMBER
     }
 }
 
 pub fn open_line(c: Ctrl) -> Ctrl
     ensures { λ r. ⌜ r ≡ opened c ⌝ }
 {
-    begin_part(c, c.line, first_part(c), c.field, c.row)
+    begin_part(c, c.line, first_part(c), c.spot.field, c.spot.row)
 }
 
 pub fn grow(c: Ctrl, r: u32, v: u32) -> Ctrl
     ensures { λ n. ⌜ n ≡ withDigit c r v ⌝ }
 {
-    let mut n = c;
-    n.code = 0;
-    n.part = 1;
-    n.key = 0;
-    n.run = r;
-    n.val = v;
-    n
+    let turn = c.turn;
+    let seen = c.seen;
+    let counts = c.counts;
+    Ctrl {
+        halt: Halt::Going,
+        line: c.line,
+        spot: Spot {
+            part: PART_NUMBER,
+            field: c.spot.field,
+            key: 0,
+            row: c.spot.row,
+        },
+        digits: Digits { run: r, val: v },
+        turn: turn,
+        seen: seen,
+        counts: counts,
+    }
 }
 
 pub fn take_dash(c: Ctrl) -> Ctrl
     ensures { λ r. ⌜ r ≡ dashed c ⌝ }
 {
-    begin_part(c, c.line, 2, c.field, c.row)
+    begin_part(c, c.line, PART_AFTER_DASH, c.spot.field, c.spot.row)
 }
 
 pub fn to_line(c: Ctrl, f: u32, r: u32) -> Ctrl
     ensures { λ n. ⌜ n ≡ toLine c f r ⌝ }
 {
-    begin_part(c, one_more(c.line), 0, f, r)
+    begin_part(c, one_more(c.line), PART_KEY, f, r)
 }
 
 // Another row of field f, or field g after the last of n rows.
 pub fn row_or(c: Ctrl, n: u32, f: u32, g: u32) -> Ctrl
     ensures { λ r. ⌜ r ≡ rowOr c n f g ⌝ }
 {
-    let r = one_more(c.row);
+    let r = one_more(c.spot.row);
     if r < n {
         to_line(c, f, r)
     } else {
@@ -167,41 +258,41 @@ pub fn row_or(c: Ctrl, n: u32, f: u32, g: u32) -> Ctrl
 }
 
 pub fn list_of(f: u32) -> u32
-    ensures { λ r. ⌜ r ≡ listOf f ⌝ }
+    ensures { λ r. ⌜ r ≡ listNo f ⌝ }
 {
     f / 2
 }
 
 // After ops=: the first operator's line, or the maps where there is none.
 pub fn after_ops(c: Ctrl) -> Ctrl
-    ensures { λ r. ⌜ r ≡ toLine c (cond (eqb (c .ops) 0) 12 7) 0 ⌝ }
+    ensures { λ r. ⌜ r ≡ toLine c (cond (eqb (c .counts .ops) 0) fieldMaps fieldCost) 0 ⌝ }
 {
-    if c.ops == 0 {
-        to_line(c, 12, 0)
+    if c.counts.ops == 0 {
+        to_line(c, FIELD_MAPS, 0)
     } else {
-        to_line(c, 7, 0)
+        to_line(c, FIELD_COST, 0)
     }
 }
 
 pub fn next_line(c: Ctrl) -> Ctrl
     ensures { λ r. ⌜ r ≡ nextLine c ⌝ }
 {
-    let f = c.field;
-    if f == 6 {
+    let f = c.spot.field;
+    if f == FIELD_OPS {
         return after_ops(c);
     }
-    if f == 13 {
-        return row_or(c, c.maps, 13, 14);
+    if f == FIELD_CLASS {
+        return row_or(c, c.counts.maps, FIELD_CLASS, FIELD_SHARE);
     }
-    if f == 14 {
-        return row_or(c, c.maps, 14, 15);
+    if f == FIELD_SHARE {
+        return row_or(c, c.counts.maps, FIELD_SHARE, FIELD_END);
     }
     let l = list_of(f);
-    if l == 2 {
-        return to_line(c, 6, 0);
+    if l == GOAL_LIST {
+        return to_line(c, FIELD_OPS, 0);
     }
-    if l == 5 {
-        return row_or(c, c.ops, 7, 12);
+    if l == EFF_LIST {
+        return row_or(c, c.counts.ops, FIELD_COST, FIELD_MAPS);
     }
     to_line(c, one_more(f), 0)
 }

@@ -1,50 +1,66 @@
 // What the end of the text says.
 ghost use mathlib.Core.Path.{_≡_};
-ghost use Prim.Native.Nat.{_≤_, _<_, min};
+ghost use Prim.Native.Nat.{_≤_, min};
 ghost use lib.ListN.{length};
+ghost use Rattle.meaning.specs.Limits.{mostMaps};
+ghost use Rattle.tables.specs.Layout.{factsRoom, costsRoom, sharesRoom};
 ghost use Rattle.grammar.specs.Fields.{shareTotal, leaves};
-ghost use Rattle.text.specs.Machine.{mk, shareIn, over, ended, refusalOf, countsOf, done};
+ghost use Rattle.text.specs.Inside.Area.{shareIn};
+ghost use Rattle.text.specs.Inside.Control.{mk};
+ghost use Rattle.text.specs.Inside.End.{over, ended, refusalOf, endFault, machineEnd};
 use crate::Ctrl;
+use crate::Halt;
 use crate::area::word_at;
+use crate::control::goes_on;
 use crate::fields::fault_of;
 use crate::fill::fill_bytes;
 use crate::fill::fill_words;
+use crate::names::COSTS_BYTE;
+use crate::names::COSTS_ROOM;
+use crate::names::FACTS_ROOM;
+use crate::names::FIELD_END;
+use crate::names::SHARES_BYTE;
+use crate::names::SHARES_ROOM;
 use crate::places::cost_byte;
 use crate::places::share_byte;
 use grammar::Reading;
+use meaning::limits::MAPS_MOST;
+use meaning::limits::OPS_MOST;
 use refusals::Refusal;
-use tables::Counts;
+use scan::Found;
 
-// 0 to accept, or the refusal's number.
-pub fn end_code(c: Ctrl, w: &[u8]) -> u32
+pub fn end_code(c: Ctrl, w: &[u8]) -> Halt
     ensures { λ r. ⌜ r ≡ ended c (now (w .entry)) ⌝ }
 {
-    if c.code != 0 {
-        return c.code;
+    let h = c.halt;
+    if !goes_on(h) {
+        return h;
     }
-    if c.field == 15 {
-        return 0;
+    if c.spot.field == FIELD_END {
+        return Halt::Going;
     }
     let k = fault_of(c, w);
-    if k == 0 { 2 } else { k }
+    if goes_on(k) { Halt::Form } else { k }
 }
 
-pub fn refusal_of(k: u32, l: u32) -> Refusal
+// What a reading that stopped in line l is refused with; nothing while it goes on.
+pub fn refusal_of(k: Halt, l: u32) -> Found
     ensures { λ r. ⌜ r ≡ refusalOf k l ⌝ }
 {
-    if k == 2 {
-        return Refusal::OffForm(l);
+    match k {
+        Halt::Going => Found::Clean,
+        Halt::Form => Found::Fault(Refusal::OffForm(l)),
+        Halt::Range => Found::Fault(Refusal::OutOfRange(l)),
+        Halt::Order => Found::Fault(Refusal::NotRising(l)),
+        Halt::Missing => Found::Fault(Refusal::ClassMissing(l)),
+        Halt::States => Found::Fault(Refusal::TooManyStates(l)),
     }
-    if k == 3 {
-        return Refusal::OutOfRange(l);
-    }
-    if k == 4 {
-        return Refusal::NotRising(l);
-    }
-    if k == 5 {
-        return Refusal::ClassMissing(l);
-    }
-    Refusal::TooManyStates(l)
+}
+
+pub fn end_fault(c: Ctrl, w: &[u8]) -> Found
+    ensures { λ r. ⌜ r ≡ endFault (mk c (now (w .entry))) ⌝ }
+{
+    refusal_of(end_code(c, w), c.line)
 }
 
 pub fn at_most(x: u32, n: u32) -> u32
@@ -55,7 +71,7 @@ pub fn at_most(x: u32, n: u32) -> u32
 
 // An operator's shares in all maps together.
 pub fn share_total(w: &[u8], maps: u32, o: u32) -> u32
-    requires { ⌜ maps ≤ 8 ⌝ }
+    requires { ⌜ maps ≤ mostMaps ⌝ }
     ensures { λ r. ⌜ r ≡ shareTotal (shareIn (now (w .entry))) maps o ⌝ }
 {
     let mut total = 0;
@@ -71,8 +87,8 @@ pub fn share_total(w: &[u8], maps: u32, o: u32) -> u32
 pub fn over_line(c: Ctrl, w: &[u8]) -> u32
     ensures { λ r. ⌜ r ≡ over (mk c (now (w .entry))) ⌝ }
 {
-    let maps = at_most(c.maps, 8);
-    let ops = at_most(c.ops, 64);
+    let maps = at_most(c.counts.maps, MAPS_MOST);
+    let ops = at_most(c.counts.ops, OPS_MOST);
     let mut o = 0;
     while o < ops {
         if word_at(w, cost_byte(o)) < share_total(w, maps, o) {
@@ -83,31 +99,22 @@ pub fn over_line(c: Ctrl, w: &[u8]) -> u32
     0
 }
 
-pub fn counts_of(c: Ctrl) -> Counts
-    ensures { λ r. ⌜ r ≡ countsOf c ⌝ }
-{
-    Counts {
-        vars: c.vars,
-        ops: c.ops,
-        maps: c.maps,
-    }
-}
-
 // The end of the text: the answer, and the lent tables on acceptance only.
 pub fn finish(c: Ctrl, w: &[u8], facts: &mut [u8], costs: &mut [u32], shares: &mut [u32]) -> Reading
-    requires { ⌜ (1624 ≤ length (now w)) × (1624 ≤ length (now facts)) × (64 ≤ length (now costs)) × (512 ≤ length (now shares)) ⌝ }
-    ensures { λ r. ⌜ leaves r (now (facts .exit)) (now (costs .exit)) (now (shares .exit)) ≡ done (mk c (now (w .entry))) (now (facts .entry)) (now (costs .entry)) (now (shares .entry)) ⌝ }
+    requires { ⌜ (factsRoom ≤ length (now w)) × (factsRoom ≤ length (now facts)) × (costsRoom ≤ length (now costs)) × (sharesRoom ≤ length (now shares)) ⌝ }
+    ensures { λ r. ⌜ leaves r (now (facts .exit)) (now (costs .exit)) (now (shares .exit)) ≡ machineEnd (mk c (now (w .entry))) (now (facts .entry)) (now (costs .entry)) (now (shares .entry)) ⌝ }
 {
-    let k = end_code(c, w);
-    if k != 0 {
-        return Reading::Refused(refusal_of(k, c.line));
+    let found = end_fault(c, w);
+    if let Found::Fault(r) = found {
+        return Reading::Refused(r);
     }
     let l = over_line(c, w);
     if l != 0 {
         return Reading::Refused(Refusal::SharesAboveCost(l));
     }
-    fill_bytes(w, 1624, facts);
-    fill_words(w, 64, 1624, costs);
-    fill_words(w, 512, 1816, shares);
-    Reading::Accepted(counts_of(c))
+    fill_bytes(w, FACTS_ROOM, facts);
+    fill_words(w, COSTS_ROOM, COSTS_BYTE, costs);
+    fill_words(w, SHARES_ROOM, SHARES_BYTE, shares);
+    let n = c.counts;
+    Reading::Accepted(n)
 }

@@ -1,20 +1,52 @@
 // The fields of the text: keywords, ranges, what a number is to the control, and where it is kept.
 ghost use mathlib.Core.Path.{_≡_};
-ghost use Prim.Native.Nat.{_+_, _*_};
 ghost use lib.ListN.{getD};
-ghost use Rattle.text.specs.Machine.{keyByte, leasts, limits, limit, inRange, judged, noted, lastClass, lastVar, classFault, before, fault, stored, kind};
+ghost use Rattle.text.specs.Inside.Fields.{
+  keyByte,
+  leasts,
+  limits,
+  limit,
+  inRange,
+  numberFault,
+  countsWith,
+  seenWith,
+  noted,
+  lastClass,
+  lastVar,
+  classFault,
+  before,
+  fault,
+  stored,
+  kind,
+};
 use crate::Ctrl;
-use crate::area::byte_at;
+use crate::Halt;
+use crate::Seen;
 use crate::area::put_byte;
 use crate::area::put_word;
 use crate::area::values_of;
 use crate::area::wide;
 use crate::area::word;
+use crate::control::goes_on;
 use crate::control::one_more;
 use crate::mask::add_class;
 use crate::mask::multiply;
 use crate::mask::none_missing;
 use crate::mask::width_of;
+use crate::names::BY_VALUES;
+use crate::names::BY_VARS;
+use crate::names::FIELD_CLASS;
+use crate::names::FIELD_COST;
+use crate::names::FIELD_DOM;
+use crate::names::FIELD_EFF_VAL;
+use crate::names::FIELD_GOAL_VAL;
+use crate::names::FIELD_INIT;
+use crate::names::FIELD_MAPS;
+use crate::names::FIELD_OPS;
+use crate::names::FIELD_PRE_VAL;
+use crate::names::FIELD_SHARE;
+use crate::names::FIELD_VARS;
+use crate::names::RUN_NONE;
 use crate::places::class_place;
 use crate::places::cost_byte;
 use crate::places::eff_place;
@@ -22,6 +54,8 @@ use crate::places::goal_place;
 use crate::places::init_place;
 use crate::places::pre_place;
 use crate::places::share_byte;
+use meaning::limits::STATES_MOST;
+use tables::Counts;
 
 // The keyword of each field that begins a line, 8 bytes a field.
 const KEYS: [u8; 120] =
@@ -29,8 +63,25 @@ const KEYS: [u8; 120] =
 
 const LEASTS: [u32; 16] = [1, 1, 1, 0, 0, 0, 0, 0, 0, 0, 0, 0, 1, 0, 0, 0];
 
-// The first number beyond a field's range: 0 stands for the variable's number of values, 1 for the number of variables.
-const LIMITS: [u32; 16] = [2, 9, 9, 0, 1, 0, 65, 1000001, 1, 0, 1, 0, 9, 0, 1000001, 0];
+// The first number beyond a field's range.
+const LIMITS: [u32; 16] = [
+    2,
+    9,
+    9,
+    BY_VALUES,
+    BY_VARS,
+    BY_VALUES,
+    65,
+    1000001,
+    BY_VARS,
+    BY_VALUES,
+    BY_VARS,
+    BY_VALUES,
+    9,
+    BY_VALUES,
+    1000001,
+    BY_VALUES,
+];
 
 const KINDS: [u32; 16] = [0, 0, 1, 1, 2, 3, 0, 4, 2, 3, 2, 3, 0, 5, 6, 0];
 
@@ -69,63 +120,82 @@ pub fn kind_of(f: u32) -> u32
 pub fn limit_of(c: Ctrl, w: &[u8]) -> u32
     ensures { λ r. ⌜ r ≡ limit c (now (w .entry)) ⌝ }
 {
-    let n = bound_of(c.field);
-    if n == 0 {
-        return values_of(w, c.var);
+    let n = bound_of(c.spot.field);
+    if n == BY_VALUES {
+        return values_of(w, c.turn.var);
     }
-    if n == 1 { c.vars } else { n }
+    if n == BY_VARS { c.counts.vars } else { n }
 }
 
 pub fn in_range(c: Ctrl, w: &[u8]) -> bool
     ensures { λ r. ⌜ r ≡ inRange c (now (w .entry)) ⌝ }
 {
-    if least_of(c.field) <= c.val {
-        c.val < limit_of(c, w)
+    if least_of(c.spot.field) <= c.digits.val {
+        c.digits.val < limit_of(c, w)
     } else {
         false
     }
 }
 
 // A finished number's own fault: range, then order.
-pub fn judge(c: Ctrl, w: &[u8]) -> u32
-    ensures { λ r. ⌜ r ≡ judged c (now (w .entry)) ⌝ }
+pub fn judge(c: Ctrl, w: &[u8]) -> Halt
+    ensures { λ r. ⌜ r ≡ numberFault c (now (w .entry)) ⌝ }
 {
     if in_range(c, w) {
-        if c.least <= c.val { 0 } else { 4 }
+        if c.turn.least <= c.digits.val {
+            Halt::Going
+        } else {
+            Halt::Order
+        }
     } else {
-        3
+        Halt::Range
     }
+}
+
+// The counts with the number just read.
+pub fn counts_with(c: Ctrl) -> Counts
+    ensures { λ r. ⌜ r ≡ countsWith c ⌝ }
+{
+    let mut n = c.counts;
+    let f = c.spot.field;
+    if f == FIELD_VARS {
+        n.vars = c.digits.val;
+        return n;
+    }
+    if f == FIELD_OPS {
+        n.ops = c.digits.val;
+        return n;
+    }
+    if f == FIELD_MAPS {
+        n.maps = c.digits.val;
+    }
+    n
+}
+
+pub fn seen_with(c: Ctrl) -> Seen
+    ensures { λ r. ⌜ r ≡ seenWith c ⌝ }
+{
+    let mut s = c.seen;
+    if c.spot.field == FIELD_CLASS {
+        s.mask = add_class(c.seen.mask, c.digits.val);
+    }
+    s
 }
 
 pub fn note(c: Ctrl) -> Ctrl
     ensures { λ r. ⌜ r ≡ noted c ⌝ }
 {
     let mut n = c;
-    n.code = 0;
-    if c.field == 1 {
-        n.vars = c.val;
-        return n;
-    }
-    if c.field == 6 {
-        n.ops = c.val;
-        return n;
-    }
-    if c.field == 12 {
-        n.maps = c.val;
-        return n;
-    }
-    if c.field == 13 {
-        n.mask = add_class(c.mask, c.val);
-        return n;
-    }
+    n.seen = seen_with(c);
+    n.counts = counts_with(c);
     n
 }
 
 pub fn last_class(c: Ctrl, w: &[u8]) -> bool
     ensures { λ r. ⌜ r ≡ lastClass c (now (w .entry)) ⌝ }
 {
-    if c.field == 13 {
-        one_more(c.item) == values_of(w, c.var)
+    if c.spot.field == FIELD_CLASS {
+        one_more(c.turn.item) == values_of(w, c.turn.var)
     } else {
         false
     }
@@ -134,56 +204,72 @@ pub fn last_class(c: Ctrl, w: &[u8]) -> bool
 pub fn last_var(c: Ctrl) -> bool
     ensures { λ r. ⌜ r ≡ lastVar c ⌝ }
 {
-    one_more(c.var) == c.vars
+    one_more(c.turn.var) == c.counts.vars
 }
 
 // At the end of a variable's classes: a missing one, and after the last variable too many abstract states.
-pub fn class_fault(c: Ctrl) -> u32
+pub fn class_fault(c: Ctrl) -> Halt
     ensures { λ r. ⌜ r ≡ classFault c ⌝ }
 {
-    if none_missing(c.mask) {
+    if none_missing(c.seen.mask) {
         if last_var(c) {
-            let p = multiply(c.prod, width_of(c.mask));
-            if 4096 < p { 7 } else { 0 }
+            let p = multiply(c.seen.prod, width_of(c.seen.mask));
+            if STATES_MOST < p {
+                Halt::States
+            } else {
+                Halt::Going
+            }
         } else {
-            0
+            Halt::Going
         }
     } else {
-        5
+        Halt::Missing
     }
 }
 
-pub fn before_byte(c: Ctrl, w: &[u8]) -> u32
+pub fn before_byte(c: Ctrl, w: &[u8]) -> Halt
     ensures { λ r. ⌜ r ≡ before c (now (w .entry)) ⌝ }
 {
-    if last_class(c, w) { class_fault(c) } else { 0 }
+    if last_class(c, w) {
+        class_fault(c)
+    } else {
+        Halt::Going
+    }
 }
 
-// The fault of the digit run that ends here, 0 for none.
-pub fn fault_of(c: Ctrl, w: &[u8]) -> u32
+// The fault of the digit run that ends here.
+pub fn fault_of(c: Ctrl, w: &[u8]) -> Halt
     ensures { λ r. ⌜ r ≡ fault c (now (w .entry)) ⌝ }
 {
-    if c.run == 0 {
-        return 2;
+    if c.digits.run == RUN_NONE {
+        return Halt::Form;
     }
     let k = judge(c, w);
-    if k == 0 { before_byte(note(c), w) } else { k }
+    if goes_on(k) {
+        before_byte(note(c), w)
+    } else {
+        k
+    }
 }
 
 // The number goes to its place in the area; a fact as value and one, counts not at all.
 pub fn store(c: Ctrl, w: &mut [u8])
     ensures { λ r. ⌜ now (w .exit) ≡ stored c (now (w .entry)) ⌝ }
 {
-    let f = c.field;
+    let f = c.spot.field;
     match f {
-        2 => put_byte(w, wide(c.var), c.val),
-        3 => put_byte(w, init_place(c.var), c.val),
-        5 => put_byte(w, goal_place(c.var), one_more(c.val)),
-        7 => put_word(w, cost_byte(c.row), c.val),
-        9 => put_byte(w, pre_place(c.row, c.var), one_more(c.val)),
-        11 => put_byte(w, eff_place(c.row, c.var), one_more(c.val)),
-        13 => put_byte(w, class_place(c.row, c.var, c.item), c.val),
-        14 => put_word(w, share_byte(c.row, c.item), c.val),
+        FIELD_DOM => put_byte(w, wide(c.turn.var), c.digits.val),
+        FIELD_INIT => put_byte(w, init_place(c.turn.var), c.digits.val),
+        FIELD_GOAL_VAL => put_byte(w, goal_place(c.turn.var), one_more(c.digits.val)),
+        FIELD_COST => put_word(w, cost_byte(c.spot.row), c.digits.val),
+        FIELD_PRE_VAL => put_byte(w, pre_place(c.spot.row, c.turn.var), one_more(c.digits.val)),
+        FIELD_EFF_VAL => put_byte(w, eff_place(c.spot.row, c.turn.var), one_more(c.digits.val)),
+        FIELD_CLASS => put_byte(
+            w,
+            class_place(c.spot.row, c.turn.var, c.turn.item),
+            c.digits.val,
+        ),
+        FIELD_SHARE => put_word(w, share_byte(c.spot.row, c.turn.item), c.digits.val),
         _ => (),
     }
 }

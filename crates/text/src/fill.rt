@@ -3,7 +3,8 @@ ghost use mathlib.Core.Path.{_≡_};
 ghost use Prim.Native.Nat.{_≤_};
 ghost use lib.ListN.{length, getD, take};
 ghost use Rattle.grammar.specs.Fields.{filled};
-ghost use Rattle.text.specs.Machine.{threes};
+ghost use Rattle.tables.specs.Layout.{sharesRoom};
+ghost use Rattle.text.specs.Inside.Area.{threes, sharesByte};
 use crate::area::byte_at;
 use crate::area::word_at;
 
@@ -25,14 +26,14 @@ pub fn fill_bytes(w: &[u8], n: usize, out: &mut [u8])
 }
 
 pub fn nth_word(w: &[u8], n: usize, at: usize, i: usize) -> u32
-    requires { ⌜ (n ≤ 512) × (at ≤ 1816) ⌝ }
+    requires { ⌜ (n ≤ sharesRoom) × (at ≤ sharesByte) ⌝ }
     ensures { λ r. ⌜ r ≡ getD (threes n at (now (w .entry))) i 0 ⌝ }
 {
     if i < n { word_at(w, at + 3 * i) } else { 0 }
 }
 
 pub fn fill_words(w: &[u8], n: usize, at: usize, out: &mut [u32])
-    requires { ⌜ (n ≤ 512) × (at ≤ 1816) × (n ≤ length (now out)) ⌝ }
+    requires { ⌜ (n ≤ sharesRoom) × (at ≤ sharesByte) × (n ≤ length (now out)) ⌝ }
     ensures { λ r. ⌜ now (out .exit) ≡ filled n (threes n at (now (w .entry))) (now (out .entry)) ⌝ }
 {
     let mut i = 0;

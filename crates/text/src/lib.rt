@@ -9,33 +9,61 @@ mod end;
 mod fields;
 mod fill;
 mod mask;
+mod names;
 mod places;
 mod step;
 mod whole;
 
 use grammar::Reading;
+use tables::Counts;
 use whole::read_by_machine;
 
-// Where the reading stands between two bytes: the fault that stopped it (0 for none) and the line; the part of the line, the field, and
-// the place in its keyword; the digit run and its value; the variable, the least variable allowed, the place in a row, the row of the line;
-// the classes seen and the abstract states so far; the counts.
-pub struct Ctrl {
-    pub code: u32,
-    pub line: u32,
+// Why a reading stopped: off form, out of range, not rising, a class missing, too many states.
+pub enum Halt {
+    Going,
+    Form,
+    Range,
+    Order,
+    Missing,
+    States,
+}
+
+// Where in the text: the part of the line, the field, the place in its keyword, and the line's row among those of its kind.
+pub struct Spot {
     pub part: u32,
     pub field: u32,
     pub key: u32,
+    pub row: u32,
+}
+
+// The digits read of a number: what kind of run they are, and their value.
+pub struct Digits {
     pub run: u32,
     pub val: u32,
+}
+
+// Whose number it is: the variable, the least variable allowed, the place in a row.
+pub struct Turn {
     pub var: u32,
     pub least: u32,
     pub item: u32,
-    pub row: u32,
+}
+
+// Of a map: the classes seen of the variable as a mask, and the abstract states of the variables before it.
+pub struct Seen {
     pub mask: u32,
     pub prod: u32,
-    pub vars: u32,
-    pub ops: u32,
-    pub maps: u32,
+}
+
+// Where the reading stands between two bytes.
+pub struct Ctrl {
+    pub halt: Halt,
+    pub line: u32,
+    pub spot: Spot,
+    pub digits: Digits,
+    pub turn: Turn,
+    pub seen: Seen,
+    pub counts: Counts,
 }
 
 // Reads a task text into the lent tables: the task's counts, or why not. What is left behind is what the grammar says.

@@ -1,7 +1,8 @@
 // The classes of a variable, kept as a mask: its width by leading zeros equals its count of ones exactly when no class is missing.
 ghost use mathlib.Core.Path.{_≡_};
-ghost use Rattle.text.specs.Machine.{withClass, width, gapless, times};
+ghost use Rattle.text.specs.Inside.Fields.{withClass, width, gapless, times};
 use crate::area::wide;
+use meaning::limits::STATES_MOST;
 
 pub fn add_class(m: u32, x: u32) -> u32
     ensures { λ r. ⌜ r ≡ withClass m x ⌝ }
@@ -25,7 +26,7 @@ pub fn none_missing(m: u32) -> bool
 pub fn multiply(p: u32, n: u32) -> u32
     ensures { λ r. ⌜ r ≡ times p n ⌝ }
 {
-    if 4096 < p {
+    if STATES_MOST < p {
         return 4097;
     }
     let x = wide(p) * wide(n);

@@ -2,8 +2,10 @@
 ghost use mathlib.Core.Path.{_≡_};
 ghost use Prim.Native.Nat.{_+_, _*_, _<_};
 ghost use Rattle.tables.specs.Layout.{initPlace, goalPlace, prePlace, effPlace, classPlace};
-ghost use Rattle.text.specs.Machine.{costByte, shareByte};
+ghost use Rattle.text.specs.Inside.Area.{costByte, shareByte};
 use crate::area::wide;
+use crate::names::COSTS_BYTE;
+use crate::names::SHARES_BYTE;
 
 pub fn init_place(v: u32) -> usize
     ensures { λ r. ⌜ r ≡ initPlace v ⌝ }
@@ -38,11 +40,11 @@ pub fn class_place(m: u32, v: u32, x: u32) -> usize
 pub fn cost_byte(o: u32) -> usize
     ensures { λ r. ⌜ (r ≡ costByte o) × (r < 1099511627776) ⌝ }
 {
-    1624 + 3 * wide(o)
+    COSTS_BYTE + 3 * wide(o)
 }
 
 pub fn share_byte(m: u32, o: u32) -> usize
     ensures { λ r. ⌜ (r ≡ shareByte m o) × (r < 1099511627776) ⌝ }
 {
-    1816 + 3 * (wide(m) * 64 + wide(o))
+    SHARES_BYTE + 3 * (wide(m) * 64 + wide(o))
 }

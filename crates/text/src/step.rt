@@ -1,32 +1,35 @@
 // One byte of the text.
 ghost use mathlib.Core.Path.{_≡_};
-ghost use Prim.Native.Nat.{_+_, _-_};
-ghost use mathlib.Core.Bool.{false, cond};
-ghost use lib.Dec.{eqb};
-ghost use Rattle.grammar.specs.Fields.{isDigit};
-ghost use Rattle.text.specs.Machine.{
-  mk,
+ghost use Prim.Native.Nat.{_-_};
+ghost use Rattle.grammar.specs.Fields.{isDigit, lineEnd};
+ghost use Rattle.text.specs.Inside.Control.{mk, nextLine};
+ghost use Rattle.text.specs.Inside.Steps.{
   inKey,
   more,
-  digit,
+  runWith,
+  digitRead,
   mark,
   listEnd,
   afterClass,
   afterVar,
   afterValue,
   afterShare,
-  after,
+  afterNumber,
   closed,
+  nothingRead,
   dashHere,
   atNumber,
   live,
-  step,
+  byteRead,
   feed,
-  nextLine,
 };
 use crate::Ctrl;
+use crate::Halt;
+use crate::Seen;
+use crate::Turn;
 use crate::area::word;
 use crate::control::await_number;
+use crate::control::goes_on;
 use crate::control::grow;
 use crate::control::list_of;
 use crate::control::next_key;
@@ -44,14 +47,44 @@ use crate::fields::note;
 use crate::fields::store;
 use crate::mask::multiply;
 use crate::mask::width_of;
+use crate::names::COLON;
+use crate::names::COMMA;
+use crate::names::DASH;
+use crate::names::EQUALS;
+use crate::names::FIELD_CLASS;
+use crate::names::FIELD_EFF_VAR;
+use crate::names::FIELD_PRE_VAR;
+use crate::names::FIELD_SHARE;
+use crate::names::KIND_CLASS;
+use crate::names::KIND_COST;
+use crate::names::KIND_ROW;
+use crate::names::KIND_SHARE;
+use crate::names::KIND_VAL;
+use crate::names::KIND_VAR;
+use crate::names::LINE_END;
+use crate::names::NINE;
+use crate::names::PART_AFTER_DASH;
+use crate::names::PART_KEY;
+use crate::names::PART_NUMBER;
+use crate::names::PRE_LIST;
+use crate::names::RUN_NONE;
+use crate::names::RUN_ON;
+use crate::names::RUN_ZERO;
+use crate::names::SEMICOLON;
+use crate::names::SLASH;
+use crate::names::ZERO;
 
 pub fn in_key(c: Ctrl, b: u32) -> Ctrl
     ensures { λ r. ⌜ r ≡ inKey c b ⌝ }
 {
-    if b != key_byte(c.field, c.key) {
-        return stop(c, 2);
+    if b != key_byte(c.spot.field, c.spot.key) {
+        return stop(c, Halt::Form);
     }
-    if b == 61 { open_line(c) } else { next_key(c) }
+    if b == EQUALS {
+        open_line(c)
+    } else {
+        next_key(c)
+    }
 }
 
 // A digit run's value, however long, capped above every range.
@@ -70,45 +103,58 @@ pub fn longer(v: u32, d: u32) -> u32
     }
 }
 
-// The kind of a run with one digit more: 1 for a single 0, else 2.
 pub fn run_after(r: u32, d: u32) -> u32
-    ensures { λ n. ⌜ n ≡ cond (eqb (r + d) 0) 1 2 ⌝ }
+    ensures { λ n. ⌜ n ≡ runWith r d ⌝ }
 {
-    if r == 0 {
-        if d == 0 { 1 } else { 2 }
+    if r == RUN_NONE {
+        if d == 0 { RUN_ZERO } else { RUN_ON }
     } else {
-        2
+        RUN_ON
     }
 }
 
 pub fn add_digit(c: Ctrl, d: u32) -> Ctrl
-    ensures { λ r. ⌜ r ≡ digit c d ⌝ }
+    ensures { λ r. ⌜ r ≡ digitRead c d ⌝ }
 {
-    if c.run == 1 {
-        return stop(c, 2);
+    if c.digits.run == RUN_ZERO {
+        return stop(c, Halt::Form);
     }
-    grow(c, run_after(c.run, d), longer(c.val, d))
+    grow(c, run_after(c.digits.run, d), longer(c.digits.val, d))
 }
 
 // The mark x must stand here.
 pub fn expect(c: Ctrl, b: u32, x: u32, n: Ctrl) -> Ctrl
     ensures { λ r. ⌜ r ≡ mark c b x n ⌝ }
 {
-    if b == x { n } else { stop(c, 2) }
+    if b == x { n } else { stop(c, Halt::Form) }
 }
 
 pub fn end_line(c: Ctrl, b: u32) -> Ctrl
-    ensures { λ r. ⌜ r ≡ mark c b 10 (nextLine c) ⌝ }
+    ensures { λ r. ⌜ r ≡ mark c b lineEnd (nextLine c) ⌝ }
 {
-    expect(c, b, 10, next_line(c))
+    expect(c, b, LINE_END, next_line(c))
 }
 
 // The end of a list of facts: an operator's preconditions end in a semicolon, all others with their line.
 pub fn list_end(c: Ctrl, b: u32) -> Ctrl
     ensures { λ r. ⌜ r ≡ listEnd c b ⌝ }
 {
-    if list_of(c.field) == 4 {
-        expect(c, b, 59, await_number(c, 10, 0, 0, 0, 0, 1))
+    if list_of(c.spot.field) == PRE_LIST {
+        expect(
+            c,
+            b,
+            SEMICOLON,
+            await_number(
+                c,
+                FIELD_EFF_VAR,
+                Turn {
+                    var: 0,
+                    least: 0,
+                    item: 0,
+                },
+                Seen { mask: 0, prod: 1 },
+            ),
+        )
     } else {
         end_line(c, b)
     }
@@ -121,15 +167,39 @@ pub fn after_class(c: Ctrl, w: &[u8], b: u32) -> Ctrl
         if last_var(c) {
             end_line(c, b)
         } else {
-            let p = multiply(c.prod, width_of(c.mask));
-            expect(c, b, 47, await_number(c, 13, one_more(c.var), 0, 0, 0, p))
+            let p = multiply(c.seen.prod, width_of(c.seen.mask));
+            expect(
+                c,
+                b,
+                SLASH,
+                await_number(
+                    c,
+                    FIELD_CLASS,
+                    Turn {
+                        var: one_more(c.turn.var),
+                        least: 0,
+                        item: 0,
+                    },
+                    Seen { mask: 0, prod: p },
+                ),
+            )
         }
     } else {
+        let s = c.seen;
         expect(
             c,
             b,
-            44,
-            await_number(c, 13, c.var, 0, one_more(c.item), c.mask, c.prod),
+            COMMA,
+            await_number(
+                c,
+                FIELD_CLASS,
+                Turn {
+                    var: c.turn.var,
+                    least: 0,
+                    item: one_more(c.turn.item),
+                },
+                s,
+            ),
         )
     }
 }
@@ -143,8 +213,17 @@ pub fn after_var(c: Ctrl, b: u32) -> Ctrl
         expect(
             c,
             b,
-            44,
-            await_number(c, c.field, one_more(c.var), 0, 0, 0, 1),
+            COMMA,
+            await_number(
+                c,
+                c.spot.field,
+                Turn {
+                    var: one_more(c.turn.var),
+                    least: 0,
+                    item: 0,
+                },
+                Seen { mask: 0, prod: 1 },
+            ),
         )
     }
 }
@@ -159,8 +238,17 @@ pub fn field_before(f: u32) -> u32
 pub fn after_value(c: Ctrl, b: u32) -> Ctrl
     ensures { λ r. ⌜ r ≡ afterValue c b ⌝ }
 {
-    if b == 44 {
-        await_number(c, field_before(c.field), 0, one_more(c.var), 0, 0, 1)
+    if b == COMMA {
+        await_number(
+            c,
+            field_before(c.spot.field),
+            Turn {
+                var: 0,
+                least: one_more(c.turn.var),
+                item: 0,
+            },
+            Seen { mask: 0, prod: 1 },
+        )
     } else {
         list_end(c, b)
     }
@@ -169,31 +257,68 @@ pub fn after_value(c: Ctrl, b: u32) -> Ctrl
 pub fn after_share(c: Ctrl, b: u32) -> Ctrl
     ensures { λ r. ⌜ r ≡ afterShare c b ⌝ }
 {
-    let i = one_more(c.item);
-    if i == c.ops {
+    let i = one_more(c.turn.item);
+    if i == c.counts.ops {
         end_line(c, b)
     } else {
-        expect(c, b, 44, await_number(c, 14, 0, 0, i, 0, 1))
+        expect(
+            c,
+            b,
+            COMMA,
+            await_number(
+                c,
+                FIELD_SHARE,
+                Turn {
+                    var: 0,
+                    least: 0,
+                    item: i,
+                },
+                Seen { mask: 0, prod: 1 },
+            ),
+        )
     }
 }
 
 // The byte after a number that is kept.
 pub fn after_number(c: Ctrl, w: &[u8], b: u32) -> Ctrl
-    ensures { λ r. ⌜ r ≡ after c (now (w .entry)) b ⌝ }
+    ensures { λ r. ⌜ r ≡ afterNumber c (now (w .entry)) b ⌝ }
 {
-    let k = kind_of(c.field);
+    let k = kind_of(c.spot.field);
     match k {
-        1 => after_var(c, b),
-        2 => expect(
+        KIND_ROW => after_var(c, b),
+        KIND_VAR => expect(
             c,
             b,
-            58,
-            await_number(c, one_more(c.field), c.val, 0, 0, 0, 1),
+            COLON,
+            await_number(
+                c,
+                one_more(c.spot.field),
+                Turn {
+                    var: c.digits.val,
+                    least: 0,
+                    item: 0,
+                },
+                Seen { mask: 0, prod: 1 },
+            ),
         ),
-        3 => after_value(c, b),
-        4 => expect(c, b, 59, await_number(c, 8, 0, 0, 0, 0, 1)),
-        5 => after_class(c, w, b),
-        6 => after_share(c, b),
+        KIND_VAL => after_value(c, b),
+        KIND_COST => expect(
+            c,
+            b,
+            SEMICOLON,
+            await_number(
+                c,
+                FIELD_PRE_VAR,
+                Turn {
+                    var: 0,
+                    least: 0,
+                    item: 0,
+                },
+                Seen { mask: 0, prod: 1 },
+            ),
+        ),
+        KIND_CLASS => after_class(c, w, b),
+        KIND_SHARE => after_share(c, b),
         _ => end_line(c, b),
     }
 }
@@ -203,7 +328,7 @@ pub fn close_run(c: Ctrl, b: u32, w: &mut [u8]) -> Ctrl
     ensures { λ r. ⌜ mk r (now (w .exit)) ≡ closed c (now (w .entry)) b ⌝ }
 {
     let k = fault_of(c, w);
-    if k == 0 {
+    if goes_on(k) {
         let n = after_number(note(c), w, b);
         store(c, w);
         n
@@ -215,30 +340,34 @@ pub fn close_run(c: Ctrl, b: u32, w: &mut [u8]) -> Ctrl
 pub fn is_digit(b: u32) -> bool
     ensures { λ r. ⌜ r ≡ isDigit b ⌝ }
 {
-    if 48 <= b { b <= 57 } else { false }
+    if ZERO <= b { b <= NINE } else { false }
 }
 
 pub fn digit_of(b: u32) -> u32
     ensures { λ r. ⌜ r ≡ b - 48 ⌝ }
 {
-    if 48 <= b { b - 48 } else { 0 }
+    if ZERO <= b { b - ZERO } else { 0 }
 }
 
 // Neither a digit of the number nor a fact of the list stands before.
 pub fn nothing_read(c: Ctrl) -> bool
-    ensures { λ r. ⌜ r ≡ cond (eqb (c .run) 0) (eqb (c .least) 0) false ⌝ }
+    ensures { λ r. ⌜ r ≡ nothingRead c ⌝ }
 {
-    if c.run == 0 { c.least == 0 } else { false }
+    if c.digits.run == RUN_NONE {
+        c.turn.least == 0
+    } else {
+        false
+    }
 }
 
 // A dash where a list of facts may begin.
 pub fn dash_here(c: Ctrl, b: u32) -> bool
     ensures { λ r. ⌜ r ≡ dashHere c b ⌝ }
 {
-    if b != 45 {
+    if b != DASH {
         return false;
     }
-    if kind_of(c.field) != 2 {
+    if kind_of(c.spot.field) != KIND_VAR {
         return false;
     }
     nothing_read(c)
@@ -259,23 +388,24 @@ pub fn at_number(c: Ctrl, b: u32, w: &mut [u8]) -> Ctrl
 pub fn live_step(c: Ctrl, b: u32, w: &mut [u8]) -> Ctrl
     ensures { λ r. ⌜ mk r (now (w .exit)) ≡ live c (now (w .entry)) b ⌝ }
 {
-    if c.part == 0 {
+    if c.spot.part == PART_KEY {
         return in_key(c, b);
     }
-    if c.part == 1 {
+    if c.spot.part == PART_NUMBER {
         return at_number(c, b, w);
     }
-    if c.part == 2 {
+    if c.spot.part == PART_AFTER_DASH {
         return list_end(c, b);
     }
-    expect(c, b, 45, take_dash(c))
+    expect(c, b, DASH, take_dash(c))
 }
 
 // One byte; a reading that has stopped stays as it is.
 pub fn step_byte(c: Ctrl, b: u8, w: &mut [u8]) -> Ctrl
-    ensures { λ r. ⌜ mk r (now (w .exit)) ≡ step (mk c (now (w .entry))) b ⌝ }
+    ensures { λ r. ⌜ mk r (now (w .exit)) ≡ byteRead (mk c (now (w .entry))) b ⌝ }
 {
-    if c.code == 0 {
+    let k = c.halt;
+    if goes_on(k) {
         live_step(c, word(b), w)
     } else {
         c

@@ -1,12 +1,30 @@
 // A whole text at once.
 ghost use mathlib.Core.Path.{_≡_};
+ghost use Prim.Native.Nat.{_≤_};
+ghost use lib.ListN.{length};
+ghost use Rattle.tables.specs.Layout.{factsRoom, costsRoom, sharesRoom};
 ghost use Rattle.grammar.specs.Fields.{leaves};
-ghost use Rattle.text.specs.Machine.{readAll};
+ghost use Rattle.text.specs.Inside.End.{machineRead, readAll};
 use crate::control::start_of_text;
 use crate::end::finish;
+use crate::names::AREA_ROOM;
+use crate::names::COSTS_ROOM;
+use crate::names::FACTS_ROOM;
+use crate::names::SHARES_ROOM;
 use crate::step::feed_piece;
 use grammar::Reading;
+use meaning::limits::BYTES_MOST;
 use refusals::Refusal;
+
+// What the machine answers to a text, where there is room for every task.
+pub fn run_machine(text: &[u8], facts: &mut [u8], costs: &mut [u32], shares: &mut [u32]) -> Reading
+    requires { ⌜ (factsRoom ≤ length (now facts)) × (costsRoom ≤ length (now costs)) × (sharesRoom ≤ length (now shares)) ⌝ }
+    ensures { λ r. ⌜ leaves r (now (facts .exit)) (now (costs .exit)) (now (shares .exit)) ≡ machineRead (now (text .entry)) (now (facts .entry)) (now (costs .entry)) (now (shares .entry)) ⌝ }
+{
+    let mut w = [0u8; AREA_ROOM];
+    let c = feed_piece(start_of_text(), text, &mut w);
+    finish(c, &w, facts, costs, shares)
+}
 
 // What the machine answers: 8 for a short table, then 1 for a long text, then the text's own answer.
 pub fn read_by_machine(
@@ -17,19 +35,17 @@ pub fn read_by_machine(
 ) -> Reading
     ensures { λ r. ⌜ leaves r (now (facts .exit)) (now (costs .exit)) (now (shares .exit)) ≡ readAll (now (text .entry)) (now (facts .entry)) (now (costs .entry)) (now (shares .entry)) ⌝ }
 {
-    if facts.len() < 1624 {
+    if facts.len() < FACTS_ROOM {
         return Reading::Refused(Refusal::TableTooShort);
     }
-    if costs.len() < 64 {
+    if costs.len() < COSTS_ROOM {
         return Reading::Refused(Refusal::TableTooShort);
     }
-    if shares.len() < 512 {
+    if shares.len() < SHARES_ROOM {
         return Reading::Refused(Refusal::TableTooShort);
     }
-    if 16384 < text.len() {
+    if BYTES_MOST < text.len() {
         return Reading::Refused(Refusal::TextTooLong);
     }
-    let mut w = [0u8; 3352];
-    let c = feed_piece(start_of_text(), text, &mut w);
-    finish(c, &w, facts, costs, shares)
+    run_machine(text, facts, costs, shares)
 }

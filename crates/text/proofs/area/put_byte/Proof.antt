@@ -1,6 +1,6 @@
 -- `text::area::put_byte` meets its contract: past the end nothing is stored. Assumes nothing.
 use Prim.Native.Nat.{_%_}
-use Rattle.text.specs.Machine.{put}
+use Rattle.text.specs.Inside.Area.{putByte}
 use borrow.Author.Needs.{needs}
 use lib.Seq.{set-out}
 use mathlib.Core.Path.{refl, sym}
@@ -8,11 +8,11 @@ use Rattle.text.proofs.area.put_byte.Statement.{statement}
 use Rattle.text.proofs.area.put_byte.Tie as tie
 
 returns : tie.Need-returns
-unfolding put
+unfolding putByte
 returns c = refl
 
 returns-2 : tie.Need-returns-2
-unfolding put
+unfolding putByte
 returns-2 c = sym (set-out (c .before .args .w .now) (c .before .args .i) (c .before .args .v % 256) (c .if1 .left))
 
 pub put-byte-spec : {M : Type 1} → statement M

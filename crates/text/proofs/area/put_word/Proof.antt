@@ -1,6 +1,6 @@
 -- `text::area::put_word` meets its contract: three bytes, one after the other. Assumes nothing.
 use Prim.Native.Nat.{_+_, _/_, ℕ}
-use Rattle.text.specs.Machine.{put, put3}
+use Rattle.text.specs.Inside.Area.{putByte, putWord}
 use borrow.Author.Needs.{needs}
 use mathlib.Core.List.{List}
 use mathlib.Core.Path.{_∙_, ap}
@@ -8,8 +8,8 @@ use Rattle.text.proofs.area.put_word.Statement.{statement}
 use Rattle.text.proofs.area.put_word.Tie as tie
 
 returns : tie.Need-returns
-unfolding put3
-returns c = c .before .before .put-byte3 .ensures ∙ ap (λ (l : List ℕ). put l (c .before .before .before .before .before .before .before .before .before .before .before .before .before .args .i + 2) (c .before .before .before .before .before .before .before .before .before .before .before .before .before .args .v / 65536)) (c .before .before .before .before .before .before .put-byte2 .ensures ∙ ap (λ (l : List ℕ). put l (c .before .before .before .before .before .before .before .before .before .before .before .before .before .args .i + 1) (c .before .before .before .before .before .before .before .before .before .before .before .before .before .args .v / 256)) (c .before .before .before .before .before .before .before .before .before .before .put-byte .ensures))
+unfolding putWord
+returns c = c .before .before .put-byte3 .ensures ∙ ap (λ (l : List ℕ). putByte l (c .before .before .before .before .before .before .before .before .before .before .before .before .before .args .i + 2) (c .before .before .before .before .before .before .before .before .before .before .before .before .before .args .v / 65536)) (c .before .before .before .before .before .before .put-byte2 .ensures ∙ ap (λ (l : List ℕ). putByte l (c .before .before .before .before .before .before .before .before .before .before .before .before .before .args .i + 1) (c .before .before .before .before .before .before .before .before .before .before .before .before .before .args .v / 256)) (c .before .before .before .before .before .before .before .before .before .before .put-byte .ensures))
 
 pub put-word-spec : {M : Type 1} → statement M
 put-word-spec =

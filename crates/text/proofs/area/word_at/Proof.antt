@@ -1,12 +1,12 @@
 -- `text::area::word_at` meets its contract: three bytes, each below 256. Assumes nothing.
-use Rattle.text.specs.Machine.{get3}
+use Rattle.text.specs.Inside.Area.{wordIn}
 use borrow.Author.Needs.{needs}
 use native.Mathlib.Omega.{arith}
 use Rattle.text.proofs.area.word_at.Statement.{statement}
 use Rattle.text.proofs.area.word_at.Tie as tie
 
 returns : tie.Need-returns
-unfolding get3
+unfolding wordIn
 returns c = (simp (c .before .before .before .before .word .ensures .0, c .before .before .word2 .ensures .0, c .word3 .ensures .0, c .before .before .before .before .before .byte-at .ensures, c .before .before .before .byte-at2 .ensures, c .before .byte-at3 .ensures), omega arith)
 
 pub word-at-spec : {M : Type 1} → statement M

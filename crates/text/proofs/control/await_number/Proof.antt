@@ -1,5 +1,5 @@
 -- `text::control::await_number` meets its contract: the control anew. Assumes nothing.
-use Rattle.text.specs.Machine.{due}
+use Rattle.text.specs.Inside.Control.{due}
 use mathlib.Core.Path.{refl}
 use Rattle.text.proofs.control.await_number.Statement.{statement}
 use Rattle.text.proofs.control.await_number.Tie as tie

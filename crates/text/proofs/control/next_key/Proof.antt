@@ -1,15 +1,14 @@
--- `text::control::next_key` meets its contract: a part begins, with the place in its keyword moved on. Assumes nothing.
-use Rattle.text.specs.Machine.{fresh, nextKey}
+-- `text::control::next_key` meets its contract: the control anew, with the place in its keyword moved on. Assumes nothing.
+use Rattle.text.specs.Inside.Control.{nextKey}
 use borrow.Author.Needs.{needs}
 use Rattle.text.proofs.control.next_key.Statement.{statement}
 use Rattle.text.proofs.control.next_key.Tie as tie
 
 returns : tie.Need-returns
-unfolding nextKey fresh
-returns c = simp (c .before .begin-part .ensures, c .one-more .ensures)
+unfolding nextKey
+returns c = simp (c .one-more .ensures)
 
 pub next-key-spec : {M : Type 1} → statement M
 next-key-spec = tie.close (tie.spec
-    (λ c κs. search needs)
     (λ c κs. search needs)
     returns)

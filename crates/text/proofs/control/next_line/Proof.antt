@@ -1,5 +1,5 @@
 -- `text::control::next_line` meets its contract: by the field. Assumes nothing.
-use Rattle.text.specs.Machine.{nextLine}
+use Rattle.text.specs.Inside.Control.{nextLine}
 use borrow.Author.Needs.{needs}
 use borrow.Author.Tests.{eq-eqb, ne-eqb}
 use Rattle.text.proofs.control.next_line.Statement.{statement}

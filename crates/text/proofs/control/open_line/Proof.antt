@@ -1,5 +1,5 @@
 -- `text::control::open_line` meets its contract: a part begins. Assumes nothing.
-use Rattle.text.specs.Machine.{opened}
+use Rattle.text.specs.Inside.Control.{opened}
 use borrow.Author.Needs.{needs}
 use Rattle.text.proofs.control.open_line.Statement.{statement}
 use Rattle.text.proofs.control.open_line.Tie as tie

@@ -1,5 +1,5 @@
 -- `text::control::row_or` meets its contract: by whether rows are left. Assumes nothing.
-use Rattle.text.specs.Machine.{rowOr}
+use Rattle.text.specs.Inside.Control.{rowOr}
 use borrow.Author.Needs.{needs}
 use borrow.Author.Tests.{le-ltb, lt-ltb}
 use Rattle.text.proofs.control.row_or.Statement.{statement}

@@ -1,5 +1,5 @@
 -- `text::control::start_of_text` meets its contract: the first control. Assumes nothing.
-use Rattle.text.specs.Machine.{start}
+use Rattle.text.specs.Inside.Control.{start}
 use mathlib.Core.Path.{refl}
 use Rattle.text.proofs.control.start_of_text.Statement.{statement}
 use Rattle.text.proofs.control.start_of_text.Tie as tie

@@ -1,5 +1,5 @@
 -- `text::control::stop` meets its contract: only the code is another. Assumes nothing.
-use Rattle.text.specs.Machine.{stopped}
+use Rattle.text.specs.Inside.Control.{stopped}
 use mathlib.Core.Path.{refl}
 use Rattle.text.proofs.control.stop.Statement.{statement}
 use Rattle.text.proofs.control.stop.Tie as tie

@@ -1,5 +1,5 @@
 -- `text::control::take_dash` meets its contract: a part begins. Assumes nothing.
-use Rattle.text.specs.Machine.{dashed}
+use Rattle.text.specs.Inside.Control.{dashed}
 use borrow.Author.Needs.{needs}
 use Rattle.text.proofs.control.take_dash.Statement.{statement}
 use Rattle.text.proofs.control.take_dash.Tie as tie

@@ -1,5 +1,5 @@
 -- `text::control::to_line` meets its contract: a part begins on the next line. Assumes nothing.
-use Rattle.text.specs.Machine.{toLine}
+use Rattle.text.specs.Inside.Control.{toLine}
 use borrow.Author.Needs.{needs}
 use Rattle.text.proofs.control.to_line.Statement.{statement}
 use Rattle.text.proofs.control.to_line.Tie as tie

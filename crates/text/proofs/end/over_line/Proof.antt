@@ -2,7 +2,8 @@
 use Prim.Native.Nat.{_-_, _≤_}
 use Rattle.text.proofs.Laws.{over-none, over-passed, over-told}
 use Rattle.grammar.specs.Fields.{overLine}
-use Rattle.text.specs.Machine.{costIn, over, shareIn}
+use Rattle.text.specs.Inside.Area.{costIn, shareIn}
+use Rattle.text.specs.Inside.End.{over}
 use borrow.Author.Needs.{needs}
 use mathlib.Core.Path.{_∙_, _≡_, sym}
 use native.Mathlib.Nat.{sub-zero}

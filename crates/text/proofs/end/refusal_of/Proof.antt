@@ -1,33 +1,36 @@
--- `text::end::refusal_of` meets its contract: by the number. Assumes nothing.
-use Rattle.text.specs.Machine.{refusalOf}
-use borrow.Author.Tests.{eq-eqb, ne-eqb}
+-- `text::end::refusal_of` meets its contract: each halt by its name. Assumes nothing.
+use borrow.Author.Needs.{needs}
 use Rattle.text.proofs.end.refusal_of.Statement.{statement}
 use Rattle.text.proofs.end.refusal_of.Tie as tie
 
-returns : tie.Need-returns
-unfolding refusalOf
-returns c = simp (eq-eqb _ _ (c .if1 .taken))
-
 returns-2 : tie.Need-returns-2
-unfolding refusalOf
-returns-2 c = simp (ne-eqb _ _ (c .before .if1 .left), eq-eqb _ _ (c .if2 .taken))
+returns-2 c = simp (c .enum-told2 .given .1)
 
 returns-3 : tie.Need-returns-3
-unfolding refusalOf
-returns-3 c = simp (ne-eqb _ _ (c .before .before .if1 .left), ne-eqb _ _ (c .before .if2 .left), eq-eqb _ _ (c .if3 .taken))
+returns-3 c = simp (c .enum-told3 .given .1)
 
 returns-4 : tie.Need-returns-4
-unfolding refusalOf
-returns-4 c = simp (ne-eqb _ _ (c .before .before .before .if1 .left), ne-eqb _ _ (c .before .before .if2 .left), ne-eqb _ _ (c .before .if3 .left), eq-eqb _ _ (c .if4 .taken))
+returns-4 c = simp (c .enum-told4 .given .1)
 
 returns-5 : tie.Need-returns-5
-unfolding refusalOf
-returns-5 c = simp (ne-eqb _ _ (c .before .before .before .if1 .left), ne-eqb _ _ (c .before .before .if2 .left), ne-eqb _ _ (c .before .if3 .left), ne-eqb _ _ (c .if4 .left))
+returns-5 c = simp (c .enum-told5 .given .1)
+
+returns-6 : tie.Need-returns-6
+returns-6 c = simp (c .enum-told6 .given .1)
 
 pub refusal-of-spec : {M : Type 1} → statement M
-refusal-of-spec = tie.close (tie.spec
-    returns
+refusal-of-spec =
+    tie.close
+    (tie.spec
+    (λ c. search needs)
+    (λ c. search needs)
+    (λ c. search needs)
+    (λ c. search needs)
+    (λ c. search needs)
+    (λ c. search needs)
+    (λ c. search needs)
     returns-2
     returns-3
     returns-4
-    returns-5)
+    returns-5
+    returns-6)

@@ -2,7 +2,7 @@
 use Prim.Native.Nat.{_*_, _-_, _≤_, ℕ}
 use Rattle.text.proofs.Laws.{total-next}
 use Rattle.grammar.specs.Fields.{shareTotal}
-use Rattle.text.specs.Machine.{shareIn}
+use Rattle.text.specs.Inside.Area.{shareIn}
 use borrow.Author.Needs.{needs}
 use mathlib.Core.Path.{_∙_, _≡_, ap, refl, sym}
 use native.Mathlib.Omega.{arith}

@@ -1,5 +1,5 @@
 -- `text::fields::before_byte` meets its contract: only after the last class of a list. Assumes nothing.
-use Rattle.text.specs.Machine.{before}
+use Rattle.text.specs.Inside.Fields.{before}
 use borrow.Author.Needs.{needs}
 use Rattle.text.proofs.fields.before_byte.Statement.{statement}
 use Rattle.text.proofs.fields.before_byte.Tie as tie

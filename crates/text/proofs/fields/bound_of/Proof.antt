@@ -1,6 +1,6 @@
 -- `text::fields::bound_of` meets its contract: a number of its table. Assumes nothing.
 use Prim.Native.Nat.{ℕ}
-use Rattle.text.specs.Machine.{limits}
+use Rattle.text.specs.Inside.Fields.{limits}
 use borrow.Author.Needs.{needs}
 use lib.ListN.{getD}
 use mathlib.Core.Path.{_∙_, ap}

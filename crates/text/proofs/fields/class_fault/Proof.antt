@@ -1,5 +1,5 @@
 -- `text::fields::class_fault` meets its contract: a missing class, then too many states. Assumes nothing.
-use Rattle.text.specs.Machine.{classFault}
+use Rattle.text.specs.Inside.Fields.{classFault}
 use borrow.Author.Needs.{needs}
 use borrow.Author.Tests.{le-ltb, lt-ltb}
 use Rattle.text.proofs.fields.class_fault.Statement.{statement}

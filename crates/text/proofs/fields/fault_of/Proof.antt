@@ -1,7 +1,7 @@
 -- `text::fields::fault_of` meets its contract: form, then the number, then the list. Assumes nothing.
-use Rattle.text.specs.Machine.{fault}
 use borrow.Author.Needs.{needs}
 use borrow.Author.Tests.{eq-eqb, ne-eqb}
+use Rattle.text.specs.Inside.Fields.{fault}
 use Rattle.text.proofs.fields.fault_of.Statement.{statement}
 use Rattle.text.proofs.fields.fault_of.Tie as tie
 
@@ -11,17 +11,23 @@ returns c = simp (eq-eqb _ _ (c .if1 .taken))
 
 returns-2 : tie.Need-returns-2
 unfolding fault
-returns-2 c = simp (ne-eqb _ _ (c .before .before .before .before .if1 .left), ← c .before .before .before .judge .ensures, eq-eqb _ _ (c .before .before .if2 .taken), ← c .before .note .ensures) (c .before-byte .ensures)
+returns-2 c =
+    let x = c .before .before in
+    let y = x .before .before in
+    simp (ne-eqb _ _ (y .before .if1 .left), ← y .judge .ensures, ← x .before .goes-on .ensures, x .if2 .taken, ← c .before .note .ensures) (c .before-byte .ensures)
 
 returns-3 : tie.Need-returns-3
 unfolding fault
-returns-3 c = simp (ne-eqb _ _ (c .before .before .if1 .left), ← c .before .judge .ensures, ne-eqb _ _ (c .if2 .left))
+returns-3 c =
+    let y = c .before .before in
+    simp (ne-eqb _ _ (y .before .if1 .left), ← y .judge .ensures, ← c .before .goes-on .ensures, c .if2 .left)
 
 pub fault-of-spec : {M : Type 1} → statement M
 fault-of-spec =
     tie.close
     (tie.spec
     returns
+    (λ c κs. search needs)
     (λ c κs. search needs)
     (λ c κs. search needs)
     (λ c κs. search needs)

@@ -1,5 +1,5 @@
 -- `text::fields::in_range` meets its contract: between the two. Assumes nothing.
-use Rattle.text.specs.Machine.{inRange}
+use Rattle.text.specs.Inside.Fields.{inRange}
 use borrow.Author.Needs.{needs}
 use borrow.Author.Tests.{le-leb, lt-leb}
 use Rattle.text.proofs.fields.in_range.Statement.{statement}

@@ -1,20 +1,20 @@
 -- `text::fields::judge` meets its contract: range, then order. Assumes nothing.
-use Rattle.text.specs.Machine.{judged}
+use Rattle.text.specs.Inside.Fields.{numberFault}
 use borrow.Author.Needs.{needs}
 use borrow.Author.Tests.{le-leb, lt-leb}
 use Rattle.text.proofs.fields.judge.Statement.{statement}
 use Rattle.text.proofs.fields.judge.Tie as tie
 
 returns : tie.Need-returns
-unfolding judged
+unfolding numberFault
 returns c = simp (← c .before .before .before .in-range .ensures, c .before .before .if1 .taken, le-leb _ _ (c .if2 .taken))
 
 returns-2 : tie.Need-returns-2
-unfolding judged
+unfolding numberFault
 returns-2 c = simp (← c .before .before .before .in-range .ensures, c .before .before .if1 .taken, lt-leb _ _ (c .if2 .left))
 
 returns-3 : tie.Need-returns-3
-unfolding judged
+unfolding numberFault
 returns-3 c = simp (← c .before .in-range .ensures, c .if1 .left)
 
 pub judge-spec : {M : Type 1} → statement M

@@ -1,7 +1,7 @@
 -- `text::fields::key_byte` meets its contract: a byte of the keywords, and none past their end. Assumes nothing.
 use Prim.Native.Nat.{_*_, _+_}
 use Rattle.text.proofs.Laws.{getD-any}
-use Rattle.text.specs.Machine.{keyByte, keys}
+use Rattle.text.specs.Inside.Fields.{keys, keyByte}
 use borrow.Author.Needs.{needs}
 use lib.ListN.{List·getD-eq-default}
 use mathlib.Core.Path.{_∙_, sym}

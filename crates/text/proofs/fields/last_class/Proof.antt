@@ -1,5 +1,5 @@
 -- `text::fields::last_class` meets its contract: of a class, by its place in the row. Assumes nothing.
-use Rattle.text.specs.Machine.{lastClass}
+use Rattle.text.specs.Inside.Fields.{lastClass}
 use borrow.Author.Needs.{needs}
 use borrow.Author.Tests.{eq-eqb, ne-eqb}
 use Rattle.text.proofs.fields.last_class.Statement.{statement}

@@ -1,5 +1,5 @@
 -- `text::fields::last_var` meets its contract: the variable beside their number. Assumes nothing.
-use Rattle.text.specs.Machine.{lastVar}
+use Rattle.text.specs.Inside.Fields.{lastVar}
 use borrow.Author.Needs.{needs}
 use Rattle.text.proofs.fields.last_var.Statement.{statement}
 use Rattle.text.proofs.fields.last_var.Tie as tie

@@ -1,5 +1,5 @@
 -- `text::fields::limit_of` meets its contract: by what the table says. Assumes nothing.
-use Rattle.text.specs.Machine.{limit}
+use Rattle.text.specs.Inside.Fields.{limit}
 use borrow.Author.Needs.{needs}
 use borrow.Author.Tests.{eq-eqb, ne-eqb}
 use Rattle.text.proofs.fields.limit_of.Statement.{statement}

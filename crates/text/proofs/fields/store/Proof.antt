@@ -1,5 +1,5 @@
 -- `text::fields::store` meets its contract: by the field, each number to its place. Assumes nothing.
-use Rattle.text.specs.Machine.{stored}
+use Rattle.text.specs.Inside.Fields.{stored}
 use borrow.Author.Needs.{needs}
 use borrow.Author.Tests.{ne-eqb}
 use Rattle.text.proofs.fields.store.Statement.{statement}

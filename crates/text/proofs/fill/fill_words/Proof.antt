@@ -1,7 +1,7 @@
 -- `text::fill::fill_words` meets its contract: the invariant is what stands in the places passed. Assumes nothing.
 use Prim.Native.Nat.{_-_, _<_, _≤_, ℕ}
 use Rattle.text.proofs.Filling.{fill-end, fill-turn, threes-length}
-use Rattle.text.specs.Machine.{threes}
+use Rattle.text.specs.Inside.Area.{threes}
 use borrow.Author.Needs.{needs}
 use lib.ListN.{getD, length, length-set}
 use mathlib.Core.Path.{_∙_, _≡_, refl}

@@ -1,6 +1,6 @@
 -- `text::fill::nth_word` meets its contract: within the first n, and beyond. Assumes nothing.
 use Rattle.text.proofs.Filling.{threes-at, threes-length}
-use Rattle.text.specs.Machine.{threes}
+use Rattle.text.specs.Inside.Area.{threes}
 use borrow.Author.Needs.{needs}
 use lib.ListN.{List·getD-eq-default}
 use mathlib.Core.Path.{_∙_, sym}

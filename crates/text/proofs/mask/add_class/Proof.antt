@@ -1,6 +1,6 @@
 -- `text::mask::add_class` meets its contract: a shift of 1 by the class is its power of two. Assumes nothing.
 use Rattle.tables.proofs.Masks.{one-shl}
-use Rattle.text.specs.Machine.{withClass}
+use Rattle.text.specs.Inside.Fields.{withClass}
 use borrow.Author.Needs.{needs}
 use borrow.Author.Tests.{le-ltb, lt-ltb}
 use Rattle.text.proofs.mask.add_class.Statement.{statement}

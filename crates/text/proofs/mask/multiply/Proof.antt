@@ -1,6 +1,6 @@
 -- `text::mask::multiply` meets its contract: a small first factor, so that the product fits. Assumes nothing.
 use Rattle.text.proofs.Laws.{small-product}
-use Rattle.text.specs.Machine.{times}
+use Rattle.text.specs.Inside.Fields.{times}
 use borrow.Author.Needs.{needs}
 use borrow.Author.Tests.{le-ltb, lt-ltb}
 use native.Mathlib.Omega.{arith}

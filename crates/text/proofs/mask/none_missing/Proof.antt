@@ -1,5 +1,5 @@
 -- `text::mask::none_missing` meets its contract: the width beside the count of ones. Assumes nothing.
-use Rattle.text.specs.Machine.{gapless}
+use Rattle.text.specs.Inside.Fields.{gapless}
 use borrow.Author.Needs.{needs}
 use Rattle.text.proofs.mask.none_missing.Statement.{statement}
 use Rattle.text.proofs.mask.none_missing.Tie as tie

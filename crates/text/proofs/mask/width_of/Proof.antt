@@ -1,5 +1,5 @@
 -- `text::mask::width_of` meets its contract: a number of 32 bits has at most 32 leading zeros. Assumes nothing.
-use Rattle.text.specs.Machine.{width}
+use Rattle.text.specs.Inside.Fields.{width}
 use lib.Count.{leading-le}
 use mathlib.Core.Path.{refl}
 use Rattle.text.proofs.mask.width_of.Statement.{statement}

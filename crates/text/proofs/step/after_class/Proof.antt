@@ -1,5 +1,5 @@
 -- `text::step::after_class` meets its contract: within a list, between two lists, after the last. Assumes nothing.
-use Rattle.text.specs.Machine.{afterClass}
+use Rattle.text.specs.Inside.Steps.{afterClass}
 use borrow.Author.Needs.{needs}
 use Rattle.text.proofs.step.after_class.Statement.{statement}
 use Rattle.text.proofs.step.after_class.Tie as tie
@@ -14,7 +14,7 @@ returns-2 c = simp (← c .before .before .before .before .before .before .befor
 
 returns-3 : tie.Need-returns-3
 unfolding afterClass
-returns-3 c = simp (← c .before .before .before .before .last-class .ensures, c .before .before .before .if1 .left, ← c .before .before .one-more2 .ensures, ← c .before .await-number2 .ensures) (c .expect2 .ensures)
+returns-3 c = simp (← c .before .before .before .before .before .last-class .ensures, c .before .before .before .before .if1 .left, ← c .before .before .one-more2 .ensures, ← c .before .await-number2 .ensures) (c .expect2 .ensures)
 
 pub after-class-spec : {M : Type 1} → statement M
 after-class-spec =

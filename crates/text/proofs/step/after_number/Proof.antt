@@ -1,36 +1,36 @@
 -- `text::step::after_number` meets its contract: by the kind of the field. Assumes nothing.
-use Rattle.text.specs.Machine.{after}
+use Rattle.text.specs.Inside.Steps.{afterNumber}
 use borrow.Author.Needs.{needs}
 use borrow.Author.Tests.{ne-eqb}
 use Rattle.text.proofs.step.after_number.Statement.{statement}
 use Rattle.text.proofs.step.after_number.Tie as tie
 
 returns : tie.Need-returns
-unfolding after
+unfolding afterNumber
 returns c = simp (← c .before .before .kind-of .ensures, c .before .match .keys1) (c .after-var .ensures)
 
 returns-2 : tie.Need-returns-2
-unfolding after
+unfolding afterNumber
 returns-2 c = simp (← c .before .before .before .before .kind-of .ensures, c .before .before .before .match .keys2, ← c .before .before .one-more .ensures, ← c .before .await-number .ensures) (c .expect .ensures)
 
 returns-3 : tie.Need-returns-3
-unfolding after
+unfolding afterNumber
 returns-3 c = simp (← c .before .before .kind-of .ensures, c .before .match .keys3) (c .after-value .ensures)
 
 returns-4 : tie.Need-returns-4
-unfolding after
+unfolding afterNumber
 returns-4 c = simp (← c .before .before .before .kind-of .ensures, c .before .before .match .keys4, ← c .before .await-number2 .ensures) (c .expect2 .ensures)
 
 returns-5 : tie.Need-returns-5
-unfolding after
+unfolding afterNumber
 returns-5 c = simp (← c .before .before .kind-of .ensures, c .before .match .keys5) (c .after-class .ensures)
 
 returns-6 : tie.Need-returns-6
-unfolding after
+unfolding afterNumber
 returns-6 c = simp (← c .before .before .kind-of .ensures, c .before .match .keys6) (c .after-share .ensures)
 
 returns-7 : tie.Need-returns-7
-unfolding after
+unfolding afterNumber
 returns-7 c = simp (← c .before .before .kind-of .ensures, ne-eqb _ _ (c .before .match .rest .0 .0 .0 .0 .0 .1), ne-eqb _ _ (c .before .match .rest .0 .0 .0 .0 .1), ne-eqb _ _ (c .before .match .rest .0 .0 .0 .1), ne-eqb _ _ (c .before .match .rest .0 .0 .1), ne-eqb _ _ (c .before .match .rest .0 .1), ne-eqb _ _ (c .before .match .rest .1)) (c .end-line .ensures)
 
 pub after-number-spec : {M : Type 1} → statement M

@@ -1,5 +1,5 @@
 -- `text::step::after_share` meets its contract: within a row, and after it. Assumes nothing.
-use Rattle.text.specs.Machine.{afterShare}
+use Rattle.text.specs.Inside.Steps.{afterShare}
 use borrow.Author.Needs.{needs}
 use borrow.Author.Tests.{eq-eqb, ne-eqb}
 use Rattle.text.proofs.step.after_share.Statement.{statement}

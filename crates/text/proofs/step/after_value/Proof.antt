@@ -1,5 +1,5 @@
 -- `text::step::after_value` meets its contract: a comma, or the end of the list. Assumes nothing.
-use Rattle.text.specs.Machine.{afterValue}
+use Rattle.text.specs.Inside.Steps.{afterValue}
 use borrow.Author.Needs.{needs}
 use borrow.Author.Tests.{eq-eqb, ne-eqb}
 use Rattle.text.proofs.step.after_value.Statement.{statement}

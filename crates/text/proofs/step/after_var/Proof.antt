@@ -1,5 +1,5 @@
 -- `text::step::after_var` meets its contract: within a row, and after it. Assumes nothing.
-use Rattle.text.specs.Machine.{afterVar}
+use Rattle.text.specs.Inside.Steps.{afterVar}
 use borrow.Author.Needs.{needs}
 use Rattle.text.proofs.step.after_var.Statement.{statement}
 use Rattle.text.proofs.step.after_var.Tie as tie

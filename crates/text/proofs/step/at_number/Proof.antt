@@ -1,5 +1,5 @@
 -- `text::step::at_number` meets its contract: a digit, a dash, or the end of the run. Assumes nothing.
-use Rattle.text.specs.Machine.{atNumber}
+use Rattle.text.specs.Inside.Steps.{atNumber}
 use borrow.Author.Needs.{needs}
 use Rattle.text.proofs.step.at_number.Statement.{statement}
 use Rattle.text.proofs.step.at_number.Tie as tie

@@ -1,22 +1,26 @@
 -- `text::step::close_run` meets its contract: the fault, or the number kept and the byte judged. Assumes nothing.
-use Rattle.text.specs.Machine.{closed}
 use borrow.Author.Needs.{needs}
-use borrow.Author.Tests.{eq-eqb, ne-eqb}
+use Rattle.text.specs.Inside.Steps.{closed}
 use Rattle.text.proofs.step.close_run.Statement.{statement}
 use Rattle.text.proofs.step.close_run.Tie as tie
 
 returns : tie.Need-returns
 unfolding closed
-returns c = simp (← c .before .before .before .before .before .before .before .before .fault-of .ensures, eq-eqb _ _ (c .before .before .before .before .before .before .before .if1 .taken), ← c .before .before .before .before .before .before .note .ensures, c .before .before .before .before .after-number .ensures, c .before .before .store .ensures)
+returns c =
+    let kept = c .before .before in
+    let judged = kept .before .before in
+    let sound = judged .before .before .before in
+    simp (← sound .before .before .fault-of .ensures, ← sound .before .goes-on .ensures, sound .if1 .taken, ← judged .before .before .note .ensures, judged .after-number .ensures, kept .store .ensures)
 
 returns-2 : tie.Need-returns-2
 unfolding closed
-returns-2 c = simp (← c .before .before .fault-of .ensures, ne-eqb _ _ (c .before .if1 .left), c .stop .ensures)
+returns-2 c = simp (← c .before .before .before .fault-of .ensures, ← c .before .before .goes-on .ensures, c .before .if1 .left, c .stop .ensures)
 
 pub close-run-spec : {M : Type 1} → statement M
 close-run-spec =
     tie.close
     (tie.spec
+    (λ c κs. search needs)
     (λ c κs. search needs)
     (λ c κs. search needs)
     (λ c κs. search needs)

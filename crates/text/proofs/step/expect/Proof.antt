@@ -1,5 +1,5 @@
 -- `text::step::expect` meets its contract: the mark or another byte. Assumes nothing.
-use Rattle.text.specs.Machine.{mark}
+use Rattle.text.specs.Inside.Steps.{mark}
 use borrow.Author.Needs.{needs}
 use borrow.Author.Tests.{eq-eqb, ne-eqb}
 use Rattle.text.proofs.step.expect.Statement.{statement}

@@ -1,7 +1,8 @@
 -- `text::step::feed_piece` meets its contract: the invariant is by what is left of the piece. Assumes nothing.
 use Prim.Native.Nat.{_+_, _-_, _≤_, ℕ}
 use Rattle.text.proofs.Laws.{feed-next}
-use Rattle.text.specs.Machine.{St, feed, mk}
+use Rattle.text.specs.Inside.Control.{mk, St}
+use Rattle.text.specs.Inside.Steps.{feed}
 use borrow.Author.Needs.{needs}
 use lib.ListN.{drop, drop-of-length-le, length}
 use mathlib.Core.List.{List}

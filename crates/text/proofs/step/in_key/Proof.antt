@@ -1,5 +1,5 @@
 -- `text::step::in_key` meets its contract: the keyword's own byte, and its last. Assumes nothing.
-use Rattle.text.specs.Machine.{inKey}
+use Rattle.text.specs.Inside.Steps.{inKey}
 use borrow.Author.Needs.{needs}
 use borrow.Author.Tests.{eq-eqb, ne-eqb}
 use Rattle.text.proofs.step.in_key.Statement.{statement}

@@ -1,5 +1,5 @@
 -- `text::step::list_end` meets its contract: by the list. Assumes nothing.
-use Rattle.text.specs.Machine.{listEnd}
+use Rattle.text.specs.Inside.Steps.{listEnd}
 use borrow.Author.Needs.{needs}
 use borrow.Author.Tests.{eq-eqb, ne-eqb}
 use Rattle.text.proofs.step.list_end.Statement.{statement}

@@ -1,5 +1,5 @@
 -- `text::step::live_step` meets its contract: by the part of the line. Assumes nothing.
-use Rattle.text.specs.Machine.{live}
+use Rattle.text.specs.Inside.Steps.{live}
 use borrow.Author.Needs.{needs}
 use borrow.Author.Tests.{eq-eqb, ne-eqb}
 use Rattle.text.proofs.step.live_step.Statement.{statement}

@@ -1,5 +1,5 @@
 -- `text::step::longer` meets its contract: the cap is the largest u32. Assumes nothing.
-use Rattle.text.specs.Machine.{more}
+use Rattle.text.specs.Inside.Steps.{more}
 use borrow.Author.Needs.{needs}
 use native.Mathlib.Omega.{arith}
 use Rattle.text.proofs.step.longer.Statement.{statement}

@@ -1,11 +1,8 @@
 -- `text::whole::read_by_machine` meets its contract: a short table, a long text, or what the machine says. Assumes nothing.
-use Rattle.grammar.specs.Fields.{admitted}
-use Rattle.text.specs.Machine.{St, areaRoom, done, feed, mk, readAll}
-use Rattle.text.specs.declared.Ctrl.{Ctrl}
 use borrow.Author.Needs.{needs}
 use borrow.Author.Tests.{le-ltb, lt-ltb}
-use lib.ListN.{replicate}
-use mathlib.Core.Path.{_∙_, ap}
+use Rattle.grammar.specs.Fields.{admitted}
+use Rattle.text.specs.Inside.End.{readAll}
 use Rattle.text.proofs.whole.read_by_machine.Statement.{statement}
 use Rattle.text.proofs.whole.read_by_machine.Tie as tie
 
@@ -23,11 +20,17 @@ returns-3 c = simp (le-ltb _ _ (c .before .before .if1 .left), le-ltb _ _ (c .be
 
 returns-4 : tie.Need-returns-4
 unfolding readAll admitted
-returns-4 c = simp (le-ltb _ _ (c .before .before .before .if1 .left), le-ltb _ _ (c .before .before .if2 .left), le-ltb _ _ (c .before .if3 .left), lt-ltb _ _ (c .if4 .taken))
+returns-4 c =
+    let x = c .before in
+    simp (le-ltb _ _ (x .before .before .if1 .left), le-ltb _ _ (x .before .if2 .left), le-ltb _ _ (x .if3 .left), lt-ltb _ _ (c .if4 .taken))
 
 returns-5 : tie.Need-returns-5
 unfolding readAll admitted
-returns-5 c = simp (le-ltb _ _ (c .before .before .before .before .before .before .before .before .before .before .before .before .before .before .before .before .before .before .if1 .left), le-ltb _ _ (c .before .before .before .before .before .before .before .before .before .before .before .before .before .before .before .before .before .if2 .left), le-ltb _ _ (c .before .before .before .before .before .before .before .before .before .before .before .before .before .before .before .before .if3 .left), le-ltb _ _ (c .before .before .before .before .before .before .before .before .before .before .before .before .before .before .before .if4 .left)) (c .before .before .before .before .before .before .finish .ensures ∙ ap (λ (x : St). done x (c .before .before .before .before .before .before .before .before .before .before .before .before .before .before .before .before .before .before .before .before .before .before .before .args .facts .now) (c .before .before .before .before .before .before .before .before .before .before .before .before .before .before .before .before .before .before .before .before .before .before .before .args .costs .now) (c .before .before .before .before .before .before .before .before .before .before .before .before .before .before .before .before .before .before .before .before .before .before .before .args .shares .now)) (c .before .before .before .before .before .before .before .before .before .before .before .before .feed-piece .ensures ∙ ap (λ (k : Ctrl). feed (mk k (replicate areaRoom 0)) (c .before .before .before .before .before .before .before .before .before .before .before .before .before .before .before .before .before .before .before .before .before .before .before .args .text .now)) (c .before .before .before .before .before .before .before .before .before .before .before .before .before .before .start-of-text .ensures)))
+returns-5 c =
+    let run = c .before .before .before .before .before .before in
+    let x = run .before .before .before .before in
+    let y = x .before .before in
+    simp (le-ltb _ _ (y .before .if1 .left), le-ltb _ _ (y .if2 .left), le-ltb _ _ (x .before .if3 .left), le-ltb _ _ (x .if4 .left)) (run .run-machine .ensures)
 
 pub read-by-machine-spec : {M : Type 1} → statement M
 read-by-machine-spec =
@@ -37,10 +40,6 @@ read-by-machine-spec =
     returns-2
     returns-3
     returns-4
-    (λ c κs. search needs)
-    (λ c. search needs)
-    (λ c κs. search needs)
-    (λ c. search needs)
     (λ c κs. search needs)
     (λ c. search needs)
     (λ c. search needs)

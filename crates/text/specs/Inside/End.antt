@@ -1,0 +1,75 @@
+-- What the end of the text says, and the whole text by the machine.
+use Prim.Native.Nat.{ℕ, min}
+use mathlib.Core.List.{List}
+use mathlib.Core.Bool.{cond}
+use lib.ListN.{take, replicate}
+use lib.Dec.{eqb}
+use Rattle.refusals.specs.declared.Refusal.the-variants.{
+  OffForm,
+  OutOfRange,
+  NotRising,
+  ClassMissing,
+  SharesAboveCost,
+  TooManyStates,
+}
+use Rattle.meaning.specs.Limits.{mostOps, mostMaps}
+use Rattle.tables.specs.Layout.{factsRoom, costsRoom, sharesRoom}
+use Rattle.scan.specs.declared.Found.{Found}
+use Rattle.scan.specs.declared.Found.the-variants.{Clean, Fault}
+use Rattle.grammar.specs.declared.Reading.the-variants.{Accepted, Refused}
+use Rattle.grammar.specs.Fields.{overLine, Outcome, leaves, filled, admitted}
+use Rattle.text.specs.declared.Ctrl.{Ctrl}
+use Rattle.text.specs.declared.Halt.{Halt}
+use Rattle.text.specs.declared.Halt.the-variants.{Going, Form, Range, Order, Missing, States}
+use Rattle.text.specs.Inside.Area.{threes, costsByte, sharesByte, costIn, shareIn, areaRoom}
+use Rattle.text.specs.Inside.Control.{St, mk, going, fieldEnd, start}
+use Rattle.text.specs.Inside.Fields.{fault}
+use Rattle.text.specs.Inside.Steps.{feed}
+
+-- what stops the reading at the end of the text
+unfoldable pub ended : Ctrl → List ℕ → Halt
+ended c w =
+    cond (going (c .halt))
+    (cond (eqb (c .spot .field) fieldEnd) Going (cond (going (fault c w)) Form (fault c w)))
+    (c .halt)
+
+-- what a reading that stopped in line l is refused with; nothing while it goes on
+abbrev pub refusalOf : Halt → ℕ → Found
+refusalOf Going l = Clean
+refusalOf Form l = Fault (OffForm l)
+refusalOf Range l = Fault (OutOfRange l)
+refusalOf Order l = Fault (NotRising l)
+refusalOf Missing l = Fault (ClassMissing l)
+refusalOf States l = Fault (TooManyStates l)
+
+unfoldable pub endFault : St → Found
+endFault s = refusalOf (ended (s .ctrl) (s .area)) (s .ctrl .line)
+
+-- the line of the lowest operator whose shares total above its cost, 0 for none; a control of a text has no more than these counts
+unfoldable pub over : St → ℕ
+over s =
+    overLine (costIn (s .area)) (shareIn (s .area)) (min (s .ctrl .counts .maps) mostMaps) (min (s .ctrl .counts .ops) mostOps) 0
+
+-- the lent tables of an accepted task
+unfoldable pub written : St → List ℕ → List ℕ → List ℕ → Outcome
+written s f c h =
+    leaves
+    (Accepted (s .ctrl .counts))
+    (filled factsRoom (take factsRoom (s .area)) f)
+    (filled costsRoom (threes costsRoom costsByte (s .area)) c)
+    (filled sharesRoom (threes sharesRoom sharesByte (s .area)) h)
+
+-- the end of the text: the lent tables are written on acceptance only
+abbrev pub answered : Found → St → List ℕ → List ℕ → List ℕ → Outcome
+answered Clean s f c h = cond (eqb (over s) 0) (written s f c h) (leaves (Refused (SharesAboveCost (over s))) f c h)
+answered (Fault r) s f c h = leaves (Refused r) f c h
+
+unfoldable pub machineEnd : St → List ℕ → List ℕ → List ℕ → Outcome
+machineEnd s f c h = answered (endFault s) s f c h
+
+-- a whole text by the machine: what it leaves behind, where it is admitted
+unfoldable pub machineRead : List ℕ → List ℕ → List ℕ → List ℕ → Outcome
+machineRead text f c h = machineEnd (feed (mk start (replicate areaRoom 0)) text) f c h
+
+unfoldable pub readAll : List ℕ → List ℕ → List ℕ → List ℕ → Outcome
+readAll text f c h = admitted text f c h (machineRead text f c h)

@@ -1,0 +1,157 @@
+-- One byte of the text.
+use Prim.Native.Nat.{ℕ, _+_, _-_, _*_, min}
+use Prim.Native.Char.{code}
+use mathlib.Core.List.{List, [], _∷_}
+use mathlib.Core.Bool.{Bool, false, cond}
+use lib.Dec.{eqb}
+use Rattle.grammar.specs.Fields.{isDigit, lineEnd, comma, dash, slash, colon, semicolon}
+use Rattle.text.specs.declared.Ctrl.{Ctrl}
+use Rattle.text.specs.declared.Halt.the-variants.{Form}
+use Rattle.text.specs.Inside.Control.{
+  St,
+  mk,
+  going,
+  up,
+  turnOf,
+  firstTurn,
+  seenOf,
+  noneSeen,
+  stopped,
+  due,
+  nextKey,
+  opened,
+  withDigit,
+  dashed,
+  nextLine,
+  listNo,
+  preList,
+  runNone,
+  runZero,
+  runOn,
+  partKey,
+  partNumber,
+  partAfterDash,
+  fieldPreVar,
+  fieldEffVar,
+  fieldClass,
+  fieldShare,
+}
+use Rattle.text.specs.Inside.Fields.{
+  keyByte,
+  width,
+  times,
+  noted,
+  lastClass,
+  lastVar,
+  fault,
+  stored,
+  kind,
+  kindRow,
+  kindVar,
+  kindVal,
+  kindCost,
+  kindClass,
+  kindShare,
+}
+
+-- a keyword's last byte
+abbrev pub equals : ℕ
+equals = code "="
+
+unfoldable pub inKey : Ctrl → ℕ → Ctrl
+inKey c b =
+    cond (eqb b (keyByte (c .spot .field) (c .spot .key))) (cond (eqb b equals) (opened c) (nextKey c)) (stopped c Form)
+
+-- a digit run's value, however long, capped above every range
+unfoldable pub more : ℕ → ℕ → ℕ
+more v d = min (10 * v + d) 4294967295
+
+-- the run with one digit more: after a single 0 none may come
+abbrev pub runWith : ℕ → ℕ → ℕ
+runWith r d = cond (eqb (r + d) 0) runZero runOn
+
+unfoldable pub digitRead : Ctrl → ℕ → Ctrl
+digitRead c d =
+    cond (eqb (c .digits .run) runZero) (stopped c Form) (withDigit c (runWith (c .digits .run) d) (more (c .digits .val) d))
+
+-- the mark x must stand here, and then n is the control
+unfoldable pub mark : Ctrl → ℕ → ℕ → Ctrl → Ctrl
+mark c b x n = cond (eqb b x) n (stopped c Form)
+
+-- the end of a list of facts, or of the dash that stands for an empty list
+unfoldable pub listEnd : Ctrl → ℕ → Ctrl
+listEnd c b =
+    cond (eqb (listNo (c .spot .field)) preList) (mark c b semicolon (due c fieldEffVar firstTurn noneSeen)) (mark c b lineEnd (nextLine c))
+
+-- the byte after a class
+unfoldable pub afterClass : Ctrl → List ℕ → ℕ → Ctrl
+afterClass c w b =
+    cond (lastClass c w)
+    (cond (lastVar c)
+    (mark c b lineEnd (nextLine c))
+    (mark c b slash (due c fieldClass (turnOf (up (c .turn .var)) 0 0) (seenOf 0 (times (c .seen .prod) (width (c .seen .mask)))))))
+    (mark c b comma (due c fieldClass (turnOf (c .turn .var) 0 (up (c .turn .item))) (c .seen)))
+
+unfoldable pub afterVar : Ctrl → ℕ → Ctrl
+afterVar c b =
+    cond (lastVar c)
+    (mark c b lineEnd (nextLine c))
+    (mark c b comma (due c (c .spot .field) (turnOf (up (c .turn .var)) 0 0) noneSeen))
+
+unfoldable pub afterValue : Ctrl → ℕ → Ctrl
+afterValue c b =
+    cond (eqb b comma) (due c (c .spot .field - 1) (turnOf 0 (up (c .turn .var)) 0) noneSeen) (listEnd c b)
+
+unfoldable pub afterShare : Ctrl → ℕ → Ctrl
+afterShare c b =
+    cond (eqb (up (c .turn .item)) (c .counts .ops))
+    (mark c b lineEnd (nextLine c))
+    (mark c b comma (due c fieldShare (turnOf 0 0 (up (c .turn .item))) noneSeen))
+
+-- the byte after a number that was kept
+unfoldable pub afterNumber : Ctrl → List ℕ → ℕ → Ctrl
+afterNumber c w b =
+    cond (eqb (kind (c .spot .field)) kindRow)
+    (afterVar c b)
+    (cond (eqb (kind (c .spot .field)) kindVar)
+    (mark c b colon (due c (up (c .spot .field)) (turnOf (c .digits .val) 0 0) noneSeen))
+    (cond (eqb (kind (c .spot .field)) kindVal)
+    (afterValue c b)
+    (cond (eqb (kind (c .spot .field)) kindCost)
+    (mark c b semicolon (due c fieldPreVar firstTurn noneSeen))
+    (cond (eqb (kind (c .spot .field)) kindClass)
+    (afterClass c w b)
+    (cond (eqb (kind (c .spot .field)) kindShare) (afterShare c b) (mark c b lineEnd (nextLine c)))))))
+
+-- a byte that is no digit ends the run: its fault stops the reading, else the number is kept and the byte judged
+unfoldable pub closed : Ctrl → List ℕ → ℕ → St
+closed c w b =
+    cond (going (fault c w)) (mk (afterNumber (noted c) w b) (stored c w)) (mk (stopped c (fault c w)) w)
+
+-- a dash where a list of facts may begin: neither a digit of the number nor a fact of the list stands before
+abbrev pub nothingRead : Ctrl → Bool
+nothingRead c = cond (eqb (c .digits .run) runNone) (eqb (c .turn .least) 0) false
+
+unfoldable pub dashHere : Ctrl → ℕ → Bool
+dashHere c b = cond (eqb b dash) (cond (eqb (kind (c .spot .field)) kindVar) (nothingRead c) false) false
+
+unfoldable pub atNumber : Ctrl → List ℕ → ℕ → St
+atNumber c w b =
+    cond (isDigit b) (mk (digitRead c (b - 48)) w) (cond (dashHere c b) (mk (dashed c) w) (closed c w b))
+
+unfoldable pub live : Ctrl → List ℕ → ℕ → St
+live c w b =
+    cond (eqb (c .spot .part) partKey)
+    (mk (inKey c b) w)
+    (cond (eqb (c .spot .part) partNumber)
+    (atNumber c w b)
+    (cond (eqb (c .spot .part) partAfterDash) (mk (listEnd c b) w) (mk (mark c b dash (dashed c)) w)))
+
+-- ONE BYTE; a reading that has stopped stays as it is
+unfoldable pub byteRead : St → ℕ → St
+byteRead s b = cond (going (s .ctrl .halt)) (live (s .ctrl) (s .area) b) s
+
+-- the bytes of a piece, one after the other
+unfoldable pub feed : St → List ℕ → St
+feed s [] = s
+feed s (b ∷ t) = feed (byteRead s b) t
