@@ -4,6 +4,7 @@ use Prim.Native.Nat.{_≤_, _<_, _-_}
 use mathlib.Core.Path.{_≡_}
 use native.Mathlib.Omega.{arith}
 use lib.ListN.{length}
+use Rattle.meaning.specs.Limits.{mostVars}
 use Rattle.meaning.specs.Split.{countOf}
 use Rattle.tables.specs.Layout.{domAt, classAt}
 use Rattle.sweep.specs.Inside.Sweeps.{Made}
@@ -27,26 +28,21 @@ class-count-requires c κs =
     let pre = c .before .before .before .before .pre in
     (pre .0, pre .1, c .loop-test .taken)
 
-array-write-t : tie.Need-array-write-t Inv-loop μ-loop
-array-write-t c =
-    let pre = c .before .before .before .before .before .pre in
-    omega (arith, c .before .loop-test .taken, pre .0 .vars .1)
+-- the place is one of the table's
+inside : (c : tie.In-loop Inv-loop μ-loop) → (c .before .loop .v < length (c .before .loop .t)) × (c .before .loop .v < mostVars)
+inside c =
+    let few = c .before .before .before .before .pre .0 .vars .1 in
+    (omega (arith, c .before .loop .inv .1 .size, c .before .before .seen-facts .ensures .0, c .loop-test .taken, few), omega (arith, c .loop-test .taken, few))
 
 loop-again : tie.Need-loop-again Inv-loop μ-loop
-loop-again c =
-    let pre = c .before .before .before .before .before .pre in
-    let seen-facts = c .before .before .before .seen-facts in
-    let l = c .before .before .loop in
-    let inside : l .v < length (l .t) = omega (arith, l .inv .1 .size, seen-facts .ensures .0, c .before .loop-test .taken, pre .0 .vars .1) in
-    (search needs, made-more (l .inv .1) inside (c .class-count .ensures))
+loop-again c = (search needs, made-more (c .before .before .loop .inv .1) (inside (c .before) .0) (c .class-count .ensures))
 
 returns : tie.Need-returns Inv-loop μ-loop
 returns c =
-    let pre = c .before .before .before .before .pre in
-    let a = c .before .before .before .before .args in
-    let seen-facts = c .before .before .seen-facts in
+    let seen = c .before .before in
+    let a = seen .before .before .args in
     let l = c .before .loop in
-    classed (a .c) (a .facts .now) (a .m) (seen-facts .result) (l .t) (pre .0 .vars .1) (seen-facts .ensures .1)
+    classed (a .c) (a .facts .now) (a .m) (seen .seen-facts .result) (l .t) (seen .before .before .pre .0 .vars .1) (seen .seen-facts .ensures .1)
     (made-end (l .inv .1) (l .inv .0) (c .loop-test .left))
 
 pub class-facts-spec : {M : Type 1} → statement M
@@ -59,7 +55,7 @@ class-facts-spec =
     (λ c. (omega arith, made-none))
     class-count-requires
     (λ c. search needs)
-    array-write-t
+    (λ c. omega (arith, inside (c .before) .1))
     (λ c. search needs)
     (λ c. search needs)
     loop-again

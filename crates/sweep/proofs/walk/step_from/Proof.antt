@@ -28,16 +28,16 @@ number-after-requires c κs =
 
 returns : tie.Need-returns
 returns c =
-    let a = c .before .before .before .before .before .before .args in
-    let may-run = c .before .before .before .may-run in
-    let if1 = c .before .before .if1 in
-    step-runs (a .c) (a .facts .now) (a .s .now) (a .o .0) (may-run .result) (may-run .ensures) (c .before .eff-row .result) (c .number-after .result)
-    (if1 .taken) (c .before .eff-row .ensures) (c .number-after .ensures)
+    let i = c .before .before in
+    let a = i .before .before .before .before .args in
+    let may = i .before .may-run in
+    step-runs (a .c) (a .facts .now) (a .s .now) (a .o .0) (may .result) (may .ensures) _ _ (i .if1 .taken) (c .before .eff-row .ensures) (c .number-after .ensures)
 
 returns-2 : tie.Need-returns-2
 returns-2 c =
     let a = c .before .before .before .before .args in
-    step-stops (a .c) (a .facts .now) (a .s .now) (a .o .0) (c .before .may-run .result) (c .before .may-run .ensures) (c .if1 .left)
+    let may = c .before .may-run in
+    step-stops (a .c) (a .facts .now) (a .s .now) (a .o .0) (may .result) (may .ensures) (c .if1 .left)
 
 pub step-from-spec : {M : Type 1} → statement M
 step-from-spec =
