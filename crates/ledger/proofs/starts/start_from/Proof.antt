@@ -1,5 +1,5 @@
 -- `starts::start_from` meets its contract: it is the copy that a sequence starts from. Assumes nothing.
-use Rattle.sequences.specs.Inside.Steps.{copied}
+use Rattle.sequences.specs.Stepping.{copied}
 use Rattle.ledger.specs.Ledger.{startFrom}
 use borrow.Author.Needs.{needs}
 use Rattle.ledger.proofs.starts.start_from.Statement.{statement}
