@@ -1,4 +1,5 @@
-// THE DESK: every public entry and nothing else. No entry asks anything of its caller: whatever is handed in, there is an answer.
+// THE DESK: its public entries over lent tables and nothing else; judging with the operators in a lent row of records is `records::judge_records`.
+// No entry asks anything of its caller: whatever is handed in, there is an answer.
 // Beside each entry stands the theorem that no second outcome could meet its contract (proofs/Unique.antt).
 //
 // The lent tables of a task: `c` counts its variables, operators and maps; `facts` has at least 1,624 bytes, `costs` 64 words and `shares` 512 words,

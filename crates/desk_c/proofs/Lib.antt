@@ -1,9 +1,2 @@
-pub mod Fits
-pub mod Told
-pub mod Unique
-pub mod Placing
-pub mod Parts
 pub mod Handed
-pub mod Sizes
-pub mod Carried
-pub mod UniqueWritten
+pub mod Unique

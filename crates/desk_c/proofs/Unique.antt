@@ -1,4 +1,5 @@
--- For each entry that only reads: no second outcome could meet its contract, whatever was handed in. Assumes nothing.
+-- For each entry: no second outcome could meet its contract, whatever was handed in; where lent memory is written, the word and every lent place together.
+-- Assumes nothing.
 use mathlib.Core.Path.{_≡_, sym, ap, _∙_}
 use mathlib.Core.List.{List}
 use Prim.Native.Nat.{ℕ}
@@ -7,8 +8,9 @@ use Rattle.scan.specs.Scan.{tablesFault}
 use Rattle.views.proofs.Promises as views
 use Rattle.sequences.specs.Judging.{judgedOf}
 use Rattle.sequences.specs.Choosing.{cheaperOf, chosenOf}
-use Rattle.desk_c.specs.Words.{foundWord, distancesWord, distanceWord, boundWord, judgedWord, cheaperWord, openingWord}
-use Rattle.desk_c.specs.Handing.{DistancesHanded, DistanceHanded, BoundHanded}
+use Rattle.words.specs.Words.{foundWord, distancesWord, distanceWord, boundWord, judgedWord, cheaperWord, openingWord}
+use Rattle.lent_runs.specs.Left.{RunLeft, beginHanded, offerHanded}
+use Rattle.desk_c.specs.Handing.{ReadLeft, readHanded, DistancesHanded, DistanceHanded, BoundHanded}
 
 pub check-unique : (t : Tables) (w v : ℕ) → w ≡ foundWord (tablesFault t) → v ≡ foundWord (tablesFault t) → w ≡ v
 check-unique t w v p q = p ∙ sym q
@@ -47,3 +49,20 @@ cheaper-unique t state a b w v p q = p ∙ sym q
 pub opening-unique : (t : Tables) (state a b : List ℕ) (w v : ℕ)
     → w ≡ openingWord (chosenOf t state a b) → v ≡ openingWord (chosenOf t state a b) → w ≡ v
 opening-unique t state a b w v p q = p ∙ sym q
+
+-- the word, the lent counts and the three lent tables after a reading
+pub read-unique : (task counts facts costs shares : List ℕ) (x y : ReadLeft) → x ≡ readHanded task counts facts costs shares
+    → y ≡ readHanded task counts facts costs shares
+    → x ≡ y
+read-unique task counts facts costs shares x y p q = p ∙ sym q
+
+-- the word, and the lent bytes and words of the run
+pub begin-unique : (t : Tables) (start bytes words : List ℕ) (x y : RunLeft) → x ≡ beginHanded t start bytes words
+    → y ≡ beginHanded t start bytes words
+    → x ≡ y
+begin-unique t start bytes words x y p q = p ∙ sym q
+
+pub offer-unique : (t : Tables) (bytes words : List ℕ) (number op : ℕ) (x y : RunLeft) → x ≡ offerHanded t bytes words number op
+    → y ≡ offerHanded t bytes words number op
+    → x ≡ y
+offer-unique t bytes words number op x y p q = p ∙ sym q

@@ -1,36 +1,35 @@
 // THE DESK FOR C: each entry of the desk under a name that C can call, with numbers and slices of numbers alone. A slice crosses as a pointer and a length.
 // No entry asks anything of its caller: what is lent too short, a length of 0 too, is 8 and nothing else;
-// only `desk_opening` never refuses, and answers the empty part then. The answer is one word (specs/Words.antt).
-// Beside each entry stands the theorem that no second outcome could meet its contract (proofs/Unique.antt, and UniqueWritten.antt for those that write). include/desk.h tells C the same.
+// only `desk_opening` never refuses, and answers the empty part then. The answer is one word (crates/words/specs/Words.antt).
+// Beside each entry stands the theorem that no second outcome could meet its contract (proofs/Unique.antt). include/desk.h tells C the same.
 ghost use mathlib.Core.Path.{_≡_};
 ghost use Rattle.scan.specs.Scan.{tablesFault};
 ghost use Rattle.sequences.specs.Judging.{judgedOf};
 ghost use Rattle.sequences.specs.Choosing.{cheaperOf, chosenOf};
-ghost use Rattle.desk_c.specs.Words.{foundWord, judgedWord, cheaperWord, openingWord};
-ghost use Rattle.desk_c.specs.Lent.{lentTask};
-ghost use Rattle.desk_c.specs.Handing.{readLeft, readHanded, DistancesHanded, DistanceHanded, BoundHanded, runLeft, beginHanded, offerHanded};
-
-mod runs;
-mod words;
-
-use crate::runs::hand_back;
-use crate::runs::run_in;
-use crate::runs::run_short;
-use crate::words::DONE;
-use crate::words::bound_word;
-use crate::words::cheaper_word;
-use crate::words::distance_word;
-use crate::words::distances_word;
-use crate::words::found_word;
-use crate::words::judged_word;
-use crate::words::opening_word;
-use crate::words::refused_word;
-use crate::words::word;
+ghost use Rattle.words.specs.Words.{foundWord, judgedWord, cheaperWord, openingWord};
+ghost use Rattle.lent_runs.specs.Left.{runLeft, beginHanded, offerHanded};
+ghost use Rattle.desk_c.specs.Handing.{was, left, lentTask, readLeft, readHanded, DistancesHanded, DistanceHanded, BoundHanded};
 use grammar::Reading;
+use lent_runs::hand_back;
+use lent_runs::run_in;
+use lent_runs::run_short;
 use meaning::OpNo;
 use refusals::Refusal;
 use sequences::choosing::choice_of;
 use tables::Counts;
+use words::DONE;
+use words::bound_word;
+use words::cheaper_word;
+use words::distance_word;
+use words::distances_word;
+use words::found_word;
+use words::judged_word;
+use words::opening_word;
+use words::refused_word;
+use words::word;
+
+// The places of a lent row of counts.
+const COUNTS_ROW: usize = 3;
 
 // READS a task text into the lent tables, and its counts (variables, operators, maps) into a lent row of at least 3 places.
 // `read-unique`.
@@ -42,9 +41,9 @@ pub extern "C" fn desk_read(
     costs: &mut [u32],
     shares: &mut [u32],
 ) -> u64
-    ensures { λ w. ⌜ readLeft w (now (counts .exit)) (now (facts .exit)) (now (costs .exit)) (now (shares .exit)) ≡ readHanded (now (task .entry)) (now (counts .entry)) (now (facts .entry)) (now (costs .entry)) (now (shares .entry)) ⌝ }
+    ensures { λ w. ⌜ readLeft w (left counts) (left facts) (left costs) (left shares) ≡ readHanded (was task) (was counts) (was facts) (was costs) (was shares) ⌝ }
 {
-    if counts.len() < 3 {
+    if counts.len() < COUNTS_ROW {
         return refused_word(Refusal::TableTooShort);
     }
     let r = desk::read(task, facts, costs, shares);
@@ -70,7 +69,7 @@ pub extern "C" fn desk_check(
     costs: &[u32],
     shares: &[u32],
 ) -> u64
-    ensures { λ w. ⌜ w ≡ foundWord (tablesFault (lentTask vars ops maps (now (facts .entry)) (now (costs .entry)) (now (shares .entry)))) ⌝ }
+    ensures { λ w. ⌜ w ≡ foundWord (tablesFault (lentTask vars ops maps facts costs shares)) ⌝ }
 {
     let c = Counts { vars, ops, maps };
     found_word(desk::check(c, facts, costs, shares))
@@ -89,7 +88,7 @@ pub extern "C" fn desk_distances(
     map: u32,
     out: &mut [u32],
 ) -> u64
-    ensures { λ w. ⌜ DistancesHanded (lentTask vars ops maps (now (facts .entry)) (now (costs .entry)) (now (shares .entry))) map (now (out .entry)) w (now (out .exit)) ⌝ }
+    ensures { λ w. ⌜ DistancesHanded (lentTask vars ops maps facts costs shares) map (was out) w (left out) ⌝ }
 {
     let c = Counts { vars, ops, maps };
     distances_word(desk::distances(c, facts, costs, shares, map, out))
@@ -108,7 +107,7 @@ pub extern "C" fn desk_distance_at(
     map: u32,
     state: &[u8],
 ) -> u64
-    ensures { λ w. ⌜ DistanceHanded (lentTask vars ops maps (now (facts .entry)) (now (costs .entry)) (now (shares .entry))) map (now (state .entry)) w ⌝ }
+    ensures { λ w. ⌜ DistanceHanded (lentTask vars ops maps facts costs shares) map (was state) w ⌝ }
 {
     let c = Counts { vars, ops, maps };
     distance_word(desk::distance_at(c, facts, costs, shares, map, state))
@@ -126,7 +125,7 @@ pub extern "C" fn desk_bound(
     shares: &[u32],
     state: &[u8],
 ) -> u64
-    ensures { λ w. ⌜ BoundHanded (lentTask vars ops maps (now (facts .entry)) (now (costs .entry)) (now (shares .entry))) (now (state .entry)) w ⌝ }
+    ensures { λ w. ⌜ BoundHanded (lentTask vars ops maps facts costs shares) (was state) w ⌝ }
 {
     let c = Counts { vars, ops, maps };
     bound_word(desk::bound(c, facts, costs, shares, state))
@@ -145,7 +144,7 @@ pub extern "C" fn desk_judge(
     state: &[u8],
     list: &[u32],
 ) -> u64
-    ensures { λ w. ⌜ w ≡ judgedWord (judgedOf (lentTask vars ops maps (now (facts .entry)) (now (costs .entry)) (now (shares .entry))) (now (state .entry)) (now (list .entry))) ⌝ }
+    ensures { λ w. ⌜ w ≡ judgedWord (judgedOf (lentTask vars ops maps facts costs shares) (was state) (was list)) ⌝ }
 {
     let c = Counts { vars, ops, maps };
     judged_word(desk::judge(c, facts, costs, shares, state, list))
@@ -165,7 +164,7 @@ pub extern "C" fn desk_cheaper(
     a: &[u32],
     b: &[u32],
 ) -> u64
-    ensures { λ w. ⌜ w ≡ cheaperWord (cheaperOf (lentTask vars ops maps (now (facts .entry)) (now (costs .entry)) (now (shares .entry))) (now (state .entry)) (now (a .entry)) (now (b .entry))) ⌝ }
+    ensures { λ w. ⌜ w ≡ cheaperWord (cheaperOf (lentTask vars ops maps facts costs shares) (was state) (was a) (was b)) ⌝ }
 {
     let c = Counts { vars, ops, maps };
     cheaper_word(desk::cheaper(c, facts, costs, shares, state, a, b))
@@ -186,7 +185,7 @@ pub extern "C" fn desk_opening(
     a: &[u32],
     b: &[u32],
 ) -> u64
-    ensures { λ w. ⌜ w ≡ openingWord (chosenOf (lentTask vars ops maps (now (facts .entry)) (now (costs .entry)) (now (shares .entry))) (now (state .entry)) (now (a .entry)) (now (b .entry))) ⌝ }
+    ensures { λ w. ⌜ w ≡ openingWord (chosenOf (lentTask vars ops maps facts costs shares) (was state) (was a) (was b)) ⌝ }
 {
     let c = Counts { vars, ops, maps };
     opening_word(choice_of(c, facts, costs, shares, state, a, b))
@@ -206,7 +205,7 @@ pub extern "C" fn desk_begin(
     bytes: &mut [u8],
     words: &mut [u32],
 ) -> u64
-    ensures { λ w. ⌜ runLeft w (now (bytes .exit)) (now (words .exit)) ≡ beginHanded (lentTask vars ops maps (now (facts .entry)) (now (costs .entry)) (now (shares .entry))) (now (start .entry)) (now (bytes .entry)) (now (words .entry)) ⌝ }
+    ensures { λ w. ⌜ runLeft w (left bytes) (left words) ≡ beginHanded (lentTask vars ops maps facts costs shares) (was start) (was bytes) (was words) ⌝ }
 {
     if run_short(bytes, words) {
         return refused_word(Refusal::TableTooShort);
@@ -231,7 +230,7 @@ pub extern "C" fn desk_offer(
     number: u32,
     op: u32,
 ) -> u64
-    ensures { λ w. ⌜ runLeft w (now (bytes .exit)) (now (words .exit)) ≡ offerHanded (lentTask vars ops maps (now (facts .entry)) (now (costs .entry)) (now (shares .entry))) (now (bytes .entry)) (now (words .entry)) number op ⌝ }
+    ensures { λ w. ⌜ runLeft w (left bytes) (left words) ≡ offerHanded (lentTask vars ops maps facts costs shares) (was bytes) (was words) number op ⌝ }
 {
     if run_short(bytes, words) {
         return refused_word(Refusal::TableTooShort);

@@ -7,6 +7,7 @@ use io::print_decimal;
 use io::read_full;
 use io::write_all;
 use libc::STDOUT_FILENO;
+use meaning::limits::BYTES_MOST;
 use refusals::Refusal;
 use refusals::number;
 use refusals::place;
@@ -15,6 +16,12 @@ use tables::readers::INIT_ROW;
 use tables::readers::row_at;
 use views::BoundAnswer;
 use views::DistanceAnswer;
+
+// Room for a text, and one byte more, so that a longer one is seen to be longer.
+const TASK_ROOM: usize = BYTES_MOST + 1;
+
+// Room for a state: a byte for each variable that there may be.
+const STATE_ROOM: usize = 8;
 
 // A line: a name, '=' and a number.
 fn say(name: &[u8], x: u64) {
@@ -63,10 +70,10 @@ fn say_map(answer: DistanceAnswer) {
 }
 
 // The task's initial state.
-fn init_of(facts: &[u8]) -> [u8; 8] {
-    let mut init = [0u8; 8];
+fn init_of(facts: &[u8]) -> [u8; STATE_ROOM] {
+    let mut init = [0u8; STATE_ROOM];
     let mut v = 0usize;
-    while v < 8 {
+    while v < STATE_ROOM {
         init[v] = row_at(facts, INIT_ROW, v as u32);
         v += 1;
     }
@@ -88,8 +95,7 @@ fn say_task(c: Counts, facts: &[u8], costs: &[u32], shares: &[u32]) {
 }
 
 fn main() {
-    // one byte more than a text may have, so that a longer one is seen to be longer
-    let mut task = [0u8; 16385];
+    let mut task = [0u8; TASK_ROOM];
     let n = read_full(0, &mut task);
     let mut facts = [0u8; 1624];
     let mut costs = [0u32; 64];

@@ -35,24 +35,78 @@ pub const COUNTS: u32 = 13;
 
 pub const TEXT: u32 = 14;
 
+// How many places the lent arrays have: each more than the largest task or the longest list takes, so that lengths beyond can be tried.
+pub const FACTS_PLACES: usize = 1700;
+
+pub const COSTS_PLACES: usize = 80;
+
+pub const SHARES_PLACES: usize = 600;
+
+pub const OUT_PLACES: usize = 4200;
+
+pub const STATE_PLACES: usize = 16;
+
+pub const LIST_PLACES: usize = 400;
+
+// The places of a run's arrays: a state, the log and the columns.
+pub const RUN_STATE: usize = 8;
+
+pub const LOG_PLACES: usize = 256;
+
+pub const COLUMNS: usize = 9;
+
+// The lengths of the lent arrays, and the counts.
+const LENT_PLACES: usize = 7;
+
+const COUNTS_PLACES: usize = 3;
+
+// Where the arrays begin in the row, one after another.
+const COSTS_AT: usize = FACTS_PLACES;
+
+const SHARES_AT: usize = COSTS_AT + COSTS_PLACES;
+
+const OUT_AT: usize = SHARES_AT + SHARES_PLACES;
+
+const STATE_AT: usize = OUT_AT + OUT_PLACES;
+
+const FIRST_AT: usize = STATE_AT + STATE_PLACES;
+
+const SECOND_AT: usize = FIRST_AT + LIST_PLACES;
+
+const START_AT: usize = SECOND_AT + LIST_PLACES;
+
+const LOG_AT: usize = START_AT + RUN_STATE;
+
+const LEN_AT: usize = LOG_AT + LOG_PLACES;
+
+const NOW_AT: usize = LEN_AT + 1;
+
+const COLUMN_AT: usize = NOW_AT + RUN_STATE;
+
+const LENT_AT: usize = COLUMN_AT + COLUMNS;
+
+const COUNTS_AT: usize = LENT_AT + LENT_PLACES;
+
+const TEXT_AT: usize = COUNTS_AT + COUNTS_PLACES;
+
 // The places of all arrays.
-pub const PLACES: usize = 7689;
+pub const PLACES: usize = TEXT_AT + 1;
 
 // How many places an array has. An array that isn't there has none.
 pub fn places(k: u32) -> usize {
     match k {
-        0 => 1700,
-        1 => 80,
-        2 => 600,
-        3 => 4200,
-        4 => 16,
-        5 | 6 => 400,
-        7 | 10 => 8,
-        8 => 256,
-        9 | 14 => 1,
-        11 => 9,
-        12 => 7,
-        13 => 3,
+        FACTS => FACTS_PLACES,
+        COSTS => COSTS_PLACES,
+        SHARES => SHARES_PLACES,
+        OUT => OUT_PLACES,
+        STATE => STATE_PLACES,
+        FIRST | SECOND => LIST_PLACES,
+        START | NOW => RUN_STATE,
+        LOG => LOG_PLACES,
+        LEN | TEXT => 1,
+        COLUMN => COLUMNS,
+        LENT => LENT_PLACES,
+        COUNTS => COUNTS_PLACES,
         _ => 0,
     }
 }
@@ -60,21 +114,21 @@ pub fn places(k: u32) -> usize {
 // Where an array begins in the row.
 fn base(k: u32) -> usize {
     match k {
-        0 => 0,
-        1 => 1700,
-        2 => 1780,
-        3 => 2380,
-        4 => 6580,
-        5 => 6596,
-        6 => 6996,
-        7 => 7396,
-        8 => 7404,
-        9 => 7660,
-        10 => 7661,
-        11 => 7669,
-        12 => 7678,
-        13 => 7685,
-        14 => 7688,
+        FACTS => 0,
+        COSTS => COSTS_AT,
+        SHARES => SHARES_AT,
+        OUT => OUT_AT,
+        STATE => STATE_AT,
+        FIRST => FIRST_AT,
+        SECOND => SECOND_AT,
+        START => START_AT,
+        LOG => LOG_AT,
+        LEN => LEN_AT,
+        NOW => NOW_AT,
+        COLUMN => COLUMN_AT,
+        LENT => LENT_AT,
+        COUNTS => COUNTS_AT,
+        TEXT => TEXT_AT,
         _ => 0,
     }
 }
@@ -82,7 +136,7 @@ fn base(k: u32) -> usize {
 // The places of an array are bytes.
 pub fn of_bytes(k: u32) -> bool {
     match k {
-        0 | 4 | 7 | 10 => true,
+        FACTS | STATE | START | NOW => true,
         _ => false,
     }
 }
@@ -176,17 +230,17 @@ pub fn save_words(held: &mut [u32], k: u32, from: &[u32]) {
 pub fn named(k: u32) -> Line {
     let line = Line::empty();
     match k {
-        0 => line.word(b"facts"),
-        1 => line.word(b"costs"),
-        2 => line.word(b"shares"),
-        3 => line.word(b"out"),
-        4 => line.word(b"state"),
-        5 => line.word(b"first"),
-        6 => line.word(b"second"),
-        7 => line.word(b"start"),
-        8 => line.word(b"log"),
-        9 => line.word(b"len"),
-        10 => line.word(b"now"),
+        FACTS => line.word(b"facts"),
+        COSTS => line.word(b"costs"),
+        SHARES => line.word(b"shares"),
+        OUT => line.word(b"out"),
+        STATE => line.word(b"state"),
+        FIRST => line.word(b"first"),
+        SECOND => line.word(b"second"),
+        START => line.word(b"start"),
+        LOG => line.word(b"log"),
+        LEN => line.word(b"len"),
+        NOW => line.word(b"now"),
         _ => line.word(b"column"),
     }
 }

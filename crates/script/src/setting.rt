@@ -17,6 +17,17 @@ use crate::held::value;
 use crate::lines::Line;
 use tables::Counts;
 
+// What calls are lent before the first line: the room for the largest task, for the distances of a map, and for a state.
+const FACTS_LENT: u32 = 1624;
+
+const COSTS_LENT: u32 = 64;
+
+const SHARES_LENT: u32 = 512;
+
+const OUT_LENT: u32 = 4096;
+
+const STATE_LENT: u32 = 8;
+
 // The highest byte.
 const BYTE: u32 = 255;
 
@@ -32,11 +43,11 @@ fn clear(held: &mut [u32]) {
 // All as it is before the first line.
 pub fn reset(held: &mut [u32]) {
     clear(held);
-    put(held, LENT, FACTS as usize, 1624);
-    put(held, LENT, COSTS as usize, 64);
-    put(held, LENT, SHARES as usize, 512);
-    put(held, LENT, OUT as usize, 4096);
-    put(held, LENT, STATE as usize, 8);
+    put(held, LENT, FACTS as usize, FACTS_LENT);
+    put(held, LENT, COSTS as usize, COSTS_LENT);
+    put(held, LENT, SHARES as usize, SHARES_LENT);
+    put(held, LENT, OUT as usize, OUT_LENT);
+    put(held, LENT, STATE as usize, STATE_LENT);
 }
 
 // Puts a value where the array is one of the script's and has such places.

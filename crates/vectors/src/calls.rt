@@ -26,12 +26,18 @@ use grammar::Reading;
 use meaning::OpNo;
 use script::commands::Command;
 use script::held::COSTS;
+use script::held::COSTS_PLACES;
 use script::held::FACTS;
+use script::held::FACTS_PLACES;
 use script::held::FIRST;
+use script::held::LIST_PLACES;
 use script::held::OUT;
+use script::held::OUT_PLACES;
 use script::held::SECOND;
 use script::held::SHARES;
+use script::held::SHARES_PLACES;
 use script::held::STATE;
+use script::held::STATE_PLACES;
 use script::held::TEXT;
 use script::held::lent;
 use script::held::load_bytes;
@@ -59,16 +65,16 @@ fn keep_reading(held: &mut [u32], answer: Reading) {
 
 // `R`: reads the text into the tables.
 pub fn call_read(held: &mut [u32], text: &[u8]) {
-    let mut facts = [0u8; 1700];
-    let mut costs = [0u32; 80];
-    let mut shares = [0u32; 600];
+    let mut facts = [0u8; FACTS_PLACES];
+    let mut costs = [0u32; COSTS_PLACES];
+    let mut shares = [0u32; SHARES_PLACES];
     load_bytes(held, FACTS, &mut facts);
     load_words(held, COSTS, &mut costs);
     load_words(held, SHARES, &mut shares);
     let task = front_bytes(text, value(held, TEXT, 0) as usize);
-    let f = least(lent(held, FACTS), 1700);
-    let c = least(lent(held, COSTS), 80);
-    let s = least(lent(held, SHARES), 600);
+    let f = least(lent(held, FACTS), FACTS_PLACES);
+    let c = least(lent(held, COSTS), COSTS_PLACES);
+    let s = least(lent(held, SHARES), SHARES_PLACES);
     let answer = read(task, &mut facts[..f], &mut costs[..c], &mut shares[..s]);
     keep_reading(held, answer);
     save_bytes(held, FACTS, &facts);
@@ -78,9 +84,9 @@ pub fn call_read(held: &mut [u32], text: &[u8]) {
 
 // `D`: the distances of a map.
 fn call_distances(held: &mut [u32], facts: &[u8], costs: &[u32], shares: &[u32], map: u32) {
-    let mut out = [0u32; 4200];
+    let mut out = [0u32; OUT_PLACES];
     load_words(held, OUT, &mut out);
-    let n = least(lent(held, OUT), 4200);
+    let n = least(lent(held, OUT), OUT_PLACES);
     let c = counts_held(held);
     say_distances(distances(c, facts, costs, shares, map, &mut out[..n]));
     save_words(held, OUT, &out);
@@ -89,8 +95,8 @@ fn call_distances(held: &mut [u32], facts: &[u8], costs: &[u32], shares: &[u32],
 // `J`, `C` and `P`: the lists of operators.
 fn call_lists(held: &[u32], facts: &[u8], costs: &[u32], shares: &[u32], state: &[u8], letter: u8) {
     let c = counts_held(held);
-    let mut first = [0u32; 400];
-    let mut second = [0u32; 400];
+    let mut first = [0u32; LIST_PLACES];
+    let mut second = [0u32; LIST_PLACES];
     load_words(held, FIRST, &mut first);
     load_words(held, SECOND, &mut second);
     let a = front_words(&first, lent(held, FIRST));
@@ -153,10 +159,10 @@ fn call_over(
 
 // Every call but `R`: the tables and the state are lent as they are held.
 pub fn call(held: &mut [u32], command: Command) {
-    let mut facts = [0u8; 1700];
-    let mut costs = [0u32; 80];
-    let mut shares = [0u32; 600];
-    let mut state = [0u8; 16];
+    let mut facts = [0u8; FACTS_PLACES];
+    let mut costs = [0u32; COSTS_PLACES];
+    let mut shares = [0u32; SHARES_PLACES];
+    let mut state = [0u8; STATE_PLACES];
     load_bytes(held, FACTS, &mut facts);
     load_words(held, COSTS, &mut costs);
     load_words(held, SHARES, &mut shares);

@@ -26,6 +26,9 @@ use script::setting::set_or_show;
 // The most bytes of a text that are kept.
 const TEXT_BYTES: usize = 16500;
 
+// The bytes of the input that are read at a time.
+const READ_BYTES: usize = 4096;
+
 // `t`: the bytes that follow are the text.
 fn take_text(held: &mut [u32], text: &mut [u8], buf: &mut [u8], input: Input, n: u32) -> Input {
     let took = next_text(buf, input, text, n as usize);
@@ -100,7 +103,7 @@ fn carry_out_all(held: &mut [u32], text: &mut [u8], buf: &mut [u8]) {
 fn main() {
     let mut held = [0u32; PLACES];
     let mut text = [0u8; TEXT_BYTES];
-    let mut buf = [0u8; 4096];
+    let mut buf = [0u8; READ_BYTES];
     reset(&mut held);
     carry_out_all(&mut held, &mut text, &mut buf)
 }

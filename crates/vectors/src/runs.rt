@@ -1,9 +1,12 @@
 // The run that is held, taken out of its five arrays and put back into them.
 use ledger::Run;
 use script::held::COLUMN;
+use script::held::COLUMNS;
 use script::held::LEN;
 use script::held::LOG;
+use script::held::LOG_PLACES;
 use script::held::NOW;
+use script::held::RUN_STATE;
 use script::held::START;
 use script::held::load_bytes;
 use script::held::load_words;
@@ -13,10 +16,10 @@ use script::held::value;
 
 // The run of the five arrays.
 pub fn run_held(held: &[u32]) -> Run {
-    let mut start = [0u8; 8];
-    let mut log = [0u32; 256];
-    let mut now = [0u8; 8];
-    let mut columns = [0u32; 9];
+    let mut start = [0u8; RUN_STATE];
+    let mut log = [0u32; LOG_PLACES];
+    let mut now = [0u8; RUN_STATE];
+    let mut columns = [0u32; COLUMNS];
     load_bytes(held, START, &mut start);
     load_words(held, LOG, &mut log);
     load_bytes(held, NOW, &mut now);

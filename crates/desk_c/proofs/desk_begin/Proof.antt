@@ -1,6 +1,6 @@
--- `desk_begin` meets its contract. Assumes nothing.
-use Rattle.desk_c.proofs.Handed.{left-long, left-short, long-enough}
-use Rattle.desk_c.specs.Handing.{beginHanded}
+-- `desk_begin` meets its contract: memory that is too short is 8 before all; else what the start is answered is handed back. Assumes nothing.
+use Rattle.lent_runs.proofs.Handed.{left-long, left-short, long-enough}
+use Rattle.lent_runs.specs.Left.{beginHanded}
 use borrow.Author.Needs.{needs}
 use mathlib.Core.Path.{_∙_, sym}
 use Rattle.desk_c.proofs.desk_begin.Statement.{statement}
@@ -9,9 +9,6 @@ use Rattle.desk_c.proofs.desk_begin.Tie as tie
 returns : tie.Need-returns
 unfolding beginHanded
 returns c = left-short _ _ _ _ (sym (c .before .before .run-short .ensures) ∙ c .before .if1 .taken) (c .refused-word .ensures)
-
-hand-back-requires : tie.Need-hand-back-requires
-hand-back-requires c κs = long-enough _ _ (sym (c .before .before .before .before .run-short .ensures) ∙ c .before .before .before .if1 .left)
 
 returns-2 : tie.Need-returns-2
 unfolding beginHanded
@@ -31,7 +28,7 @@ desk-begin-spec =
     (λ c. search needs)
     returns
     (λ c κs. search needs)
-    hand-back-requires
+    (λ c κs. long-enough _ _ (sym (c .before .before .before .before .run-short .ensures) ∙ c .before .before .before .if1 .left))
     (λ c. search needs)
     (λ c. search needs)
     returns-2)

@@ -1,6 +1,6 @@
--- `desk_offer` meets its contract: the offer is made to the run in lent memory. Assumes nothing.
-use Rattle.desk_c.proofs.Handed.{left-long, left-short, long-enough, offered-in}
-use Rattle.desk_c.specs.Handing.{offerHanded}
+-- `desk_offer` meets its contract: memory that is too short is 8 before all; else the offer is made to the run that stands there. Assumes nothing.
+use Rattle.lent_runs.proofs.Handed.{left-long, left-short, long-enough, offered-in}
+use Rattle.lent_runs.specs.Left.{offerHanded}
 use borrow.Author.Needs.{needs}
 use mathlib.Core.Path.{_∙_, sym}
 use Rattle.desk_c.proofs.desk_offer.Statement.{statement}
@@ -9,9 +9,6 @@ use Rattle.desk_c.proofs.desk_offer.Tie as tie
 returns : tie.Need-returns
 unfolding offerHanded
 returns c = left-short _ _ _ _ (sym (c .before .before .run-short .ensures) ∙ c .before .if1 .taken) (c .refused-word .ensures)
-
-run-in-requires : tie.Need-run-in-requires
-run-in-requires c κs = long-enough _ _ (sym (c .before .before .before .run-short .ensures) ∙ c .before .before .if1 .left)
 
 hand-back-requires : tie.Need-hand-back-requires
 hand-back-requires c κs =
@@ -38,7 +35,7 @@ desk-offer-spec =
     (λ c. search needs)
     (λ c. search needs)
     returns
-    run-in-requires
+    (λ c κs. long-enough _ _ (sym (c .before .before .before .run-short .ensures) ∙ c .before .before .if1 .left))
     (λ c κs. search needs)
     hand-back-requires
     (λ c. search needs)

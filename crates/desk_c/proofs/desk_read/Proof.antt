@@ -6,9 +6,6 @@ use native.Mathlib.Omega.{arith}
 use Rattle.desk_c.proofs.desk_read.Statement.{statement}
 use Rattle.desk_c.proofs.desk_read.Tie as tie
 
-returns : tie.Need-returns
-returns c = read-short _ _ _ _ _ _ (omega arith) (c .refused-word .ensures)
-
 slice-write-counts-2 : tie.Need-slice-write-counts-2
 slice-write-counts-2 c =
     let long = c .before .before .before .before .before .before .before .before .before .before .before .before .before in
@@ -30,7 +27,7 @@ desk-read-spec =
     tie.close
     (tie.spec
     (λ c κs. search needs)
-    returns
+    (λ c. read-short _ _ _ _ _ _ (omega arith) (c .refused-word .ensures))
     (λ c κs. search needs)
     (λ c. search needs)
     (λ c. search needs)

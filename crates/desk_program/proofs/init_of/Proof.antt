@@ -1,4 +1,4 @@
--- `init_of` meets its contract. Assumes nothing.
+-- `init_of` is safe and ends: the measure is the variables that are left. Assumes nothing.
 use Prim.Native.Nat.{_≤_, _-_}
 use borrow.Author.Needs.{needs}
 use Rattle.desk_program.proofs.init_of.Statement.{statement}

@@ -1,4 +1,4 @@
--- `say_task` meets its contract. Assumes nothing.
+-- `say_task` is safe and ends: the measure is the maps that are left. Assumes nothing.
 use Prim.Native.Nat.{_≤_, _-_}
 use borrow.Author.Needs.{needs}
 use Rattle.desk_program.proofs.say_task.Statement.{statement}

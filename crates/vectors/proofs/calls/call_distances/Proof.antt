@@ -5,14 +5,13 @@ use mathlib.Core.Path.{_∙_, sym}
 use Rattle.vectors.proofs.calls.call_distances.Statement.{statement}
 use Rattle.vectors.proofs.calls.call_distances.Tie as tie
 
-slice-aggregate-distances : tie.Need-slice-aggregate-distances
-slice-aggregate-distances c = sym (length-take-le _ _ (search needs))
-
 slice-aggregate-save-words : tie.Need-slice-aggregate-save-words
 slice-aggregate-save-words c =
-    let lent = c .before .before .before .before .distances in
-    let copy = c .before .before .before .before .before .before .before .before .before .before .before .before .load-words in
-    sym (length-front (copy .last .1 .1 .0) (lent .last .1 .1 .1 .1 .1 .0) (c .before .before .before .before .before .before .before .before .least .result) (lent .kept .1 .1 .1 .1 .1 .0) ∙ copy .kept .1 .1 .0)
+    let called = c .before .before .before .before in
+    let measured = called .before .before .before .before in
+    let copied = measured .before .before .before .before in
+    let kept = length-front (copied .load-words .last .1 .1 .0) (called .distances .last .1 .1 .1 .1 .1 .0) (measured .least .result) (called .distances .kept .1 .1 .1 .1 .1 .0) in
+    sym (kept ∙ copied .load-words .kept .1 .1 .0)
 
 pub call-distances-spec : {M : Type 1} → statement M
 call-distances-spec =
@@ -24,7 +23,7 @@ call-distances-spec =
     (λ c κs. search needs)
     (λ c κs. search needs)
     (λ c. search needs)
-    slice-aggregate-distances
+    (λ c. sym (length-take-le _ _ (search needs)))
     (λ c κs. search needs)
     (λ c κs. search needs)
     slice-aggregate-save-words

@@ -1,0 +1,5 @@
+pub mod Placing
+pub mod Parts
+pub mod Handed
+pub mod Sizes
+pub mod Carried
