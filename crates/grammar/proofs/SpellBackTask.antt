@@ -8,17 +8,17 @@ use lib.ListN.{length, getD, replicate, length-replicate}
 use Rattle.meaning.specs.Sas.{Facts}
 use Rattle.meaning.specs.Split.{Task}
 use Rattle.tables.specs.Layout.{Tables, factsRoom, domAt, domPlace, initPlace, goalPlace, prePlace, effPlace, classPlace, sharePlace}
-use Rattle.grammar.specs.Fields.{slash}
+use Rattle.grammar.specs.Fields.{edition, slash}
 use Rattle.meaning.specs.Limits.{mostVars, mostValues, mostOps, mostMaps}
-use Rattle.grammar.specs.Grammar.{accepted, Rest, Part, _▸_, nothing, ask, keep, fits, numeral, line, lines, factList, withCounts, putCost, editionLine, varsLine, domLine, initLine, goalLine, operator, opsLine, opLines, variables, mapsLine, mapLines, amounts, shareLines, taskLines, theEnd, noTask, verdict}
+use Rattle.grammar.specs.Grammar.{accepted, Rest, Part, _▸_, nothing, ask, keep, fits, numeral, line, lines, factList, withCounts, putCost, editionLine, varsLine, domLine, initLine, goalLine, operator, opsLine, opLines, mapClasses, mapsLine, mapLines, amounts, shareLines, taskLines, theEnd, noTask, verdict}
 use Rattle.grammar.specs.Spelling.{digits, joined, numbers, someFacts, keyed, stacked, opText, mapText, shareText, spelled, changed, rowPut, factRow}
 use Rattle.grammar.proofs.Runs.{within-both}
 use Rattle.grammar.proofs.SpellFacts.{on, Knows, knows-row, knows-facts, knows-changed}
 use Rattle.grammar.proofs.SpellLines.{onShares}
-use Rattle.grammar.proofs.SpellTables.{zeros, writes-row}
+use Rattle.grammar.proofs.SpellTables.{writes-row}
 use Rattle.grammar.proofs.SpellBack.{BackOf, not-refused, number-back, line-back, lines-back}
 use Rattle.grammar.proofs.SpellBackFacts.{facts-back}
-use Rattle.grammar.proofs.SpellBackLines.{Op, opSpelled, opStored, operator-back, variables-back, amounts-back, varRow-back}
+use Rattle.grammar.proofs.SpellBackLines.{Op, opSpelled, opStored, operator-back, map-back, amounts-back, row-back-put}
 
 -- ---- a line with one number, in its range
 
@@ -81,9 +81,9 @@ module _ (N : ℕ) (dom : ℕ → ℕ) (O : ℕ) where
       let P : Tables → Type 0 = λ U. Knows N dom U × (U .counts .ops ≡ O) × (U .counts .maps ≡ M) in
       let keeps : (m : ℕ) (f : ℕ → ℕ → ℕ) (U : Tables) → P U → P (mapStored m f U) =
       λ m f U u. (knows-changed (λ v. rowPut (classPlace m v) (f v) (dom v)) (λ v X. knows-row (classPlace m v) (f v) (λ j. omega arith) (dom v) X) N 0 U (u .0), u .1, u .2) in
-      let c = lines-back (ℕ → ℕ → ℕ) (λ v x. 0) (λ m. line "map=" (variables m N 0 1)) (λ m f. keyed "map=" (mapSpelled N dom f)) mapStored P keeps
-      (λ m i U u. line-back (ℕ → ℕ → ℕ) "map=" (variables m N 0 1) i U (mapSpelled N dom) (λ f. mapStored m f U) (variables-back m N dom N 0 1 (omega arith) i U (u .0))) M 0 l T
-      (w, a, b) t k W (ap₂ (λ (x y : ℕ). lines (λ m. line "map=" (variables m x 0 1)) y 0 t l T k) (sym (w .vars)) (sym b) ∙ h) in
+      let c = lines-back (ℕ → ℕ → ℕ) (λ v x. 0) (λ m. line "map=" (mapClasses m)) (λ m f. keyed "map=" (mapSpelled N dom f)) mapStored P keeps
+      (λ m i U u. line-back (ℕ → ℕ → ℕ) "map=" (mapClasses m) i U (mapSpelled N dom) (λ f. mapStored m f U) (map-back m N dom i U (u .0))) M 0 l T
+      (w, a, b) t k W (ap (λ (y : ℕ). lines (λ m. line "map=" (mapClasses m)) y 0 t l T k) (sym b) ∙ h) in
       let q = kept P (λ m. mapStored m (c .what m)) (λ m U. keeps m (c .what m) U) M 0 T (w, a, b) in
       let d = shares-back O M (l + M) _ W (c .rest) (q .1) (q .2) (c .then) in
       (c .what, d .0, c .says ∙ ap (λ (u : List ℕ). mapsSpelled N dom M (c .what) ++ u) (d .1))
@@ -148,13 +148,13 @@ chain a b c d e f g h i j x u₁ u₂ u₃ u₄ u₅ u₆ p₁ p₂ p₃ p₄ p�
     (p₅ ∙ ap (λ (y : List ℕ). e ++ y) (p₆ ∙ ap (λ (y : List ℕ). f ++ (g ++ y)) p₇)))))
     ∙ simp append-assoc
 
-module _ (f : List ℕ) (lf : length f ≡ 1624) (zf : (p : ℕ) → getD f p 0 ≡ 0) where
+module _ (f : List ℕ) (lf : length f ≡ 1624) where
   known-doms : (N : ℕ) (dom : ℕ → ℕ) (T : Tables) → T .facts ≡ f → T .counts .vars ≡ N → N ≤ 8 → Knows N dom (on (rowPut domPlace dom N) T)
   known-doms N dom T e c h =
       record {
         vars = c;
         few = h;
-        doms = λ v l. ap (λ (w : List ℕ). getD (rowPut domPlace dom N w) (domPlace v) 0) e ∙ writes-row domPlace dom N v l (λ k q. omega arith) f (omega arith) (zf (domPlace v));
+        doms = λ v l. ap (λ (w : List ℕ). getD (rowPut domPlace dom N w) (domPlace v) 0) e ∙ writes-row domPlace dom N v l (λ k q. omega arith) f (omega arith);
       }
 
   -- from goal= on, and from dom= on
@@ -189,10 +189,10 @@ module _ (f : List ℕ) (lf : length f ≡ 1624) (zf : (p : ℕ) → getD f p 0 
       → (domLine ▸ initLine ▸ goalLine ▸ opsLine ▸ opLines ▸ mapsLine ▸ mapLines ▸ shareLines) t l T theEnd ≡ accepted W → DomBack N t
   unfolding domLine initLine _▸_
   dom-back N l T W t e c n h =
-      let a = line-back (ℕ → ℕ) "dom=" _ l T (λ d. numbers d N) (λ d. on (rowPut domPlace d N) T) (varRow-back 1 (λ v U. mostValues + 1) domPlace N l T c) t _ W h in
+      let a = line-back (ℕ → ℕ) "dom=" _ l T (λ d. numbers d N) (λ d. on (rowPut domPlace d N) T) (row-back-put 1 (λ v U. mostValues + 1) domPlace (λ U. U .counts .vars) N l T c) t _ W h in
       let T₁ = on (rowPut domPlace (a .what) N) T in
       let w = known-doms N (a .what) T e c n in
-      let b = line-back (ℕ → ℕ) "init=" _ (l + 1) T₁ (λ d. numbers d N) (λ d. on (rowPut initPlace d N) T₁) (varRow-back 0 (λ v U. domAt (U .facts) v) initPlace N (l + 1) T₁ c) (a .rest) _ W (a .then) in
+      let b = line-back (ℕ → ℕ) "init=" _ (l + 1) T₁ (λ d. numbers d N) (λ d. on (rowPut initPlace d N) T₁) (row-back-put 0 (λ v U. domAt (U .facts) v) initPlace (λ U. U .counts .vars) N (l + 1) T₁ c) (a .rest) _ W (a .then) in
       record {
         dom = a .what;
         init = b .what;
@@ -227,7 +227,7 @@ module _ (f : List ℕ) (lf : length f ≡ 1624) (zf : (p : ℕ) → getD f p 0 
   one : (v : ℕ) → fits v 1 2 ≡ true → v ≡ 1
   one v p = let r = within-both v 1 2 p in omega arith
 
-  lines-back-all : (T W : Tables) (x : List ℕ) → T .facts ≡ f → taskLines x 1 T theEnd ≡ accepted W → (τ : Task) × (x ≡ spelled τ)
+  lines-back-all : (T W : Tables) (x : List ℕ) → T .facts ≡ f → taskLines x 1 T theEnd ≡ accepted W → (τ : Task) × (x ≡ spelled edition τ)
   unfolding taskLines editionLine varsLine _▸_ nothing keep task spelled opText mapText
   lines-back-all T W x e h =
       let a = line-back (Ranged 1 2) "edition=" (numeral 1 2 (λ v. nothing)) 1 T (λ y. digits (y .0)) (λ y. T) (counted-back 1 2 (λ v. nothing) 1 T (λ v. T) (λ v u k. refl)) x _ W h in
@@ -240,7 +240,7 @@ module _ (f : List ℕ) (lf : length f ≡ 1624) (zf : (p : ℕ) → getD f p 0 
       let o = g .later in
       let m = o .later in (
         task N (b .rest) d,
-        chain (keyed "edition=" (digits 1)) (keyed "vars=" (digits N)) (keyed "dom=" (numbers (d .dom) N)) (keyed "init=" (numbers (d .init) N)) (keyed "goal=" (someFacts (g .goal) N 0))
+        chain (keyed "edition=" (digits edition)) (keyed "vars=" (digits N)) (keyed "dom=" (numbers (d .dom) N)) (keyed "init=" (numbers (d .init) N)) (keyed "goal=" (someFacts (g .goal) N 0))
             (keyed "ops=" (digits (o .ops))) (opsSpelled N (o .ops) (o .op)) (keyed "maps=" (digits (m .maps))) (mapsSpelled N (d .dom) (m .maps) (m .class)) (sharesSpelled (o .ops) (m .maps) (m .share))
             x (a .rest) (b .rest) (d .mid) (d .rest) (g .rest) (o .rest)
             (a .says ∙ ap (λ (v : ℕ). keyed "edition=" (digits v) ++ a .rest) (one (a .what .0) (a .what .1)))
@@ -248,6 +248,6 @@ module _ (f : List ℕ) (lf : length f ≡ 1624) (zf : (p : ℕ) → getD f p 0 
       )
 
 -- AN ACCEPTED TEXT SPELLS A TASK
-pub accepted-task : (x : List ℕ) (W : Tables) → verdict x ≡ accepted W → (τ : Task) × (x ≡ spelled τ)
+pub accepted-task : (x : List ℕ) (W : Tables) → verdict x ≡ accepted W → (τ : Task) × (x ≡ spelled edition τ)
 unfolding verdict noTask
-accepted-task x W h = lines-back-all (replicate factsRoom 0) (length-replicate {A = ℕ} factsRoom 0) (zeros factsRoom) _ W x refl h
+accepted-task x W h = lines-back-all (replicate factsRoom 0) (length-replicate {A = ℕ} factsRoom 0) _ W x refl h

@@ -18,6 +18,7 @@ use Rattle.tables.specs.Task.{taskOf}
 use Rattle.scan.specs.Scan.{unless, _then_, each, factsFault, operatorFault, classesFault, mapFault, sharesFault, splitFault, taskFault, within as scanWithin}
 use Rattle.tables.specs.Classes.{noneMissing}
 use Rattle.scan.proofs.Walks.{inOrder}
+use Rattle.grammar.specs.Fields.{edition}
 use Rattle.grammar.specs.Grammar.{accepted, refused, verdict}
 use Rattle.grammar.specs.Spelling.{textOf, canon}
 use Rattle.grammar.proofs.SpellParts.{judged}
@@ -110,7 +111,7 @@ module _ (T : Task) where
       (more (walk (splitFault T) of-split (T .sas .ops) 0) none)))))))))
 
 -- what refuses the text that spells a task
-pub spelled-refused : (t : Tables) (r : Refusal) → verdict (textOf t) ≡ refused r → OfNumbers r
+pub spelled-refused : (t : Tables) (r : Refusal) → verdict (textOf edition t) ≡ refused r → OfNumbers r
 spelled-refused t r h = go (taskFault (taskOf t)) (of-task (taskOf t)) (sym (scan-is-grammar t) ∙ h)
   where
     go : (f : Found) → Kind f → judged f (accepted (canon t)) ≡ refused r → OfNumbers r

@@ -1,6 +1,6 @@
 -- Each line of the text on what is spelled: what the scan says of the same numbers, and the numbers in their places. Assumes nothing.
 use Prim.Native.String.{String}
-use Prim.Native.Nat.{ℕ, zero, suc, _+_, _≤_, _<_}
+use Prim.Native.Nat.{ℕ, zero, suc, _+_, _<_}
 use native.Mathlib.Omega.{arith}
 use mathlib.Core.Path.{_≡_, refl, ap, _∙_}
 use mathlib.Core.List.{List, [], _∷_, _++_, append-assoc}
@@ -12,14 +12,15 @@ use Rattle.meaning.specs.Split.{Task}
 use Rattle.scan.specs.declared.Found.the-variants.{Clean}
 use Rattle.tables.specs.Layout.{Tables, domAt, domPlace, initPlace, goalPlace, prePlace, effPlace, sharePlace}
 use Rattle.scan.specs.Scan.{unless, _then_, each, factsFault, operatorFault, mapFault, sharesFault, within as scanWithin}
-use Rattle.grammar.specs.Fields.{isDigit, lineEnd, comma, dash, semicolon}
+use Rattle.grammar.specs.Fields.{edition, isDigit, lineEnd, dash, semicolon}
 use Rattle.meaning.specs.Limits.{mostValues, mostCost}
-use Rattle.grammar.specs.Grammar.{Rest, Part, _▸_, nothing, ask, keep, lit, fits, numeral, row as numberRow, line, factList, withCounts, putFact, putCost, putShare, editionLine, varsLine, domLine, initLine, goalLine, opsLine, operator, mapsLine, variables, amounts}
-use Rattle.grammar.specs.Spelling.{digits, joined, numbers, someFacts, keyed, opText, mapText, shareText, changed, rowPut, factRow, opRows, mapRows}
+use Rattle.grammar.specs.Grammar.{Rest, Part, _▸_, nothing, keep, lit, fits, numeral, line, factList, withCounts, putCost, putShare, editionLine, varsLine, domLine, initLine, goalLine, opsLine, operator, mapsLine, mapClasses, amounts}
+use Rattle.grammar.specs.Spelling.{digits, numbers, someFacts, keyed, opText, mapText, shareText, changed, rowPut, factRow, opRows, mapRows}
 use Rattle.grammar.proofs.Runs.{other}
 use Rattle.grammar.proofs.SpellParts.{judged, next, Told, ToldLine, lit-told, number-told, row-told, line-told}
-use Rattle.grammar.proofs.SpellFacts.{within-below, on, on-changed, Knows, knows-set, knows-facts, Ends, facts-told}
-use Rattle.grammar.proofs.SpellMaps.{variables-told}
+use Rattle.grammar.proofs.SpellFacts.{within-below, on, Knows, knows-set, knows-facts, Ends, facts-told}
+use Rattle.grammar.proofs.SpellMaps.{row-told-put, Ready, classes-of-map}
+use Rattle.grammar.proofs.SpellOwn.{Small}
 use Rattle.tables.specs.Lines.{lineOfOp, lineOfMap, lineOfShares}
 
 -- ---- ranges as the grammar and as the scan have them
@@ -55,9 +56,9 @@ count-told least most v p rest l T U test e h k =
     ∙ ap (λ (b : Bool). judged (unless b (OutOfRange l)) (k (lineEnd ∷ rest) l U)) e
 
 module _ (rest : List ℕ) (l : ℕ) (T : Tables) where
-  pub edition-told : ToldLine editionLine (keyed "edition=" (digits 1)) rest l T Clean T
+  pub edition-told : ToldLine editionLine (keyed "edition=" (digits edition)) rest l T Clean T
   unfolding editionLine nothing fits
-  edition-told = line-told "edition=" _ (digits 1) rest l T T Clean (count-told 1 1 1 (λ e. nothing) rest l T T true refl (λ k. refl))
+  edition-told = line-told "edition=" _ (digits edition) rest l T T Clean (count-told edition edition edition (λ e. nothing) rest l T T true refl (λ k. refl))
 
   count-line : (key : String) (least most v : ℕ) (f : ℕ → Tables → Tables) (test : Bool) → fits v least (suc most) ≡ test
       → ToldLine (line key (numeral least (suc most) (λ n. keep (f n)))) (keyed key (digits v)) rest l T (unless test (OutOfRange l)) (f v T)
@@ -80,39 +81,25 @@ module _ (rest : List ℕ) (l : ℕ) (T : Tables) where
 
 -- ---- dom=, init= and goal=
 
-module _ (key : String) (least : ℕ) (limit : ℕ → Tables → ℕ) (place f : ℕ → ℕ) (test : ℕ → Bool) (P : Tables → Type 0) (N : ℕ)
-    (keeps : (i : ℕ) (T : Tables) → i < N → P T → P (putFact (place i) (f i) T))
-    (tests : (i : ℕ) (T : Tables) → i < N → P T → fits (f i) least (limit i T) ≡ test i) where
-  abbrev rowPart : ℕ → Part
-  rowPart n = numberRow least limit (λ v x. putFact (place v) x) n 0
-
-  row-line : (rest : List ℕ) (l : ℕ) (T : Tables) → T .counts .vars ≡ N → P T
-      → ToldLine (line key (ask (λ U. rowPart (U .counts .vars)))) (keyed key (numbers f N)) rest l T (each (λ v. unless (test v) (OutOfRange l)) N 0) (on (rowPut place f N) T)
-  unfolding ask numbers rowPut
-  row-line rest l T e p =
-      line-told key (ask (λ U. rowPart (U .counts .vars))) (joined comma (λ v. digits (f v)) N 0) rest l T
-      (on (changed (λ v w. set w (place v) (f v)) N 0) T) (each (λ v. unless (test v) (OutOfRange l)) N 0)
-      (λ k. ap (λ (n : ℕ). rowPart n (joined comma (λ v. digits (f v)) N 0 ++ lineEnd ∷ rest) l T k) e
-      ∙ row-told least limit (λ v x. putFact (place v) x) f test P N keeps tests N 0 (omega arith) (lineEnd ∷ rest) (other (line-ends .no-digit)) l T p k
-      ∙ ap (λ (U : Tables). judged (each (λ v. unless (test v) (OutOfRange l)) N 0) (k (lineEnd ∷ rest) l U)) (on-changed (λ v w. set w (place v) (f v)) N 0 T))
-
 module _ (τ : Task) (rest : List ℕ) (l : ℕ) (T : Tables) where
   pub dom-told : T .counts .vars ≡ τ .sas .vars
       → ToldLine domLine (keyed "dom=" (numbers (τ .sas .dom) (τ .sas .vars))) rest l T (each (λ v. unless (scanWithin 1 8 (τ .sas .dom v)) (OutOfRange l)) (τ .sas .vars) 0)
       (on (rowPut domPlace (τ .sas .dom) (τ .sas .vars)) T)
   unfolding domLine
   dom-told e =
-      row-line "dom=" 1 (λ v U. mostValues + 1) domPlace (τ .sas .dom) (λ v. scanWithin 1 8 (τ .sas .dom v)) (λ U. Unit {0}) (τ .sas .vars)
-      (λ i U h p. tt) (λ i U h p. within-range (τ .sas .dom i) 1 8) rest l T e tt
+      line-told "dom=" _ (numbers (τ .sas .dom) (τ .sas .vars)) rest l T _ (each (λ v. unless (scanWithin 1 8 (τ .sas .dom v)) (OutOfRange l)) (τ .sas .vars) 0)
+      (row-told-put 1 (λ v U. mostValues + 1) domPlace (τ .sas .dom) (λ v. scanWithin 1 8 (τ .sas .dom v)) (λ U. Unit {0}) (τ .sas .vars)
+      (λ i U h p. tt) (λ i U h p. within-range (τ .sas .dom i) 1 8) (λ U. U .counts .vars) (lineEnd ∷ rest) (other (line-ends .no-digit)) l T e tt)
 
   pub init-told : Knows (τ .sas .vars) (τ .sas .dom) T
       → ToldLine initLine (keyed "init=" (numbers (τ .sas .init) (τ .sas .vars))) rest l T (each (λ v. unless (ltb (τ .sas .init v) (τ .sas .dom v)) (OutOfRange l)) (τ .sas .vars) 0)
       (on (rowPut initPlace (τ .sas .init) (τ .sas .vars)) T)
   unfolding initLine
   init-told w =
-      row-line "init=" 0 (λ v U. domAt (U .facts) v) initPlace (τ .sas .init) (λ v. ltb (τ .sas .init v) (τ .sas .dom v)) (Knows (τ .sas .vars) (τ .sas .dom)) (τ .sas .vars)
+      line-told "init=" _ (numbers (τ .sas .init) (τ .sas .vars)) rest l T _ (each (λ v. unless (ltb (τ .sas .init v) (τ .sas .dom v)) (OutOfRange l)) (τ .sas .vars) 0)
+      (row-told-put 0 (λ v U. domAt (U .facts) v) initPlace (τ .sas .init) (λ v. ltb (τ .sas .init v) (τ .sas .dom v)) (Knows (τ .sas .vars) (τ .sas .dom)) (τ .sas .vars)
       (λ i U h p. knows-set U (initPlace i) (τ .sas .init i) (omega arith) p) (λ i U h p. within-below (τ .sas .init i) (domAt (U .facts) i) ∙ ap (ltb (τ .sas .init i)) (p .doms i h))
-      rest l T (w .vars) w
+      (λ U. U .counts .vars) (lineEnd ∷ rest) (other (line-ends .no-digit)) l T (w .vars) w)
 
   pub goal-told : Knows (τ .sas .vars) (τ .sas .dom) T
       → ToldLine goalLine (keyed "goal=" (someFacts (τ .sas .goal) (τ .sas .vars) 0)) rest l T (factsFault τ (τ .sas .goal) l) (on (factRow goalPlace (τ .sas .goal) (τ .sas .vars)) T)
@@ -170,12 +157,12 @@ module _ (τ : Task) (o : ℕ) (T : Tables) (w : Knows (τ .sas .vars) (τ .sas 
 
 -- ---- map=
 
-module _ (τ : Task) (m : ℕ) (T : Tables) (w : Knows (τ .sas .vars) (τ .sas .dom) T) (small : (v : ℕ) → v < τ .sas .vars → τ .sas .dom v ≤ 8) (rest : List ℕ) where
-  pub map-told : ToldLine (line "map=" (variables m (τ .sas .vars) 0 1)) (keyed "map=" (mapText τ m)) rest (lineOfMap (τ .sas .ops) m) T (mapFault τ m) (on (mapRows τ m) T)
-  unfolding mapText mapFault mapRows
-  map-told =
-      line-told "map=" (variables m (τ .sas .vars) 0 1) (mapText τ m) rest (lineOfMap (τ .sas .ops) m) T (on (mapRows τ m) T) (mapFault τ m)
-      (variables-told τ m (lineOfMap (τ .sas .ops) m) (lineEnd ∷ rest) (other (line-ends .no-digit)) small (τ .sas .vars) 0 1 (omega arith) refl T w)
+pub map-told : (τ : Task) → Small τ → (m : ℕ) → m < τ .maps → (T : Tables) → Ready τ T → (rest : List ℕ)
+    → ToldLine (line "map=" (mapClasses m)) (keyed "map=" (mapText τ m)) rest (lineOfMap (τ .sas .ops) m) T (mapFault τ m) (on (mapRows τ m) T)
+unfolding mapFault
+map-told τ s m a T w rest =
+    line-told "map=" (mapClasses m) (mapText τ m) rest (lineOfMap (τ .sas .ops) m) T (on (mapRows τ m) T) (mapFault τ m)
+    (classes-of-map τ s m a (lineOfMap (τ .sas .ops) m) (lineEnd ∷ rest) (other (line-ends .no-digit)) T w)
 
 -- ---- share=
 

@@ -17,7 +17,7 @@ use Rattle.scan.proofs.Walks.{clean-next}
 use Rattle.scan.proofs.Validity.{clean-valid}
 use Rattle.refusals.specs.declared.Refusal.the-variants.{TextTooLong, TableTooShort}
 use Rattle.grammar.specs.declared.Reading.the-variants.{Accepted, Refused}
-use Rattle.grammar.specs.Fields.{Outcome, leaves, admitted}
+use Rattle.grammar.specs.Fields.{edition, Outcome, leaves, admitted}
 use Rattle.meaning.specs.Limits.{mostBytes}
 use Rattle.grammar.specs.Grammar.{Verdict, accepted, refused, verdict, outcome, readText}
 use Rattle.grammar.specs.Spelling.{textOf, canon}
@@ -50,11 +50,11 @@ admitted-whole f c s x o n h =
 module _ (f c s : List ℕ) where
   -- THE ROUND TRIP: lent tables of enough room get a clean task's tables from its text
   pub read-spelled : (t : Tables) → tablesFault t ≡ Clean → factsRoom ≤ length f → costsRoom ≤ length c → sharesRoom ≤ length s
-      → readText (textOf t) f c s ≡ outcome (accepted (canon t)) f c s
+      → readText (textOf edition t) f c s ≡ outcome (accepted (canon t)) f c s
   unfolding readText admitted tablesFault
   read-spelled t p a b d =
       let q = spelled-short (taskOf t) (clean-valid t p) in
-      rw (le-ltb (length f) factsRoom a, le-ltb (length c) costsRoom b, le-ltb (length s) sharesRoom d, le-ltb mostBytes (length (textOf t)) q)
+      rw (le-ltb (length f) factsRoom a, le-ltb (length c) costsRoom b, le-ltb (length s) sharesRoom d, le-ltb mostBytes (length (textOf edition t)) q)
       (ap (λ (v : Verdict). outcome v f c s) (clean-accepted t (clean-next (unless (roomy t) TableTooShort) (taskFault (taskOf t)) p)))
 
   -- what is accepted: the tables of a valid task that the text spells

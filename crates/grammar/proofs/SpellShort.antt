@@ -10,7 +10,7 @@ use borrow.Author.Tests.{ltb-true, ltb-false}
 use Rattle.meaning.specs.Sas.{Facts}
 use Rattle.meaning.specs.Split.{Task, Valid}
 use Rattle.tables.proofs.Laws.{by-cases}
-use Rattle.grammar.specs.Fields.{bytes, comma, slash}
+use Rattle.grammar.specs.Fields.{edition, bytes, comma, slash}
 use Rattle.meaning.specs.Limits.{mostBytes}
 use Rattle.grammar.specs.Spelling.{lastDigits, digits, gap, joined, numbers, fact, another, moreFacts, first, someFacts, keyed, stacked, opText, mapText, shareText, spelled}
 use Rattle.grammar.proofs.Decimal.{few, many}
@@ -156,15 +156,15 @@ module _ (τ : Task) (k : Valid τ) where
       let p = stacked-short (λ m. keyed "share=" (shareText (τ .share m) (τ .sas .ops))) 519 (τ .maps) 0 (λ m x y. share-short m (omega arith)) in
       omega arith
 
-  pub spelled-short : length (spelled τ) ≤ mostBytes
+  pub spelled-short : length (spelled edition τ) ≤ mostBytes
   unfolding spelled
   spelled-short =
       let a = k .vars .1 in
       let b = k .maps .1 in
       let c = k .ops in
-      ten (keyed "edition=" (digits 1)) (keyed "vars=" (digits (τ .sas .vars))) (keyed "dom=" (numbers (τ .sas .dom) (τ .sas .vars))) (keyed "init=" (numbers (τ .sas .init) (τ .sas .vars)))
+      ten (keyed "edition=" (digits edition)) (keyed "vars=" (digits (τ .sas .vars))) (keyed "dom=" (numbers (τ .sas .dom) (τ .sas .vars))) (keyed "init=" (numbers (τ .sas .init) (τ .sas .vars)))
       (keyed "goal=" (someFacts (τ .sas .goal) (τ .sas .vars) 0)) (keyed "ops=" (digits (τ .sas .ops))) opsPart (keyed "maps=" (digits (τ .maps))) mapsPart sharesPart
-      (keyed-short "edition=" (digits 1) 8 1 (omega arith) (digits-short 0 1 (omega arith)))
+      (keyed-short "edition=" (digits edition) 8 1 (omega arith) (digits-short 0 1 (omega arith)))
       (keyed-short "vars=" _ 5 1 (omega arith) (digits-short 0 (τ .sas .vars) (omega arith)))
       (keyed-short "dom=" _ 4 16 (omega arith) (row-short (τ .sas .dom) (λ v l. let q = k .values v l in omega arith)))
       (keyed-short "init=" _ 5 16 (omega arith) (row-short (τ .sas .init) (λ v l. let q = k .values v l in let r = k .proper .init v l in omega arith)))

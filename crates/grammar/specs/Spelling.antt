@@ -21,14 +21,14 @@ use Rattle.tables.specs.Layout.{
   sharePlace,
 }
 use Rattle.tables.specs.Task.{taskOf}
-use Rattle.grammar.specs.Fields.{bytes, lineEnd, comma, dash, slash, colon, semicolon}
+use Rattle.grammar.specs.Fields.{zeroDigit, bytes, lineEnd, comma, dash, slash, colon, semicolon}
 
 -- ---- THE TEXT
 
 -- the last digits of v, at most n of them
 unfoldable pub lastDigits : ℕ → ℕ → List ℕ
 lastDigits zero v = []
-lastDigits (suc n) v = cond (ltb v 10) ((48 + v) ∷ []) (lastDigits n (v / 10) ++ ((48 + v % 10) ∷ []))
+lastDigits (suc n) v = cond (ltb v 10) ((zeroDigit + v) ∷ []) (lastDigits n (v / 10) ++ ((zeroDigit + v % 10) ∷ []))
 
 -- a number in decimal, without a leading zero
 unfoldable pub digits : ℕ → List ℕ
@@ -96,10 +96,10 @@ unfoldable pub shareText : (ℕ → ℕ) → ℕ → List ℕ
 shareText share zero = dash ∷ []
 shareText share (suc n) = numbers share (suc n)
 
--- the lines in their order
-unfoldable pub spelled : Task → List ℕ
-spelled T =
-    keyed "edition=" (digits 1)
+-- the lines in their order, with e as the edition
+unfoldable pub spelled : ℕ → Task → List ℕ
+spelled e T =
+    keyed "edition=" (digits e)
     ++ keyed "vars=" (digits (T .sas .vars))
     ++ keyed "dom=" (numbers (T .sas .dom) (T .sas .vars))
     ++ keyed "init=" (numbers (T .sas .init) (T .sas .vars))
@@ -111,8 +111,8 @@ spelled T =
     ++ stacked (λ m. keyed "share=" (shareText (T .share m) (T .sas .ops))) (T .maps) 0
 
 -- the text that spells a task's tables, whatever stands in them
-abbrev pub textOf : Tables → List ℕ
-textOf t = spelled (taskOf t)
+abbrev pub textOf : ℕ → Tables → List ℕ
+textOf e t = spelled e (taskOf t)
 
 -- ---- THE TABLES
 
