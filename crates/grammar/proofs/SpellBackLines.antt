@@ -17,7 +17,7 @@ use Rattle.tables.specs.Classes.{noneMissing}
 use Rattle.tables.specs.Layout.{Tables, domAt, classAt, prePlace, effPlace, classPlace, sharePlace}
 use Rattle.grammar.specs.Fields.{dash, slash, semicolon}
 use Rattle.meaning.specs.Limits.{mostCost, mostStates}
-use Rattle.grammar.specs.Grammar.{accepted, Rest, Part, _▸_, nothing, ask, keep, demand, row as numberRow, putFact, putCost, putShare, operator, classList, classLists, mapClasses, amounts}
+use Rattle.grammar.specs.Grammar.{accepted, Rest, Part, _▸_, nothing, ask, keep, demand, numberRow, putFact, putCost, putShare, operatorFields, classList, classLists, mapClasses, amounts}
 use Rattle.grammar.specs.Spelling.{digits, joined, numbers, someFacts, shareText, changed, rowPut, factRow}
 use Rattle.grammar.proofs.SpellParts.{joined-none}
 use Rattle.grammar.proofs.SpellFacts.{on, on-changed, Knows, knows-row}
@@ -109,8 +109,8 @@ pieces : (a b c t u₁ u₂ u₃ u₄ u : List ℕ) → t ≡ a ++ u₁ → u₁
 pieces a b c t u₁ u₂ u₃ u₄ u p q r v w =
     p ∙ ap (λ (x : List ℕ). a ++ x) (q ∙ ap (λ (x : List ℕ). semicolon ∷ x) (r ∙ ap (λ (x : List ℕ). b ++ x) (v ∙ ap (λ (x : List ℕ). semicolon ∷ x) w))) ∙ simp append-assoc
 
-pub operator-back : (N o l : ℕ) (T : Tables) → T .counts .vars ≡ N → BackOf Op (operator o) l l T (opSpelled N) (λ a. opStored N o a T)
-unfolding operator _▸_ keep
+pub operator-back : (N o l : ℕ) (T : Tables) → T .counts .vars ≡ N → BackOf Op (operatorFields o) l l T (opSpelled N) (λ a. opStored N o a T)
+unfolding operatorFields _▸_ keep
 operator-back N o l T e t k W h =
     let a = number-back 0 (mostCost + 1) (λ c. keep (putCost o c)) t l T _ W h in
     let T₁ = putCost o (a .what) T in

@@ -10,7 +10,7 @@ use Rattle.meaning.specs.Split.{Task}
 use Rattle.tables.specs.Layout.{Tables, factsRoom, domAt, domPlace, initPlace, goalPlace, prePlace, effPlace, classPlace, sharePlace}
 use Rattle.grammar.specs.Fields.{edition, slash}
 use Rattle.meaning.specs.Limits.{mostVars, mostValues, mostOps, mostMaps}
-use Rattle.grammar.specs.Grammar.{accepted, Rest, Part, _▸_, nothing, ask, keep, fits, numeral, line, lines, factList, withCounts, putCost, editionLine, varsLine, domLine, initLine, goalLine, operator, opsLine, opLines, mapClasses, mapsLine, mapLines, amounts, shareLines, taskLines, theEnd, noTask, verdict}
+use Rattle.grammar.specs.Grammar.{accepted, Rest, Part, _▸_, nothing, ask, keep, fits, numeral, textLine, textLines, factList, withCounts, putCost, editionLine, varsLine, domLine, initLine, goalLine, operatorFields, opsLine, opLines, mapClasses, mapsLine, mapLines, amounts, shareLines, taskLines, theEnd, noTask, verdict}
 use Rattle.grammar.specs.Spelling.{digits, joined, numbers, someFacts, keyed, stacked, opText, mapText, shareText, spelled, changed, rowPut, factRow}
 use Rattle.grammar.proofs.Runs.{within-both}
 use Rattle.grammar.proofs.SpellFacts.{on, Knows, knows-row, knows-facts, knows-changed}
@@ -63,10 +63,10 @@ shares-back : (O M l : ℕ) (T W : Tables) (t : List ℕ) → T .counts .ops ≡
     → (share : ℕ → ℕ → ℕ) × (t ≡ sharesSpelled O M share)
 unfolding shareLines ask
 shares-back O M l T W t a b h =
-    let p : ℕ → Part = λ m. line "share=" (amounts m O) in
+    let p : ℕ → Part = λ m. textLine "share=" (amounts m O) in
     let r = lines-back (ℕ → ℕ) (λ o. 0) p (λ m f. keyed "share=" (shareText f O)) (λ m f. onShares (rowPut (sharePlace m) f O)) (λ U. Unit {0}) (λ i f U u. tt)
     (λ m i U u. line-back (ℕ → ℕ) "share=" (amounts m O) i U (λ f. shareText f O) (λ f. onShares (rowPut (sharePlace m) f O) U) (amounts-back m O i U)) M 0 l T tt t theEnd W
-    (ap₂ (λ (x y : ℕ). lines (λ m. line "share=" (amounts m x)) y 0 t l T theEnd) (sym a) (sym b) ∙ h) in
+    (ap₂ (λ (x y : ℕ). textLines (λ m. textLine "share=" (amounts m x)) y 0 t l T theEnd) (sym a) (sym b) ∙ h) in
     (r .what, r .says ∙ ap (λ (u : List ℕ). sharesSpelled O M (r .what) ++ u) (end-back (r .rest) _ _ W (r .then)) ∙ append-nil _)
 
 module _ (N : ℕ) (dom : ℕ → ℕ) (O : ℕ) where
@@ -81,9 +81,9 @@ module _ (N : ℕ) (dom : ℕ → ℕ) (O : ℕ) where
       let P : Tables → Type 0 = λ U. Knows N dom U × (U .counts .ops ≡ O) × (U .counts .maps ≡ M) in
       let keeps : (m : ℕ) (f : ℕ → ℕ → ℕ) (U : Tables) → P U → P (mapStored m f U) =
       λ m f U u. (knows-changed (λ v. rowPut (classPlace m v) (f v) (dom v)) (λ v X. knows-row (classPlace m v) (f v) (λ j. omega arith) (dom v) X) N 0 U (u .0), u .1, u .2) in
-      let c = lines-back (ℕ → ℕ → ℕ) (λ v x. 0) (λ m. line "map=" (mapClasses m)) (λ m f. keyed "map=" (mapSpelled N dom f)) mapStored P keeps
+      let c = lines-back (ℕ → ℕ → ℕ) (λ v x. 0) (λ m. textLine "map=" (mapClasses m)) (λ m f. keyed "map=" (mapSpelled N dom f)) mapStored P keeps
       (λ m i U u. line-back (ℕ → ℕ → ℕ) "map=" (mapClasses m) i U (mapSpelled N dom) (λ f. mapStored m f U) (map-back m N dom i U (u .0))) M 0 l T
-      (w, a, b) t k W (ap (λ (y : ℕ). lines (λ m. line "map=" (mapClasses m)) y 0 t l T k) (sym b) ∙ h) in
+      (w, a, b) t k W (ap (λ (y : ℕ). textLines (λ m. textLine "map=" (mapClasses m)) y 0 t l T k) (sym b) ∙ h) in
       let q = kept P (λ m. mapStored m (c .what m)) (λ m U. keeps m (c .what m) U) M 0 T (w, a, b) in
       let d = shares-back O M (l + M) _ W (c .rest) (q .1) (q .2) (c .then) in
       (c .what, d .0, c .says ∙ ap (λ (u : List ℕ). mapsSpelled N dom M (c .what) ++ u) (d .1))
@@ -122,9 +122,9 @@ module _ (N : ℕ) (dom : ℕ → ℕ) where
       let k : Rest = λ u i U. (mapsLine ▸ mapLines ▸ shareLines) u i U theEnd in
       let P : Tables → Type 0 = λ U. Knows N dom U × (U .counts .ops ≡ O) in
       let keeps : (o : ℕ) (b : Op) (U : Tables) → P U → P (opStored N o b U) = λ o b U u. (knows-stored o b U (u .0), u .1) in
-      let c = lines-back Op (record { cost = 0; pre = λ v. 0; eff = λ v. 0 }) (λ o. line "op=" (operator o)) (λ o b. keyed "op=" (opSpelled N b)) (opStored N) P keeps
-      (λ o i U u. line-back Op "op=" (operator o) i U (opSpelled N) (λ b. opStored N o b U) (operator-back N o i U (u .0 .vars))) O 0 l T
-      (w, a) t k W (ap (λ (x : ℕ). lines (λ o. line "op=" (operator o)) x 0 t l T k) (sym a) ∙ h) in
+      let c = lines-back Op (record { cost = 0; pre = λ v. 0; eff = λ v. 0 }) (λ o. textLine "op=" (operatorFields o)) (λ o b. keyed "op=" (opSpelled N b)) (opStored N) P keeps
+      (λ o i U u. line-back Op "op=" (operatorFields o) i U (opSpelled N) (λ b. opStored N o b U) (operator-back N o i U (u .0 .vars))) O 0 l T
+      (w, a) t k W (ap (λ (x : ℕ). textLines (λ o. textLine "op=" (operatorFields o)) x 0 t l T k) (sym a) ∙ h) in
       let q = kept P (λ o. opStored N o (c .what o)) (λ o U. keeps o (c .what o) U) O 0 T (w, a) in
       (c .what, c .rest, maps-back N dom O (l + O) _ W (c .rest) (q .0) (q .1) (c .then), c .says)
 

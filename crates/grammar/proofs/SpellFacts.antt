@@ -16,8 +16,8 @@ use Rattle.scan.specs.declared.Found.{Found}
 use Rattle.tables.specs.Layout.{Tables, domPlace, domAt}
 use Rattle.scan.specs.Scan.{unless, _then_, each}
 use Rattle.grammar.specs.Fields.{isDigit, comma, dash, colon}
-use Rattle.grammar.specs.Grammar.{Verdict, Rest, Part, _▸_, nothing, ask, keep, demand, lit, choice, fits, numeral, putFact, facts, factList}
-use Rattle.grammar.specs.Spelling.{digits, fact, another, moreFacts, first, someFacts, changed, rowPut, factPut, factRow}
+use Rattle.grammar.specs.Grammar.{Verdict, Rest, Part, _▸_, nothing, ask, keep, demand, lit, choice, fits, numeral, putFact, factsFrom, factList}
+use Rattle.grammar.specs.Spelling.{digits, fact, anotherFact, moreFacts, firstFact, someFacts, changed, rowPut, factPut, factRow}
 use Rattle.grammar.proofs.Runs.{Stop, other}
 use Rattle.grammar.proofs.Decimal.{Head, head, digits-head}
 use Rattle.grammar.proofs.SpellParts.{judged, next, Told, demand-told, lit-told, number-told}
@@ -95,14 +95,14 @@ factRule dom F l v = unless (leb (F v) (dom v)) (OutOfRange l)
 module _ (place : ℕ → ℕ) (high : (v : ℕ) → 8 ≤ place v) (F : Facts) (dom : ℕ → ℕ) (N : ℕ) (b : ℕ) (t : List ℕ) (e : Ends b) (l : ℕ) where
   -- one fact
   fact-told : (m least v k : ℕ) (u : List ℕ) (T : Tables) (go : Rest) → Stop u → least ≤ v → v < N → Knows N dom T
-      → facts place (suc m) least (fact v k ++ u) l T go
-      ≡ judged (unless (leb (suc k) (dom v)) (OutOfRange l)) (choice comma (facts place m (suc v)) nothing u l (on (factPut (suc k) (place v)) T) go)
-  unfolding facts fact factPut _▸_ keep
+      → factsFrom place (suc m) least (fact v k ++ u) l T go
+      ≡ judged (unless (leb (suc k) (dom v)) (OutOfRange l)) (choice comma (factsFrom place m (suc v)) nothing u l (on (factPut (suc k) (place v)) T) go)
+  unfolding factsFrom fact factPut _▸_ keep
   fact-told m least v k u T go s p q w =
-      let inner : (x : ℕ) → Part = λ x. keep (putFact (place v) (x + 1)) ▸ choice comma (facts place m (v + 1)) nothing in
+      let inner : (x : ℕ) → Part = λ x. keep (putFact (place v) (x + 1)) ▸ choice comma (factsFrom place m (v + 1)) nothing in
       let outer : (x : ℕ) → Part = λ x. demand (leb least x) NotRising ▸ lit (colon ∷ [])
-      ▸ numeral 0 (domAt (T .facts) x) (λ y. keep (putFact (place x) (y + 1)) ▸ choice comma (facts place m (x + 1)) nothing) in
-      ap (λ (xs : List ℕ). facts place (suc m) least xs l T go) (append-assoc (digits v) (colon ∷ digits k) u)
+      ▸ numeral 0 (domAt (T .facts) x) (λ y. keep (putFact (place x) (y + 1)) ▸ choice comma (factsFrom place m (x + 1)) nothing) in
+      ap (λ (xs : List ℕ). factsFrom place (suc m) least xs l T go) (append-assoc (digits v) (colon ∷ digits k) u)
       ∙ number-told 0 (T .counts .vars) v outer (colon ∷ (digits k ++ u)) l T go (other colon-no-digit)
       ∙ passed _ _ (within-below v (T .counts .vars) ∙ lt-ltb v (T .counts .vars) (omega (arith, w .vars)))
       ∙ demand-told (leb least v) NotRising (colon ∷ (digits k ++ u)) l T _
@@ -110,35 +110,35 @@ module _ (place : ℕ → ℕ) (high : (v : ℕ) → 8 ≤ place v) (F : Facts) 
       ∙ lit-told (colon ∷ []) (digits k ++ u) l T _
       ∙ number-told 0 (domAt (T .facts) v) k inner u l T go s
       ∙ ap (λ (y : Bool). judged (unless y (OutOfRange l)) (inner k u l T go)) (within-below k (domAt (T .facts) v) ∙ ap (ltb k) (w .doms v q))
-      ∙ ap (λ (y : ℕ). judged (unless (ltb k (dom v)) (OutOfRange l)) (choice comma (facts place m (v + 1)) nothing u l (putFact (place v) y T) go)) (add-one k)
-      ∙ ap (λ (y : ℕ). judged (unless (ltb k (dom v)) (OutOfRange l)) (choice comma (facts place m y) nothing u l (putFact (place v) (suc k) T) go)) (add-one v)
+      ∙ ap (λ (y : ℕ). judged (unless (ltb k (dom v)) (OutOfRange l)) (choice comma (factsFrom place m (v + 1)) nothing u l (putFact (place v) y T) go)) (add-one k)
+      ∙ ap (λ (y : ℕ). judged (unless (ltb k (dom v)) (OutOfRange l)) (choice comma (factsFrom place m y) nothing u l (putFact (place v) (suc k) T) go)) (add-one v)
 
   -- the facts after the first
   abbrev MoreTold : ℕ → ℕ → Type 0
   MoreTold n v = (m least : ℕ) → n ≤ m → least ≤ v → (T : Tables) → Knows N dom T
-      → Told (choice comma (facts place m least) nothing) (moreFacts F n v) (b ∷ t) l T (each (factRule dom F l) n v) (on (changed (λ v. factPut (F v) (place v)) n v) T)
+      → Told (choice comma (factsFrom place m least) nothing) (moreFacts F n v) (b ∷ t) l T (each (factRule dom F l) n v) (on (changed (λ v. factPut (F v) (place v)) n v) T)
 
-  stop-another : (x v : ℕ) (u : List ℕ) → Stop u → Stop (another x v ++ u)
-  unfolding another isDigit
+  stop-another : (x v : ℕ) (u : List ℕ) → Stop u → Stop (anotherFact x v ++ u)
+  unfolding anotherFact isDigit
   stop-another zero v u s = s
   stop-another (suc k) v u s = other refl
 
   stop-more : (n v : ℕ) → Stop (moreFacts F n v ++ b ∷ t)
   unfolding moreFacts
   stop-more zero v = other (e .no-digit)
-  stop-more (suc n) v = rw (append-assoc (another (F v) v) (moreFacts F n (suc v)) (b ∷ t)) (stop-another (F v) v _ (stop-more n (suc v)))
+  stop-more (suc n) v = rw (append-assoc (anotherFact (F v) v) (moreFacts F n (suc v)) (b ∷ t)) (stop-another (F v) v _ (stop-more n (suc v)))
 
   more-next : (n v : ℕ) → MoreTold n (suc v) → v + suc n ≡ N → (x m least : ℕ) → suc n ≤ m → least ≤ v → (T : Tables) → Knows N dom T → (k : Rest)
-      → choice comma (facts place m least) nothing ((another x v ++ moreFacts F n (suc v)) ++ b ∷ t) l T k
+      → choice comma (factsFrom place m least) nothing ((anotherFact x v ++ moreFacts F n (suc v)) ++ b ∷ t) l T k
       ≡ judged (unless (leb x (dom v)) (OutOfRange l) then each (factRule dom F l) n (suc v)) (k (b ∷ t) l (on (changed (λ v. factPut (F v) (place v)) n (suc v)) (on (factPut x (place v)) T)))
-  unfolding choice another factPut
+  unfolding choice anotherFact factPut
   more-next n v ih r zero m least p q T w k =
       ih m least (omega arith) (omega arith) T w k
       ∙ sym (unsaid (OutOfRange l) _ _ (dom v))
   more-next n v ih r (suc x) zero least p q T w k = absurd (let z : ⊥ = omega arith in z)
   more-next n v ih r (suc x) (suc m) least p q T w k =
       next (unless (leb (suc x) (dom v)) (OutOfRange l)) (each (factRule dom F l) n (suc v)) _
-      (ap (λ (xs : List ℕ). facts place (suc m) least xs l T k) (append-assoc (fact v x) (moreFacts F n (suc v)) (b ∷ t))
+      (ap (λ (xs : List ℕ). factsFrom place (suc m) least xs l T k) (append-assoc (fact v x) (moreFacts F n (suc v)) (b ∷ t))
       ∙ fact-told m least v x (moreFacts F n (suc v) ++ b ∷ t) T k (stop-more n (suc v)) q (omega arith) w)
       (λ c. ih m (suc v) (omega arith) (omega arith) (on (factPut (suc x) (place v)) T) (knows-said T (suc x) (place v) (high v) w) k)
 
@@ -152,7 +152,7 @@ module _ (place : ℕ → ℕ) (high : (v : ℕ) → 8 ≤ place v) (F : Facts) 
   unfolding choice
   not-dash p q (head {b = c} x y) u T k = rw (ne-eqb c dash (λ z. omega arith)) refl
 
-  begun : (v x : ℕ) (u : List ℕ) (T : Tables) (k : Rest) → factList place (fact v x ++ u) l T k ≡ facts place (T .counts .vars) 0 (fact v x ++ u) l T k
+  begun : (v x : ℕ) (u : List ℕ) (T : Tables) (k : Rest) → factList place (fact v x ++ u) l T k ≡ factsFrom place (T .counts .vars) 0 (fact v x ++ u) l T k
   unfolding factList ask fact
   begun v x u T k = rw (append-assoc (digits v) (colon ∷ digits x) u) (not-dash nothing _ (digits-head v) (colon ∷ digits x ++ u) T k)
 
@@ -161,9 +161,9 @@ module _ (place : ℕ → ℕ) (high : (v : ℕ) → 8 ≤ place v) (F : Facts) 
       → Told (factList place) (someFacts F n v) (b ∷ t) l T (each (factRule dom F l) n v) (on (changed (λ v. factPut (F v) (place v)) n v) T)
 
   some-next : (n v : ℕ) → SomeTold n (suc v) → v + suc n ≡ N → (x : ℕ) (T : Tables) → Knows N dom T → (k : Rest)
-      → factList place (first x v (moreFacts F n (suc v)) (someFacts F n (suc v)) ++ b ∷ t) l T k
+      → factList place (firstFact x v (moreFacts F n (suc v)) (someFacts F n (suc v)) ++ b ∷ t) l T k
       ≡ judged (unless (leb x (dom v)) (OutOfRange l) then each (factRule dom F l) n (suc v)) (k (b ∷ t) l (on (changed (λ v. factPut (F v) (place v)) n (suc v)) (on (factPut x (place v)) T)))
-  unfolding first factPut
+  unfolding firstFact factPut
   some-next n v ih r zero T w k =
       ih T w k
       ∙ sym (unsaid (OutOfRange l) _ _ (dom v))
@@ -171,7 +171,7 @@ module _ (place : ℕ → ℕ) (high : (v : ℕ) → 8 ≤ place v) (F : Facts) 
       next (unless (leb (suc x) (dom v)) (OutOfRange l)) (each (factRule dom F l) n (suc v)) _
       (ap (λ (xs : List ℕ). factList place xs l T k) (append-assoc (fact v x) (moreFacts F n (suc v)) (b ∷ t))
       ∙ begun v x (moreFacts F n (suc v) ++ b ∷ t) T k
-      ∙ ap (λ (m : ℕ). facts place m 0 (fact v x ++ (moreFacts F n (suc v) ++ b ∷ t)) l T k) (w .vars ∙ size)
+      ∙ ap (λ (m : ℕ). factsFrom place m 0 (fact v x ++ (moreFacts F n (suc v) ++ b ∷ t)) l T k) (w .vars ∙ size)
       ∙ fact-told (v + n) 0 v x (moreFacts F n (suc v) ++ b ∷ t) T k (stop-more n (suc v)) (omega arith) (omega arith) w)
       (λ c. more-told n (suc v) (omega arith) (v + n) (suc v) (omega arith) (omega arith) (on (factPut (suc x) (place v)) T) (knows-said T (suc x) (place v) (high v) w) k)
     where

@@ -14,7 +14,7 @@ use Rattle.tables.specs.Layout.{Tables, domAt, domPlace, initPlace, goalPlace, 
 use Rattle.scan.specs.Scan.{unless, _then_, each, factsFault, operatorFault, mapFault, sharesFault, within as scanWithin}
 use Rattle.grammar.specs.Fields.{edition, isDigit, lineEnd, dash, semicolon}
 use Rattle.meaning.specs.Limits.{mostValues, mostCost}
-use Rattle.grammar.specs.Grammar.{Rest, Part, _▸_, nothing, keep, lit, fits, numeral, line, factList, withCounts, putCost, putShare, editionLine, varsLine, domLine, initLine, goalLine, opsLine, operator, mapsLine, mapClasses, amounts}
+use Rattle.grammar.specs.Grammar.{Rest, Part, _▸_, nothing, keep, lit, fits, numeral, textLine, factList, withCounts, putCost, putShare, editionLine, varsLine, domLine, initLine, goalLine, opsLine, operatorFields, mapsLine, mapClasses, amounts}
 use Rattle.grammar.specs.Spelling.{digits, numbers, someFacts, keyed, opText, mapText, shareText, changed, rowPut, factRow, opRows, mapRows}
 use Rattle.grammar.proofs.Runs.{other}
 use Rattle.grammar.proofs.SpellParts.{judged, next, Told, ToldLine, lit-told, number-told, row-told, line-told}
@@ -61,7 +61,7 @@ module _ (rest : List ℕ) (l : ℕ) (T : Tables) where
   edition-told = line-told "edition=" _ (digits edition) rest l T T Clean (count-told edition edition edition (λ e. nothing) rest l T T true refl (λ k. refl))
 
   count-line : (key : String) (least most v : ℕ) (f : ℕ → Tables → Tables) (test : Bool) → fits v least (suc most) ≡ test
-      → ToldLine (line key (numeral least (suc most) (λ n. keep (f n)))) (keyed key (digits v)) rest l T (unless test (OutOfRange l)) (f v T)
+      → ToldLine (textLine key (numeral least (suc most) (λ n. keep (f n)))) (keyed key (digits v)) rest l T (unless test (OutOfRange l)) (f v T)
   unfolding keep
   count-line key least most v f test e =
       line-told key (numeral least (suc most) (λ n. keep (f n))) (digits v) rest l T (f v T) (unless test (OutOfRange l))
@@ -142,23 +142,23 @@ module _ (τ : Task) (o : ℕ) (T : Tables) (w : Knows (τ .sas .vars) (τ .sas 
       (record { vars = w .vars; few = w .few; doms = w .doms }) _)
       (λ c. eff-told k)
 
-  operator-told : Told (operator o) (opText τ o) (lineEnd ∷ rest) (lineOfOp o) T (operatorFault τ o) (opChange τ o T)
-  unfolding operator opText operatorFault _▸_ keep
+  operator-told : Told (operatorFields o) (opText τ o) (lineEnd ∷ rest) (lineOfOp o) T (operatorFault τ o) (opChange τ o T)
+  unfolding operatorFields opText operatorFault _▸_ keep
   operator-told k =
       let e : opText τ o ++ lineEnd ∷ rest ≡ digits (τ .sas .cost o) ++ (semicolon ∷ prePart) = simp append-assoc in
       next (unless (leb (τ .sas .cost o) 1000000) (OutOfRange (lineOfOp o))) (factsFault τ (τ .sas .pre o) (lineOfOp o) then factsFault τ (τ .sas .eff o) (lineOfOp o)) _
-      (ap (λ (t : List ℕ). operator o t (lineOfOp o) T k) e
+      (ap (λ (t : List ℕ). operatorFields o t (lineOfOp o) T k) e
       ∙ number-told 0 (mostCost + 1) (τ .sas .cost o) _ (semicolon ∷ prePart) (lineOfOp o) T _ (other (semicolon-ends .no-digit))
       ∙ rw (within-most (τ .sas .cost o) 1000000) refl)
       (λ c. pre-told k)
 
-  pub op-told : ToldLine (line "op=" (operator o)) (keyed "op=" (opText τ o)) rest (lineOfOp o) T (operatorFault τ o) (opChange τ o T)
-  op-told = line-told "op=" (operator o) (opText τ o) rest (lineOfOp o) T (opChange τ o T) (operatorFault τ o) operator-told
+  pub op-told : ToldLine (textLine "op=" (operatorFields o)) (keyed "op=" (opText τ o)) rest (lineOfOp o) T (operatorFault τ o) (opChange τ o T)
+  op-told = line-told "op=" (operatorFields o) (opText τ o) rest (lineOfOp o) T (opChange τ o T) (operatorFault τ o) operator-told
 
 -- ---- map=
 
 pub map-told : (τ : Task) → Small τ → (m : ℕ) → m < τ .maps → (T : Tables) → Ready τ T → (rest : List ℕ)
-    → ToldLine (line "map=" (mapClasses m)) (keyed "map=" (mapText τ m)) rest (lineOfMap (τ .sas .ops) m) T (mapFault τ m) (on (mapRows τ m) T)
+    → ToldLine (textLine "map=" (mapClasses m)) (keyed "map=" (mapText τ m)) rest (lineOfMap (τ .sas .ops) m) T (mapFault τ m) (on (mapRows τ m) T)
 unfolding mapFault
 map-told τ s m a T w rest =
     line-told "map=" (mapClasses m) (mapText τ m) rest (lineOfMap (τ .sas .ops) m) T (on (mapRows τ m) T) (mapFault τ m)
@@ -184,7 +184,7 @@ amounts-told share m (suc n) rest l T k =
     ∙ ap (λ (U : Tables). judged (each (λ o. unless (leb (share o) 1000000) (OutOfRange l)) (suc n) 0) (k (lineEnd ∷ rest) l U)) (shares-changed (λ o x. set x (sharePlace m o) (share o)) (suc n) 0 T)
 
 pub share-told : (τ : Task) (m : ℕ) (T : Tables) (rest : List ℕ)
-    → ToldLine (line "share=" (amounts m (τ .sas .ops))) (keyed "share=" (shareText (τ .share m) (τ .sas .ops))) rest (lineOfShares (τ .sas .ops) (τ .maps) m) T (sharesFault τ m) (onShares (rowPut (sharePlace m) (τ .share m) (τ .sas .ops)) T)
+    → ToldLine (textLine "share=" (amounts m (τ .sas .ops))) (keyed "share=" (shareText (τ .share m) (τ .sas .ops))) rest (lineOfShares (τ .sas .ops) (τ .maps) m) T (sharesFault τ m) (onShares (rowPut (sharePlace m) (τ .share m) (τ .sas .ops)) T)
 unfolding sharesFault
 share-told τ m T rest =
     line-told "share=" (amounts m (τ .sas .ops)) (shareText (τ .share m) (τ .sas .ops)) rest (lineOfShares (τ .sas .ops) (τ .maps) m) T _ (sharesFault τ m)

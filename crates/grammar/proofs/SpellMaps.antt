@@ -19,7 +19,7 @@ use Rattle.tables.specs.Task.{sasOf, taskOf}
 use Rattle.tables.specs.Classes.{noneMissing}
 use Rattle.scan.specs.Scan.{unless, _then_, each, classesFault}
 use Rattle.grammar.specs.Fields.{isDigit, comma, slash}
-use Rattle.grammar.specs.Grammar.{Rest, Part, _▸_, nothing, ask, demand, fits, parted, row as numberRow, putFact, classList, classLists, mapClasses}
+use Rattle.grammar.specs.Grammar.{Rest, Part, _▸_, nothing, ask, demand, fits, parted, numberRow, putFact, classList, classLists, mapClasses}
 use Rattle.grammar.specs.Spelling.{digits, gap, joined, numbers, mapText, changed, rowPut, mapRows}
 use Rattle.grammar.proofs.Runs.{Stop, other}
 use Rattle.grammar.proofs.SpellParts.{judged, next, Told, demand-told, parted-told, row-told, joined-none, joined-front}

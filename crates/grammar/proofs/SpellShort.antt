@@ -10,9 +10,9 @@ use borrow.Author.Tests.{ltb-true, ltb-false}
 use Rattle.meaning.specs.Sas.{Facts}
 use Rattle.meaning.specs.Split.{Task, Valid}
 use Rattle.tables.proofs.Laws.{by-cases}
-use Rattle.grammar.specs.Fields.{edition, bytes, comma, slash}
+use Rattle.grammar.specs.Fields.{edition, bytesOf, comma, slash}
 use Rattle.meaning.specs.Limits.{mostBytes}
-use Rattle.grammar.specs.Spelling.{lastDigits, digits, gap, joined, numbers, fact, another, moreFacts, first, someFacts, keyed, stacked, opText, mapText, shareText, spelled}
+use Rattle.grammar.specs.Spelling.{lastDigits, digits, gap, joined, numbers, fact, anotherFact, moreFacts, firstFact, someFacts, keyed, stacked, opText, mapText, shareText, spelled}
 use Rattle.grammar.proofs.Decimal.{few, many}
 
 -- a number below 10 ^ (d + 1) has at most d + 1 digits
@@ -62,8 +62,8 @@ fact-short : (v x : ℕ) → v < 10 → x < 10 → length (fact v x) ≤ 3
 unfolding fact
 fact-short v x p q = simp length-append (omega (arith, digits-short 0 v p, digits-short 0 x q))
 
-another-short : (x v : ℕ) → v < 10 → x ≤ 10 → length (another x v) ≤ 4
-unfolding another
+another-short : (x v : ℕ) → v < 10 → x ≤ 10 → length (anotherFact x v) ≤ 4
+unfolding anotherFact
 another-short zero v p q = omega arith
 another-short (suc k) v p q = omega (arith, fact-short v k p (omega arith))
 
@@ -75,8 +75,8 @@ module _ (F : Facts) where
       let q = more-short n (suc v) (omega arith) (λ j x y. g j (omega arith) (omega arith)) in
       simp length-append (omega (arith, another-short (F v) v (omega arith) (omega (arith, g v (omega arith) (omega arith))), suc-mul n 4))
 
-  first-short : (x v m : ℕ) (more without : List ℕ) → v < 10 → x ≤ 10 → length more ≤ m → length without ≤ m + 1 → length (first x v more without) ≤ m + 4
-  unfolding first
+  first-short : (x v m : ℕ) (more without : List ℕ) → v < 10 → x ≤ 10 → length more ≤ m → length without ≤ m + 1 → length (firstFact x v more without) ≤ m + 4
+  unfolding firstFact
   first-short zero v m more without p q r s = omega arith
   first-short (suc k) v m more without p q r s = simp length-append (omega (arith, fact-short v k p (omega arith)))
 
@@ -94,7 +94,7 @@ unfolding shareText
 amounts-short f zero h g = omega arith
 amounts-short f (suc n) h g = let p = numbers-short f 6 (suc n) (λ o l. let q = g o l in omega arith) in omega arith
 
-keyed-short : (key : String) (xs : List ℕ) (c b : ℕ) → length (bytes key) ≤ c → length xs ≤ b → length (keyed key xs) ≤ c + b + 1
+keyed-short : (key : String) (xs : List ℕ) (c b : ℕ) → length (bytesOf key) ≤ c → length xs ≤ b → length (keyed key xs) ≤ c + b + 1
 unfolding keyed
 keyed-short key xs c b p q = simp length-append (omega arith)
 

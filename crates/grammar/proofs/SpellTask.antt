@@ -18,7 +18,7 @@ use Rattle.tables.specs.Task.{taskOf}
 use Rattle.scan.specs.Scan.{unless, _then_, each, factsFault, operatorFault, mapFault, sharesFault, splitFault, taskFault, roomy, tablesFault, within as scanWithin}
 use Rattle.scan.proofs.Walks.{rule-held, walk-clean}
 use Rattle.grammar.specs.Fields.{edition}
-use Rattle.grammar.specs.Grammar.{accepted, refused, Rest, Part, _▸_, ask, line, lines, initLine, goalLine, operator, opsLine, opLines, mapsLine, mapClasses, mapLines, amounts, shareLines, taskLines, settled, theEnd, noTask, verdict, putCost}
+use Rattle.grammar.specs.Grammar.{accepted, refused, Rest, Part, _▸_, ask, textLine, textLines, initLine, goalLine, operatorFields, opsLine, opLines, mapsLine, mapClasses, mapLines, amounts, shareLines, taskLines, settled, theEnd, noTask, verdict, putCost}
 use Rattle.grammar.specs.Spelling.{digits, numbers, someFacts, keyed, stacked, opText, mapText, shareText, spelled, textOf, changed, rowPut, opRows, mapRows, headRows, tablesOf, canon}
 use Rattle.grammar.proofs.Runs.{clash}
 use Rattle.grammar.proofs.SpellParts.{judged, next, lines-told}
@@ -88,7 +88,7 @@ module _ (τ : Task) where
   unfolding opLines ask rowPut
   all-ops m f c h rest k w =
       let T = made (τ .sas .vars) (τ .sas .ops) m f c h in
-      lines-told (λ o. line "op=" (operator o)) (λ o. keyed "op=" (opText τ o)) (operatorFault τ) (opChange τ) Known (τ .sas .ops) 7
+      lines-told (λ o. textLine "op=" (operatorFields o)) (λ o. keyed "op=" (opText τ o)) (operatorFault τ) (opChange τ) Known (τ .sas .ops) 7
       (λ o U l. knows-op o U) (λ o U u l v. op-told τ o U v u) (τ .sas .ops) 0 (omega arith) rest T w k
       ∙ ap (λ (U : Tables). judged (each (operatorFault τ) (τ .sas .ops) 0) (k rest (lineOfMaps (τ .sas .ops)) U)) (ops-changed (τ .sas .ops) 0 T)
 
@@ -99,8 +99,8 @@ module _ (τ : Task) where
   all-maps f c h rest k s w =
       let T = made (τ .sas .vars) (τ .sas .ops) (τ .maps) f c h in
       let z : 8 + τ .sas .ops ≡ 8 + τ .sas .ops + 0 = omega arith in
-      let p : ℕ → Part = λ m. line "map=" (mapClasses m) in
-      ap (λ (l : ℕ). lines p (τ .maps) 0 (mapsText ++ rest) l T k) z
+      let p : ℕ → Part = λ m. textLine "map=" (mapClasses m) in
+      ap (λ (l : ℕ). textLines p (τ .maps) 0 (mapsText ++ rest) l T k) z
       ∙ lines-told p (λ m. keyed "map=" (mapText τ m)) (mapFault τ) (λ m. on (mapRows τ m)) (Ready τ) (τ .maps) (8 + τ .sas .ops)
       (λ m U l. ready-map τ m U) (λ m U u l v. map-told τ s m l U v u) (τ .maps) 0 (omega arith) rest T w k
       ∙ ap (λ (l : ℕ). judged (each (mapFault τ) (τ .maps) 0) (k rest (l + τ .maps) (changed (λ m. on (mapRows τ m)) (τ .maps) 0 T))) (sym z)
@@ -113,9 +113,9 @@ module _ (τ : Task) where
   all-shares f c h rest k =
       let T = made (τ .sas .vars) (τ .sas .ops) (τ .maps) f c h in
       let z : 8 + τ .sas .ops + τ .maps ≡ 8 + τ .sas .ops + τ .maps + 0 = omega arith in
-      let p : ℕ → Part = λ m. line "share=" (amounts m (τ .sas .ops)) in
+      let p : ℕ → Part = λ m. textLine "share=" (amounts m (τ .sas .ops)) in
       let g : ℕ → List ℕ → List ℕ = λ m. rowPut (sharePlace m) (τ .share m) (τ .sas .ops) in
-      ap (λ (l : ℕ). lines p (τ .maps) 0 (sharesText ++ rest) l T k) z
+      ap (λ (l : ℕ). textLines p (τ .maps) 0 (sharesText ++ rest) l T k) z
       ∙ lines-told p (λ m. keyed "share=" (shareText (τ .share m) (τ .sas .ops))) (sharesFault τ) (λ m. onShares (g m)) (λ U. Unit {0}) (τ .maps) (8 + τ .sas .ops + τ .maps)
       (λ m U l u. tt) (λ m U u l v. share-told τ m U u) (τ .maps) 0 (omega arith) rest T tt k
       ∙ ap (λ (l : ℕ). judged (each (sharesFault τ) (τ .maps) 0) (k rest (l + τ .maps) (changed (λ m. onShares (g m)) (τ .maps) 0 T))) (sym z)

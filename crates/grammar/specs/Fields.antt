@@ -27,9 +27,9 @@ unfoldable pub isDigit : ℕ → Bool
 isDigit b = cond (leb zeroDigit b) (leb b nineDigit) false
 
 -- the bytes of a text that is written out
-abbrev pub bytes : String → List ℕ
-bytes []ˢ = []
-bytes (c ∷ˢ s) = code c ∷ bytes s
+abbrev pub bytesOf : String → List ℕ
+bytesOf []ˢ = []
+bytesOf (c ∷ˢ s) = code c ∷ bytesOf s
 
 -- the marks between numbers
 abbrev pub lineEnd : ℕ
