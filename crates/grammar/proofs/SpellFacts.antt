@@ -1,4 +1,5 @@
--- A list of facts on what is spelled: the rule of each variable that is named, and the facts in their places. Assumes nothing.
+-- A list of facts on what is spelled: the rule of each variable that is named, and the facts in their places; by induction on the variables still to come.
+-- And on any text: a variable that doesn't rise is told before its colon. Assumes nothing.
 use Prim.Native.Nat.{ℕ, zero, suc, _+_, _≤_, _<_}
 use native.Mathlib.Omega.{arith}
 use native.Mathlib.Numerals.{add-one}
@@ -8,7 +9,7 @@ use mathlib.Core.Bool.{Bool, true, false}
 use lib.Dec.{eqb, leb, ltb}
 use lib.ListN.{set}
 use lib.Seq.{getD-set-other}
-use borrow.Author.Tests.{ne-eqb, le-leb, lt-ltb}
+use borrow.Author.Tests.{ne-eqb, le-leb, lt-leb, lt-ltb}
 use Rattle.refusals.specs.declared.Refusal.{Refusal}
 use Rattle.refusals.specs.declared.Refusal.the-variants.{OutOfRange, NotRising}
 use Rattle.meaning.specs.Sas.{Facts}
@@ -16,17 +17,11 @@ use Rattle.scan.specs.declared.Found.{Found}
 use Rattle.tables.specs.Layout.{Tables, domPlace, domAt}
 use Rattle.scan.specs.Scan.{unless, _then_, each}
 use Rattle.grammar.specs.Fields.{isDigit, comma, dash, colon}
-use Rattle.grammar.specs.Grammar.{Verdict, Rest, Part, _▸_, nothing, ask, keep, demand, lit, choice, fits, numeral, putFact, factsFrom, factList}
+use Rattle.grammar.specs.Grammar.{Verdict, refused, Rest, Part, _▸_, nothing, ask, keep, demand, lit, choice, fits, numeral, putFact, factsFrom, factList}
 use Rattle.grammar.specs.Spelling.{digits, fact, anotherFact, moreFacts, firstFact, someFacts, changed, rowPut, factPut, factRow}
 use Rattle.grammar.proofs.Runs.{Stop, other}
 use Rattle.grammar.proofs.Decimal.{Head, head, digits-head}
 use Rattle.grammar.proofs.SpellParts.{judged, next, Told, demand-told, lit-told, number-told}
-
--- two tests that hold together
-pub same-test : (a b : Bool) → (a ≡ true → b ≡ true) → (b ≡ true → a ≡ true) → a ≡ b
-same-test true b p q = sym (p refl)
-same-test false true p q = q refl
-same-test false false p q = refl
 
 pub within-below : (v n : ℕ) → fits v 0 n ≡ ltb v n
 unfolding fits
@@ -42,6 +37,17 @@ passed r A p = rw p
 
 unsaid : (r : Refusal) (g : Found) (A : Verdict) (d : ℕ) → judged (unless (leb 0 d) r then g) A ≡ judged g A
 unsaid r g A d = rw (le-leb 0 d (omega arith)) refl
+
+-- 4 BEFORE ALL ELSE OF A FACT: whatever stands after the variable
+pub order-first : (place : ℕ → ℕ) (n least v : ℕ) (u : List ℕ) (l : ℕ) (T : Tables) (k : Rest) → Stop u → v < T .counts .vars → v < least
+    → factsFrom place n least (digits v ++ u) l T k ≡ refused (NotRising l)
+unfolding factsFrom _▸_ demand
+order-first place zero least v u l T k s a b =
+    number-told 0 (T .counts .vars) v _ u l T k s ∙ passed _ _ (within-below v (T .counts .vars) ∙ lt-ltb v (T .counts .vars) a)
+order-first place (suc n) least v u l T k s a b =
+    number-told 0 (T .counts .vars) v _ u l T k s
+    ∙ passed _ _ (within-below v (T .counts .vars) ∙ lt-ltb v (T .counts .vars) a)
+    ∙ rw (lt-leb least v b) refl
 
 -- the tables with other facts
 abbrev pub on : (List ℕ → List ℕ) → Tables → Tables

@@ -4,7 +4,7 @@ use Prim.Native.Nat.{ℕ, zero, suc, _+_, _≤_, _<_}
 use native.Mathlib.Omega.{arith}
 use mathlib.Core.Path.{_≡_, refl, sym, ap, ap₂, _∙_}
 use mathlib.Core.List.{List, [], _++_, append-assoc, append-nil}
-use mathlib.Core.Bool.{Bool, true, false, _&&_}
+use mathlib.Core.Bool.{true}
 use lib.Dec.{leb, ltb}
 use lib.ListN.{length, set, replicate, length-replicate}
 use borrow.Author.Tests.{leb-true}
@@ -16,11 +16,11 @@ use Rattle.scan.specs.declared.Found.the-variants.{Clean, Fault}
 use Rattle.tables.specs.Layout.{Tables, factsRoom, costsRoom, sharesRoom, domPlace, initPlace, goalPlace, prePlace, effPlace, sharePlace, shareAt}
 use Rattle.tables.specs.Task.{taskOf}
 use Rattle.scan.specs.Scan.{unless, _then_, each, factsFault, operatorFault, mapFault, sharesFault, splitFault, taskFault, roomy, tablesFault, within as scanWithin}
+use Rattle.scan.proofs.Rules.{within-says}
 use Rattle.scan.proofs.Walks.{rule-held, walk-clean}
 use Rattle.grammar.specs.Fields.{edition}
 use Rattle.grammar.specs.Grammar.{accepted, refused, Rest, Part, _▸_, ask, textLine, textLines, initLine, goalLine, operatorFields, opsLine, opLines, mapsLine, mapClasses, mapLines, amounts, shareLines, taskLines, settled, theEnd, noTask, verdict, putCost}
 use Rattle.grammar.specs.Spelling.{digits, numbers, someFacts, keyed, stacked, opText, mapText, shareText, spelled, textOf, changed, rowPut, opRows, mapRows, headRows, tablesOf, canon}
-use Rattle.grammar.proofs.Runs.{clash}
 use Rattle.grammar.proofs.SpellParts.{judged, next, lines-told}
 use Rattle.grammar.proofs.SpellFacts.{on, on-changed, Knows, knows-row, knows-facts, knows-changed}
 use Rattle.grammar.proofs.SpellTables.{long-changed, writes-row}
@@ -123,12 +123,8 @@ module _ (τ : Task) where
 
 -- ---- the whole text
 
-and-second : (a b : Bool) → (a && b) ≡ true → b ≡ true
-and-second true b p = p
-and-second false b p = clash p refl
-
-pub at-most : (least most x : ℕ) (r : Refusal) → unless (scanWithin least most x) r ≡ Clean → x ≤ most
-at-most least most x r q = leb-true x most (and-second (leb least x) (leb x most) (rule-held (scanWithin least most x) r q))
+at-most : (least most x : ℕ) (r : Refusal) → unless (scanWithin least most x) r ≡ Clean → x ≤ most
+at-most least most x r q = within-says least most x (rule-held (scanWithin least most x) r q) .1
 
 module _ (τ : Task) (f c h : List ℕ) (lf : length f ≡ factsRoom) (lc : length c ≡ costsRoom) (lh : length h ≡ sharesRoom) where
   abbrev mapsFrom : List ℕ
