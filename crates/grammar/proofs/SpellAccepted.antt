@@ -42,7 +42,7 @@ module _ (τ : Task) (s : Small τ) where
   abbrev blank : List ℕ
   blank = replicate factsRoom 0
 
-  module _ (w : List ℕ) (l : length w ≡ 1624) (z : (p : ℕ) → getD w p 0 ≡ 0) where
+  module _ (w : List ℕ) (l : length w ≡ factsRoom) (z : (p : ℕ) → getD w p 0 ≡ 0) where
     abbrev opsIn : List ℕ
     opsIn = changed (opRows τ) (τ .sas .ops) 0 (headRows τ w)
 

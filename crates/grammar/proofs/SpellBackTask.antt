@@ -148,7 +148,7 @@ chain a b c d e f g h i j x u₁ u₂ u₃ u₄ u₅ u₆ p₁ p₂ p₃ p₄ p�
     (p₅ ∙ ap (λ (y : List ℕ). e ++ y) (p₆ ∙ ap (λ (y : List ℕ). f ++ (g ++ y)) p₇)))))
     ∙ simp append-assoc
 
-module _ (f : List ℕ) (lf : length f ≡ 1624) where
+module _ (f : List ℕ) (lf : length f ≡ factsRoom) where
   known-doms : (N : ℕ) (dom : ℕ → ℕ) (T : Tables) → T .facts ≡ f → T .counts .vars ≡ N → N ≤ 8 → Knows N dom (on (rowPut domPlace dom N) T)
   known-doms N dom T e c h =
       record {

@@ -5,6 +5,7 @@ use mathlib.Core.Path.{_≡_, sym, _∙_, subst}
 use mathlib.Core.List.{List, [], _∷_}
 use mathlib.Core.Bool.{Bool, true, false}
 use lib.Dec.{leb, ltb}
+use Rattle.meaning.specs.Limits.{mostVars, mostValues, mostOps, mostCost, mostMaps, mostStates}
 use Rattle.refusals.specs.declared.Refusal.{Refusal}
 use Rattle.refusals.specs.declared.Refusal.the-variants.{OutOfRange, ClassMissing, SharesAboveCost, TooManyStates}
 use Rattle.refusals.specs.Listed.{numberOf}
@@ -23,7 +24,7 @@ use Rattle.grammar.specs.Grammar.{accepted, refused, verdict}
 use Rattle.grammar.specs.Spelling.{textOf, canon}
 use Rattle.grammar.proofs.SpellParts.{judged}
 use Rattle.grammar.proofs.SpellTask.{scan-is-grammar}
-use Rattle.tables.specs.Lines.{lineOfOp, lineOfMaps, lineOfMap, lineOfShares}
+use Rattle.tables.specs.Lines.{lineOfOp, lineOfMaps, lineOfMap, lineOfShares, lineOfVars, lineOfDom, lineOfInit, lineOfGoal, lineOfOps}
 
 -- a refusal for a number, a class, a total or a map's size: 3, 5, 6 or 7
 abbrev pub OfNumbers : Refusal → Type 0
@@ -70,7 +71,7 @@ module _ (T : Task) where
   of-operator o =
       let pre = factsFault T (T .sas .pre o) (lineOfOp o) in
       let eff = factsFault T (T .sas .eff o) (lineOfOp o) in
-      both (unless (leb (T .sas .cost o) 1000000) (OutOfRange (lineOfOp o))) (pre then eff) (range (leb (T .sas .cost o) 1000000) (lineOfOp o))
+      both (unless (leb (T .sas .cost o) mostCost) (OutOfRange (lineOfOp o))) (pre then eff) (range (leb (T .sas .cost o) mostCost) (lineOfOp o))
       (both pre eff (of-facts (T .sas .pre o) (lineOfOp o)) (of-facts (T .sas .eff o) (lineOfOp o)))
 
   of-classes : (m l v : ℕ) → Kind (classesFault T m l v)
@@ -84,13 +85,13 @@ module _ (T : Task) where
   unfolding mapFault
   of-map m =
       let l = lineOfMap (T .sas .ops) m in
-      let few = leb (abstractStates (T .sas) (view T m)) 4096 in
+      let few = leb (abstractStates (T .sas) (view T m)) mostStates in
       both (each (classesFault T m l) (T .sas .vars) 0) (unless few (TooManyStates l)) (walk (classesFault T m l) (of-classes m l) (T .sas .vars) 0)
       (rule few (TooManyStates l) (λ e. omega arith, λ e. omega arith))
 
   of-shares : (m : ℕ) → Kind (sharesFault T m)
   unfolding sharesFault
-  of-shares m = ranges (λ o. leb (T .share m o) 1000000) (lineOfShares (T .sas .ops) (T .maps) m) (T .sas .ops)
+  of-shares m = ranges (λ o. leb (T .share m o) mostCost) (lineOfShares (T .sas .ops) (T .maps) m) (T .sas .ops)
 
   of-split : (o : ℕ) → Kind (splitFault T o)
   unfolding splitFault
@@ -99,13 +100,13 @@ module _ (T : Task) where
   of-task : Kind (taskFault T)
   unfolding taskFault
   of-task =
-      in-order (range (scanWithin 1 8 (T .sas .vars)) 2)
-      (more (ranges (λ v. scanWithin 1 8 (T .sas .dom v)) 3 (T .sas .vars))
-      (more (ranges (λ v. ltb (T .sas .init v) (T .sas .dom v)) 4 (T .sas .vars))
-      (more (of-facts (T .sas .goal) 5)
-      (more (range (leb (T .sas .ops) 64) 6)
+      in-order (range (scanWithin 1 mostVars (T .sas .vars)) lineOfVars)
+      (more (ranges (λ v. scanWithin 1 mostValues (T .sas .dom v)) lineOfDom (T .sas .vars))
+      (more (ranges (λ v. ltb (T .sas .init v) (T .sas .dom v)) lineOfInit (T .sas .vars))
+      (more (of-facts (T .sas .goal) lineOfGoal)
+      (more (range (leb (T .sas .ops) mostOps) lineOfOps)
       (more (walk (operatorFault T) of-operator (T .sas .ops) 0)
-      (more (range (scanWithin 1 8 (T .maps)) (lineOfMaps (T .sas .ops)))
+      (more (range (scanWithin 1 mostMaps (T .maps)) (lineOfMaps (T .sas .ops)))
       (more (walk (mapFault T) of-map (T .maps) 0)
       (more (walk (sharesFault T) of-shares (T .maps) 0)
       (more (walk (splitFault T) of-split (T .sas .ops) 0) none)))))))))

@@ -13,7 +13,7 @@ use Rattle.scan.specs.declared.Found.the-variants.{Clean}
 use Rattle.tables.specs.Layout.{Tables, domAt, domPlace, initPlace, goalPlace, prePlace, effPlace, sharePlace}
 use Rattle.scan.specs.Scan.{unless, _then_, each, factsFault, operatorFault, mapFault, sharesFault, within as scanWithin}
 use Rattle.grammar.specs.Fields.{edition, isDigit, lineEnd, dash, semicolon}
-use Rattle.meaning.specs.Limits.{mostValues, mostCost}
+use Rattle.meaning.specs.Limits.{mostValues, mostCost, mostVars, mostOps, mostMaps}
 use Rattle.grammar.specs.Grammar.{Rest, Part, _▸_, nothing, keep, lit, fits, numeral, textLine, factList, withCounts, putCost, putShare, editionLine, varsLine, domLine, initLine, goalLine, opsLine, operatorFields, mapsLine, mapClasses, amounts}
 use Rattle.grammar.specs.Spelling.{digits, numbers, someFacts, keyed, opText, mapText, shareText, changed, rowPut, factRow, opRows, mapRows}
 use Rattle.grammar.proofs.Runs.{other}
@@ -67,29 +67,29 @@ module _ (rest : List ℕ) (l : ℕ) (T : Tables) where
       line-told key (numeral least (suc most) (λ n. keep (f n))) (digits v) rest l T (f v T) (unless test (OutOfRange l))
       (count-told least most v (λ n. keep (f n)) rest l T (f v T) test e (λ k. refl))
 
-  pub vars-told : (n : ℕ) → ToldLine varsLine (keyed "vars=" (digits n)) rest l T (unless (scanWithin 1 8 n) (OutOfRange l)) (withCounts n (T .counts .ops) (T .counts .maps) T)
+  pub vars-told : (n : ℕ) → ToldLine varsLine (keyed "vars=" (digits n)) rest l T (unless (scanWithin 1 mostVars n) (OutOfRange l)) (withCounts n (T .counts .ops) (T .counts .maps) T)
   unfolding varsLine
-  vars-told n = count-line "vars=" 1 8 n _ (scanWithin 1 8 n) (within-range n 1 8)
+  vars-told n = count-line "vars=" 1 mostVars n _ (scanWithin 1 mostVars n) (within-range n 1 mostVars)
 
-  pub ops-told : (n : ℕ) → ToldLine opsLine (keyed "ops=" (digits n)) rest l T (unless (leb n 64) (OutOfRange l)) (withCounts (T .counts .vars) n (T .counts .maps) T)
+  pub ops-told : (n : ℕ) → ToldLine opsLine (keyed "ops=" (digits n)) rest l T (unless (leb n mostOps) (OutOfRange l)) (withCounts (T .counts .vars) n (T .counts .maps) T)
   unfolding opsLine
-  ops-told n = count-line "ops=" 0 64 n _ (leb n 64) (within-most n 64)
+  ops-told n = count-line "ops=" 0 mostOps n _ (leb n mostOps) (within-most n mostOps)
 
-  pub maps-told : (n : ℕ) → ToldLine mapsLine (keyed "maps=" (digits n)) rest l T (unless (scanWithin 1 8 n) (OutOfRange l)) (withCounts (T .counts .vars) (T .counts .ops) n T)
+  pub maps-told : (n : ℕ) → ToldLine mapsLine (keyed "maps=" (digits n)) rest l T (unless (scanWithin 1 mostMaps n) (OutOfRange l)) (withCounts (T .counts .vars) (T .counts .ops) n T)
   unfolding mapsLine
-  maps-told n = count-line "maps=" 1 8 n _ (scanWithin 1 8 n) (within-range n 1 8)
+  maps-told n = count-line "maps=" 1 mostMaps n _ (scanWithin 1 mostMaps n) (within-range n 1 mostMaps)
 
 -- ---- dom=, init= and goal=
 
 module _ (τ : Task) (rest : List ℕ) (l : ℕ) (T : Tables) where
   pub dom-told : T .counts .vars ≡ τ .sas .vars
-      → ToldLine domLine (keyed "dom=" (numbers (τ .sas .dom) (τ .sas .vars))) rest l T (each (λ v. unless (scanWithin 1 8 (τ .sas .dom v)) (OutOfRange l)) (τ .sas .vars) 0)
+      → ToldLine domLine (keyed "dom=" (numbers (τ .sas .dom) (τ .sas .vars))) rest l T (each (λ v. unless (scanWithin 1 mostValues (τ .sas .dom v)) (OutOfRange l)) (τ .sas .vars) 0)
       (on (rowPut domPlace (τ .sas .dom) (τ .sas .vars)) T)
   unfolding domLine
   dom-told e =
-      line-told "dom=" _ (numbers (τ .sas .dom) (τ .sas .vars)) rest l T _ (each (λ v. unless (scanWithin 1 8 (τ .sas .dom v)) (OutOfRange l)) (τ .sas .vars) 0)
-      (row-told-put 1 (λ v U. mostValues + 1) domPlace (τ .sas .dom) (λ v. scanWithin 1 8 (τ .sas .dom v)) (λ U. Unit {0}) (τ .sas .vars)
-      (λ i U h p. tt) (λ i U h p. within-range (τ .sas .dom i) 1 8) (λ U. U .counts .vars) (lineEnd ∷ rest) (other (line-ends .no-digit)) l T e tt)
+      line-told "dom=" _ (numbers (τ .sas .dom) (τ .sas .vars)) rest l T _ (each (λ v. unless (scanWithin 1 mostValues (τ .sas .dom v)) (OutOfRange l)) (τ .sas .vars) 0)
+      (row-told-put 1 (λ v U. mostValues + 1) domPlace (τ .sas .dom) (λ v. scanWithin 1 mostValues (τ .sas .dom v)) (λ U. Unit {0}) (τ .sas .vars)
+      (λ i U h p. tt) (λ i U h p. within-range (τ .sas .dom i) 1 mostValues) (λ U. U .counts .vars) (lineEnd ∷ rest) (other (line-ends .no-digit)) l T e tt)
 
   pub init-told : Knows (τ .sas .vars) (τ .sas .dom) T
       → ToldLine initLine (keyed "init=" (numbers (τ .sas .init) (τ .sas .vars))) rest l T (each (λ v. unless (ltb (τ .sas .init v) (τ .sas .dom v)) (OutOfRange l)) (τ .sas .vars) 0)
@@ -146,10 +146,10 @@ module _ (τ : Task) (o : ℕ) (T : Tables) (w : Knows (τ .sas .vars) (τ .sas 
   unfolding operatorFields opText operatorFault _▸_ keep
   operator-told k =
       let e : opText τ o ++ lineEnd ∷ rest ≡ digits (τ .sas .cost o) ++ (semicolon ∷ prePart) = simp append-assoc in
-      next (unless (leb (τ .sas .cost o) 1000000) (OutOfRange (lineOfOp o))) (factsFault τ (τ .sas .pre o) (lineOfOp o) then factsFault τ (τ .sas .eff o) (lineOfOp o)) _
+      next (unless (leb (τ .sas .cost o) mostCost) (OutOfRange (lineOfOp o))) (factsFault τ (τ .sas .pre o) (lineOfOp o) then factsFault τ (τ .sas .eff o) (lineOfOp o)) _
       (ap (λ (t : List ℕ). operatorFields o t (lineOfOp o) T k) e
       ∙ number-told 0 (mostCost + 1) (τ .sas .cost o) _ (semicolon ∷ prePart) (lineOfOp o) T _ (other (semicolon-ends .no-digit))
-      ∙ rw (within-most (τ .sas .cost o) 1000000) refl)
+      ∙ rw (within-most (τ .sas .cost o) mostCost) refl)
       (λ c. pre-told k)
 
   pub op-told : ToldLine (textLine "op=" (operatorFields o)) (keyed "op=" (opText τ o)) rest (lineOfOp o) T (operatorFault τ o) (opChange τ o T)
@@ -175,13 +175,13 @@ shares-changed g zero i T = refl
 shares-changed g (suc n) i T = shares-changed g n (suc i) (onShares (g i) T)
 
 amounts-told : (share : ℕ → ℕ) (m n : ℕ) (rest : List ℕ) (l : ℕ) (T : Tables)
-    → Told (amounts m n) (shareText share n) (lineEnd ∷ rest) l T (each (λ o. unless (leb (share o) 1000000) (OutOfRange l)) n 0) (onShares (rowPut (sharePlace m) share n) T)
+    → Told (amounts m n) (shareText share n) (lineEnd ∷ rest) l T (each (λ o. unless (leb (share o) mostCost) (OutOfRange l)) n 0) (onShares (rowPut (sharePlace m) share n) T)
 unfolding amounts shareText rowPut numbers each changed
 amounts-told share m zero rest l T k = lit-told (dash ∷ []) (lineEnd ∷ rest) l T k
 amounts-told share m (suc n) rest l T k =
-    row-told 0 (λ o U. mostCost + 1) (λ o x. putShare (sharePlace m o) x) share (λ o. leb (share o) 1000000) (λ U. Unit {0}) (suc n)
-    (λ i U h p. tt) (λ i U h p. within-most (share i) 1000000) (suc n) 0 (omega arith) (lineEnd ∷ rest) (other (line-ends .no-digit)) l T tt k
-    ∙ ap (λ (U : Tables). judged (each (λ o. unless (leb (share o) 1000000) (OutOfRange l)) (suc n) 0) (k (lineEnd ∷ rest) l U)) (shares-changed (λ o x. set x (sharePlace m o) (share o)) (suc n) 0 T)
+    row-told 0 (λ o U. mostCost + 1) (λ o x. putShare (sharePlace m o) x) share (λ o. leb (share o) mostCost) (λ U. Unit {0}) (suc n)
+    (λ i U h p. tt) (λ i U h p. within-most (share i) mostCost) (suc n) 0 (omega arith) (lineEnd ∷ rest) (other (line-ends .no-digit)) l T tt k
+    ∙ ap (λ (U : Tables). judged (each (λ o. unless (leb (share o) mostCost) (OutOfRange l)) (suc n) 0) (k (lineEnd ∷ rest) l U)) (shares-changed (λ o x. set x (sharePlace m o) (share o)) (suc n) 0 T)
 
 pub share-told : (τ : Task) (m : ℕ) (T : Tables) (rest : List ℕ)
     → ToldLine (textLine "share=" (amounts m (τ .sas .ops))) (keyed "share=" (shareText (τ .share m) (τ .sas .ops))) rest (lineOfShares (τ .sas .ops) (τ .maps) m) T (sharesFault τ m) (onShares (rowPut (sharePlace m) (τ .share m) (τ .sas .ops)) T)

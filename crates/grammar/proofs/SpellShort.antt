@@ -11,7 +11,7 @@ use Rattle.meaning.specs.Sas.{Facts}
 use Rattle.meaning.specs.Split.{Task, Valid}
 use Rattle.tables.proofs.Laws.{by-cases}
 use Rattle.grammar.specs.Fields.{edition, bytesOf, comma, slash}
-use Rattle.meaning.specs.Limits.{mostBytes}
+use Rattle.meaning.specs.Limits.{mostBytes, mostCost}
 use Rattle.grammar.specs.Spelling.{lastDigits, digits, gap, joined, numbers, fact, anotherFact, moreFacts, firstFact, someFacts, keyed, stacked, opText, mapText, shareText, spelled}
 use Rattle.grammar.proofs.Decimal.{few, many}
 
@@ -89,7 +89,7 @@ module _ (F : Facts) where
       let r = first-short (F v) v (n * 4) (moreFacts F n (suc v)) (someFacts F n (suc v)) (omega arith) (omega (arith, g v (omega arith) (omega arith))) p q in
       omega (arith, suc-mul n 4)
 
-amounts-short : (f : ℕ → ℕ) (n : ℕ) → n ≤ 64 → ((o : ℕ) → o < n → f o ≤ 1000000) → length (shareText f n) ≤ 512
+amounts-short : (f : ℕ → ℕ) (n : ℕ) → n ≤ 64 → ((o : ℕ) → o < n → f o ≤ mostCost) → length (shareText f n) ≤ 512
 unfolding shareText
 amounts-short f zero h g = omega arith
 amounts-short f (suc n) h g = let p = numbers-short f 6 (suc n) (λ o l. let q = g o l in omega arith) in omega arith

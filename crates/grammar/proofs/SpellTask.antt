@@ -8,6 +8,7 @@ use mathlib.Core.Bool.{true}
 use lib.Dec.{leb, ltb}
 use lib.ListN.{length, set, replicate, length-replicate}
 use borrow.Author.Tests.{leb-true}
+use Rattle.meaning.specs.Limits.{mostVars, mostValues, mostOps, mostMaps}
 use Rattle.refusals.specs.declared.Refusal.{Refusal}
 use Rattle.refusals.specs.declared.Refusal.the-variants.{OutOfRange, SharesAboveCost}
 use Rattle.meaning.specs.Split.{Task}
@@ -28,7 +29,7 @@ use Rattle.grammar.proofs.SpellOwn.{Small, long-head, long-op, costs-ow
 use Rattle.grammar.proofs.SpellClasses.{sum-same, each-same}
 use Rattle.grammar.proofs.SpellMaps.{Ready, ready-map}
 use Rattle.grammar.proofs.SpellLines.{edition-told, vars-told, dom-told, init-told, goal-told, ops-told, opChange, op-told, maps-told, map-told, onShares, shares-changed, share-told}
-use Rattle.tables.specs.Lines.{lineOfOp, lineOfMaps}
+use Rattle.tables.specs.Lines.{lineOfOp, lineOfMaps, lineOfVars, lineOfDom, lineOfInit, lineOfGoal, lineOfOps}
 
 -- ---- after all else: shares against costs
 
@@ -161,31 +162,31 @@ module _ (τ : Task) (f c h : List ℕ) (lf : length f ≡ factsRoom) (lc : leng
       (all-shares τ (mapsDone τ g) (costsDone τ c) h [] theEnd)
       (λ r. end-told g _ s))
 
-  maps-from : (g : List ℕ) (m : ℕ) → τ .sas .vars ≤ 8 → ((v : ℕ) → v < τ .sas .vars → τ .sas .dom v ≤ 8) → τ .sas .ops ≤ 64 → Ready τ (made (τ .sas .vars) (τ .sas .ops) m g (costsDone τ c) h)
+  maps-from : (g : List ℕ) (m : ℕ) → τ .sas .vars ≤ mostVars → ((v : ℕ) → v < τ .sas .vars → τ .sas .dom v ≤ mostValues) → τ .sas .ops ≤ mostOps → Ready τ (made (τ .sas .vars) (τ .sas .ops) m g (costsDone τ c) h)
       → (mapsLine ▸ mapLines ▸ shareLines) (keyed "maps=" (digits (τ .maps)) ++ mapsFrom) (lineOfMaps (τ .sas .ops)) (made (τ .sas .vars) (τ .sas .ops) m g (costsDone τ c) h) theEnd
-      ≡ judged (unless (scanWithin 1 8 (τ .maps)) (OutOfRange (lineOfMaps (τ .sas .ops))) then tailRules) (accepted (finished g))
+      ≡ judged (unless (scanWithin 1 mostMaps (τ .maps)) (OutOfRange (lineOfMaps (τ .sas .ops))) then tailRules) (accepted (finished g))
   unfolding _▸_
   maps-from g m a d b w =
       let z : 7 + τ .sas .ops + 1 ≡ 8 + τ .sas .ops = omega arith in
-      next (unless (scanWithin 1 8 (τ .maps)) (OutOfRange (lineOfMaps (τ .sas .ops)))) tailRules _
+      next (unless (scanWithin 1 mostMaps (τ .maps)) (OutOfRange (lineOfMaps (τ .sas .ops)))) tailRules _
       (maps-told mapsFrom (lineOfMaps (τ .sas .ops)) (made (τ .sas .vars) (τ .sas .ops) m g (costsDone τ c) h) (τ .maps) _)
       (λ q.
       ap (λ (l : ℕ). (mapLines ▸ shareLines) mapsFrom l (made (τ .sas .vars) (τ .sas .ops) (τ .maps) g (costsDone τ c) h) theEnd) z
-      ∙ tail-told g (record { vars = a; doms = d; ops = b; maps = at-most 1 8 (τ .maps) (OutOfRange (lineOfMaps (τ .sas .ops))) q }) (record { vars = refl; few = w .0 .few; doms = w .0 .doms }, w .1))
+      ∙ tail-told g (record { vars = a; doms = d; ops = b; maps = at-most 1 mostMaps (τ .maps) (OutOfRange (lineOfMaps (τ .sas .ops))) q }) (record { vars = refl; few = w .0 .few; doms = w .0 .doms }, w .1))
 
   abbrev opsRules : Found
-  opsRules = each (operatorFault τ) (τ .sas .ops) 0 then unless (scanWithin 1 8 (τ .maps)) (OutOfRange (lineOfMaps (τ .sas .ops))) then tailRules
+  opsRules = each (operatorFault τ) (τ .sas .ops) 0 then unless (scanWithin 1 mostMaps (τ .maps)) (OutOfRange (lineOfMaps (τ .sas .ops))) then tailRules
 
-  ops-from : (g : List ℕ) (m o : ℕ) → length g ≡ factsRoom → τ .sas .vars ≤ 8 → ((v : ℕ) → v < τ .sas .vars → τ .sas .dom v ≤ 8) → Known τ (made (τ .sas .vars) o m g c h)
-      → (opsLine ▸ opLines ▸ mapsLine ▸ mapLines ▸ shareLines) (keyed "ops=" (digits (τ .sas .ops)) ++ opsFrom) 6 (made (τ .sas .vars) o m g c h) theEnd
-      ≡ judged (unless (leb (τ .sas .ops) 64) (OutOfRange 6) then opsRules) (accepted (finished (opsDone τ g)))
+  ops-from : (g : List ℕ) (m o : ℕ) → length g ≡ factsRoom → τ .sas .vars ≤ mostVars → ((v : ℕ) → v < τ .sas .vars → τ .sas .dom v ≤ mostValues) → Known τ (made (τ .sas .vars) o m g c h)
+      → (opsLine ▸ opLines ▸ mapsLine ▸ mapLines ▸ shareLines) (keyed "ops=" (digits (τ .sas .ops)) ++ opsFrom) lineOfOps (made (τ .sas .vars) o m g c h) theEnd
+      ≡ judged (unless (leb (τ .sas .ops) mostOps) (OutOfRange lineOfOps) then opsRules) (accepted (finished (opsDone τ g)))
   unfolding _▸_
   ops-from g m o lg a d w =
-      next (unless (leb (τ .sas .ops) 64) (OutOfRange 6)) opsRules _
-      (ops-told opsFrom 6 (made (τ .sas .vars) o m g c h) (τ .sas .ops) _)
-      (λ q. next (each (operatorFault τ) (τ .sas .ops) 0) (unless (scanWithin 1 8 (τ .maps)) (OutOfRange (lineOfMaps (τ .sas .ops))) then tailRules) _
+      next (unless (leb (τ .sas .ops) mostOps) (OutOfRange lineOfOps)) opsRules _
+      (ops-told opsFrom lineOfOps (made (τ .sas .vars) o m g c h) (τ .sas .ops) _)
+      (λ q. next (each (operatorFault τ) (τ .sas .ops) 0) (unless (scanWithin 1 mostMaps (τ .maps)) (OutOfRange (lineOfMaps (τ .sas .ops))) then tailRules) _
       (all-ops τ m g c h (keyed "maps=" (digits (τ .maps)) ++ mapsFrom) _ (record { vars = refl; few = w .few; doms = w .doms }))
-      (λ r. maps-from (opsDone τ g) m a d (leb-true (τ .sas .ops) 64 (rule-held (leb (τ .sas .ops) 64) (OutOfRange 6) q))
+      (λ r. maps-from (opsDone τ g) m a d (leb-true (τ .sas .ops) mostOps (rule-held (leb (τ .sas .ops) mostOps) (OutOfRange lineOfOps) q))
       (known g m w, long-changed (opRows τ) (long-op τ) (τ .sas .ops) 0 g ∙ lg)))
     where
       known : (g : List ℕ) (m : ℕ) → Known τ (made (τ .sas .vars) o m g c h) → Known τ (made (τ .sas .vars) (τ .sas .ops) m (opsDone τ g) (costsDone τ c) h)
@@ -203,18 +204,18 @@ module _ (τ : Task) (f c h : List ℕ) (lf : length f ≡ factsRoom) (lc : leng
   goalFrom = keyed "goal=" (someFacts (τ .sas .goal) (τ .sas .vars) 0) ++ (keyed "ops=" (digits (τ .sas .ops)) ++ opsFrom)
 
   abbrev goalRules : Found
-  goalRules = factsFault τ (τ .sas .goal) 5 then unless (leb (τ .sas .ops) 64) (OutOfRange 6) then opsRules
+  goalRules = factsFault τ (τ .sas .goal) lineOfGoal then unless (leb (τ .sas .ops) mostOps) (OutOfRange lineOfOps) then opsRules
 
-  goal-from : (m o : ℕ) → τ .sas .vars ≤ 8 → ((v : ℕ) → v < τ .sas .vars → τ .sas .dom v ≤ 8) → Known τ (made (τ .sas .vars) o m initDone c h)
-      → (goalLine ▸ opsLine ▸ opLines ▸ mapsLine ▸ mapLines ▸ shareLines) goalFrom 5 (made (τ .sas .vars) o m initDone c h) theEnd
+  goal-from : (m o : ℕ) → τ .sas .vars ≤ mostVars → ((v : ℕ) → v < τ .sas .vars → τ .sas .dom v ≤ mostValues) → Known τ (made (τ .sas .vars) o m initDone c h)
+      → (goalLine ▸ opsLine ▸ opLines ▸ mapsLine ▸ mapLines ▸ shareLines) goalFrom lineOfGoal (made (τ .sas .vars) o m initDone c h) theEnd
       ≡ judged goalRules (accepted (finished (opsDone τ (headRows τ f))))
   unfolding _▸_ headRows
   goal-from m o a d w =
-      next (factsFault τ (τ .sas .goal) 5) (unless (leb (τ .sas .ops) 64) (OutOfRange 6) then opsRules) _
-      (goal-told τ (keyed "ops=" (digits (τ .sas .ops)) ++ opsFrom) 5 (made (τ .sas .vars) o m initDone c h) w _)
+      next (factsFault τ (τ .sas .goal) lineOfGoal) (unless (leb (τ .sas .ops) mostOps) (OutOfRange lineOfOps) then opsRules) _
+      (goal-told τ (keyed "ops=" (digits (τ .sas .ops)) ++ opsFrom) lineOfGoal (made (τ .sas .vars) o m initDone c h) w _)
       (λ q. ops-from (headRows τ f) m o (long-head τ f ∙ lf) a d (knows-facts goalPlace (τ .sas .goal) (λ v. omega arith) (τ .sas .vars) (made (τ .sas .vars) o m initDone c h) w))
 
-  known-doms : (m o : ℕ) → τ .sas .vars ≤ 8 → Known τ (made (τ .sas .vars) o m domDone c h)
+  known-doms : (m o : ℕ) → τ .sas .vars ≤ mostVars → Known τ (made (τ .sas .vars) o m domDone c h)
   known-doms m o a =
       record {
         vars = refl;
@@ -222,14 +223,14 @@ module _ (τ : Task) (f c h : List ℕ) (lf : length f ≡ factsRoom) (lc : leng
         doms = λ v b. writes-row domPlace (τ .sas .dom) (τ .sas .vars) v b (λ k e. omega arith) f (omega arith);
       }
 
-  init-from : (m o : ℕ) → τ .sas .vars ≤ 8 → ((v : ℕ) → v < τ .sas .vars → τ .sas .dom v ≤ 8)
-      → (initLine ▸ goalLine ▸ opsLine ▸ opLines ▸ mapsLine ▸ mapLines ▸ shareLines) (keyed "init=" (numbers (τ .sas .init) (τ .sas .vars)) ++ goalFrom) 4 (made (τ .sas .vars) o m domDone c h) theEnd
-      ≡ judged (each (λ v. unless (ltb (τ .sas .init v) (τ .sas .dom v)) (OutOfRange 4)) (τ .sas .vars) 0 then goalRules) (accepted (finished (opsDone τ (headRows τ f))))
+  init-from : (m o : ℕ) → τ .sas .vars ≤ mostVars → ((v : ℕ) → v < τ .sas .vars → τ .sas .dom v ≤ mostValues)
+      → (initLine ▸ goalLine ▸ opsLine ▸ opLines ▸ mapsLine ▸ mapLines ▸ shareLines) (keyed "init=" (numbers (τ .sas .init) (τ .sas .vars)) ++ goalFrom) lineOfInit (made (τ .sas .vars) o m domDone c h) theEnd
+      ≡ judged (each (λ v. unless (ltb (τ .sas .init v) (τ .sas .dom v)) (OutOfRange lineOfInit)) (τ .sas .vars) 0 then goalRules) (accepted (finished (opsDone τ (headRows τ f))))
   unfolding _▸_
   init-from m o a d =
       let T = made (τ .sas .vars) o m domDone c h in
-      next (each (λ v. unless (ltb (τ .sas .init v) (τ .sas .dom v)) (OutOfRange 4)) (τ .sas .vars) 0) goalRules _
-      (init-told τ goalFrom 4 T (known-doms m o a) _)
+      next (each (λ v. unless (ltb (τ .sas .init v) (τ .sas .dom v)) (OutOfRange lineOfInit)) (τ .sas .vars) 0) goalRules _
+      (init-told τ goalFrom lineOfInit T (known-doms m o a) _)
       (λ q. goal-from m o a d (knows-row initPlace (τ .sas .init) (λ v. omega arith) (τ .sas .vars) T (known-doms m o a)))
 
   abbrev linesText : List ℕ
@@ -245,17 +246,17 @@ module _ (τ : Task) (f c h : List ℕ) (lf : length f ≡ factsRoom) (lc : leng
   lines-from : (v o m : ℕ) → taskLines (spelled edition τ) 1 (made v o m f c h) theEnd ≡ judged (taskFault τ) (accepted (finished (opsDone τ (headRows τ f))))
   unfolding taskLines taskFault _▸_
   lines-from v o m =
-      let doms : ℕ → Found = λ u. unless (scanWithin 1 8 (τ .sas .dom u)) (OutOfRange 3) in
-      let inits : ℕ → Found = λ u. unless (ltb (τ .sas .init u) (τ .sas .dom u)) (OutOfRange 4) in
+      let doms : ℕ → Found = λ u. unless (scanWithin 1 mostValues (τ .sas .dom u)) (OutOfRange lineOfDom) in
+      let inits : ℕ → Found = λ u. unless (ltb (τ .sas .init u) (τ .sas .dom u)) (OutOfRange lineOfInit) in
       ap (λ (t : List ℕ). taskLines t 1 (made v o m f c h) theEnd) spelled-lines
       ∙ edition-told _ 1 (made v o m f c h) _
-      ∙ next (unless (scanWithin 1 8 (τ .sas .vars)) (OutOfRange 2)) (each doms (τ .sas .vars) 0 then each inits (τ .sas .vars) 0 then goalRules) _
-      (vars-told _ 2 (made v o m f c h) (τ .sas .vars) _)
+      ∙ next (unless (scanWithin 1 mostVars (τ .sas .vars)) (OutOfRange lineOfVars)) (each doms (τ .sas .vars) 0 then each inits (τ .sas .vars) 0 then goalRules) _
+      (vars-told _ lineOfVars (made v o m f c h) (τ .sas .vars) _)
       (λ q.
-      let a = at-most 1 8 (τ .sas .vars) (OutOfRange 2) q in
+      let a = at-most 1 mostVars (τ .sas .vars) (OutOfRange lineOfVars) q in
       next (each doms (τ .sas .vars) 0) (each inits (τ .sas .vars) 0 then goalRules) _
-      (dom-told τ _ 3 (made (τ .sas .vars) o m f c h) refl _)
-      (λ r. init-from m o a (λ u b. at-most 1 8 (τ .sas .dom u) (OutOfRange 3) (walk-clean doms (τ .sas .vars) u r b))))
+      (dom-told τ _ lineOfDom (made (τ .sas .vars) o m f c h) refl _)
+      (λ r. init-from m o a (λ u b. at-most 1 mostValues (τ .sas .dom u) (OutOfRange lineOfDom) (walk-clean doms (τ .sas .vars) u r b))))
 
 -- THE SCAN IS THE GRAMMAR, for a task
 pub spelled-judged : (τ : Task) → verdict (spelled edition τ) ≡ judged (taskFault τ) (accepted (tablesOf τ))
