@@ -4,7 +4,7 @@ use Prim.Native.Nat.{ℕ, zero, suc, _+_, _<_}
 use Prim.Native.String.{String}
 use native.Mathlib.Omega.{arith}
 use native.Mathlib.Numerals.{add-one}
-use mathlib.Core.Path.{_≡_, refl, sym, ap, _∙_}
+use mathlib.Core.Path.{_≡_, refl, sym, ap, ap₂, _∙_}
 use mathlib.Core.List.{List, [], _∷_, _++_, append-assoc}
 use mathlib.Core.Bool.{Bool, true, false}
 use borrow.Author.Tests.{eq-eqb}
@@ -123,22 +123,22 @@ line-told key p xs rest l T U f h k =
     ∙ h _
     ∙ ap (judged f) (end-told rest l U k)
 
--- SEVERAL LINES, each with its rule
-module _ (p : ℕ → Part) (text : ℕ → List ℕ) (rule : ℕ → Found) (change : ℕ → Tables → Tables) (P : Tables → Type 0) (N base : ℕ)
-    (keeps : (i : ℕ) (T : Tables) → i < N → P T → P (change i T))
-    (told : (i : ℕ) (T : Tables) (rest : List ℕ) → i < N → P T → ToldLine (p i) (text i) rest (base + i) T (rule i) (change i T)) where
-  pub lines-told : (n i : ℕ) → i + n ≡ N → (rest : List ℕ) (T : Tables) → P T → (k : Rest)
-      → textLines p n i (stacked text n i ++ rest) (base + i) T k ≡ judged (each rule n i) (k rest (base + i + n) (changed change n i T))
+-- SEVERAL LINES, each with its rule; the i-th stands in line `line i`
+module _ (p : ℕ → Part) (text : ℕ → List ℕ) (rule : ℕ → Found) (change : ℕ → Tables → Tables) (P : Tables → Type 0) (N : ℕ) (line : ℕ → ℕ)
+    (up : (i : ℕ) → line i + 1 ≡ line (suc i)) (keeps : (i : ℕ) (T : Tables) → i < N → P T → P (change i T))
+    (told : (i : ℕ) (T : Tables) (rest : List ℕ) → i < N → P T → ToldLine (p i) (text i) rest (line i) T (rule i) (change i T)) where
+  lines-from : (n i : ℕ) → i + n ≡ N → (rest : List ℕ) (T : Tables) → P T → (k : Rest)
+      → textLines p n i (stacked text n i ++ rest) (line i) T k ≡ judged (each rule n i) (k rest (line N) (changed change n i T))
   unfolding textLines stacked each changed _▸_
-  lines-told zero i e rest T pT k = let z : base + i + 0 ≡ base + i = omega arith in rw z refl
-  lines-told (suc n) i e rest T pT k =
-      let z : base + i + suc n ≡ base + suc i + n = omega arith in
-      let y : base + i + 1 ≡ base + suc i = omega arith in
+  lines-from zero i e rest T pT k = let z : i ≡ N = omega arith in ap (λ (j : ℕ). k rest (line j) T) z
+  lines-from (suc n) i e rest T pT k =
       next (rule i) (each rule n (suc i)) _
-      (ap (λ (t : List ℕ). textLines p (suc n) i t (base + i) T k) (append-assoc (text i) (stacked text n (suc i)) rest)
+      (ap (λ (t : List ℕ). textLines p (suc n) i t (line i) T k) (append-assoc (text i) (stacked text n (suc i)) rest)
       ∙ told i T (stacked text n (suc i) ++ rest) (omega arith) pT (λ u m U. textLines p n (i + 1) u m U k))
       (λ c.
-      ap (λ (x : ℕ). textLines p n x (stacked text n (suc i) ++ rest) (base + i + 1) (change i T) k) (add-one i)
-      ∙ ap (λ (x : ℕ). textLines p n (suc i) (stacked text n (suc i) ++ rest) x (change i T) k) y
-      ∙ lines-told n (suc i) (omega arith) rest (change i T) (keeps i T (omega arith) pT) k
-      ∙ ap (λ (x : ℕ). judged (each rule n (suc i)) (k rest x (changed change n (suc i) (change i T)))) (sym z))
+      ap₂ (λ (x l : ℕ). textLines p n x (stacked text n (suc i) ++ rest) l (change i T) k) (add-one i) (up i)
+      ∙ lines-from n (suc i) (omega arith) rest (change i T) (keeps i T (omega arith) pT) k)
+
+  pub lines-told : (rest : List ℕ) (T : Tables) → P T → (k : Rest)
+      → textLines p N 0 (stacked text N 0 ++ rest) (line 0) T k ≡ judged (each rule N 0) (k rest (line N) (changed change N 0 T))
+  lines-told = lines-from N 0 (omega arith)
