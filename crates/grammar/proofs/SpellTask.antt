@@ -47,13 +47,13 @@ module _ (τ : Task) where
   abbrev Known : Tables → Type 0
   Known = Knows (τ .sas .vars) (τ .sas .dom)
 
-  abbrev opsText : List ℕ
+  abbrev pub opsText : List ℕ
   opsText = stacked (λ o. keyed "op=" (opText τ o)) (τ .sas .ops) 0
 
-  abbrev mapsText : List ℕ
+  abbrev pub mapsText : List ℕ
   mapsText = stacked (λ m. keyed "map=" (mapText τ m)) (τ .maps) 0
 
-  abbrev sharesText : List ℕ
+  abbrev pub sharesText : List ℕ
   sharesText = stacked (λ m. keyed "share=" (shareText (τ .share m) (τ .sas .ops))) (τ .maps) 0
 
   abbrev opsDone : List ℕ → List ℕ
@@ -116,7 +116,7 @@ module _ (τ : Task) where
       (lineOfShares (τ .sas .ops) (τ .maps)) (λ m. omega arith) (λ m U l u. tt) (λ m U u l v. share-told τ m U u) rest T tt k
       ∙ ap (λ (U : Tables). judged (each (sharesFault τ) (τ .maps) 0) (k rest (lineOfShares (τ .sas .ops) (τ .maps) (τ .maps)) U)) (shares-changed shareRow (τ .maps) 0 T)
 
-  abbrev linesText : List ℕ
+  abbrev pub linesText : List ℕ
   linesText =
       keyed "edition=" (digits edition)
       ++ (keyed "vars=" (digits (τ .sas .vars))
@@ -125,7 +125,7 @@ module _ (τ : Task) where
       ++ (keyed "goal=" (someFacts (τ .sas .goal) (τ .sas .vars) 0)
       ++ (keyed "ops=" (digits (τ .sas .ops)) ++ (opsText ++ (keyed "maps=" (digits (τ .maps)) ++ (mapsText ++ (sharesText ++ [])))))))))
 
-  spelled-lines : spelled edition τ ≡ linesText
+  pub spelled-lines : spelled edition τ ≡ linesText
   unfolding spelled
   spelled-lines = simp (append-assoc, append-nil)
 
