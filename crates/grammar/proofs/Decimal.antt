@@ -1,5 +1,5 @@
 -- Decimal text: a number's digits are a well-formed run that reads back as the number, and a well-formed run is the digits of its value.
--- Assumes nothing.
+-- By induction on the digits, the last one first. Assumes nothing.
 use Prim.Native.Nat.{ℕ, zero, suc, _+_, _-_, _*_, _/_, _%_, _≤_, _<_}
 use native.Mathlib.Omega.{arith}
 use mathlib.Core.Path.{_≡_, refl, sym, ap, _∙_}

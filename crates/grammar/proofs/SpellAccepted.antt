@@ -1,4 +1,5 @@
--- READING ACCEPTS EXACTLY THE TEXTS THAT SPELL TASKS, and gives their tables, with 0 beyond the task's own places. Assumes nothing.
+-- READING ACCEPTS EXACTLY THE TEXTS THAT SPELL TASKS, and gives their tables, with 0 beyond the task's own places.
+-- What an accepted text spells passes the scan, for the scan is the grammar; and a valid task's text is accepted for the same reason. Assumes nothing.
 use Prim.Native.Nat.{ℕ, zero, suc, _+_, _<_}
 use native.Mathlib.Omega.{arith}
 use mathlib.Core.Path.{_≡_, refl, sym, ap, _∙_}
@@ -21,7 +22,8 @@ use Rattle.grammar.specs.Grammar.{accepted, verdict}
 use Rattle.grammar.specs.Spelling.{digits, numbers, someFacts, keyed, opText, mapText, shareText, spelled, textOf, changed, opRows, mapRows, headRows, tablesOf, canon}
 use Rattle.grammar.proofs.SpellParts.{judged}
 use Rattle.grammar.proofs.SpellTables.{zeros, long-changed, long-row}
-use Rattle.grammar.proofs.SpellOwn.{Small, long-head, long-op, long-facts-of, long-shares-of, spares-head, head-dom, head-init, head-goal, spares-ops-low, ops-pre, ops-eff, spares-maps, maps-class, costs-own, shares-own}
+use Rattle.grammar.proofs.SpellOwn.{Small, long-head, long-op, long-facts-of, long-shares-of, spares-head, head-dom, head-init}
+use Rattle.grammar.proofs.SpellOwn.{head-goal, spares-ops-low, ops-pre, ops-eff, spares-maps, maps-class, costs-own, shares-own}
 use Rattle.grammar.proofs.SpellTask.{spelled-judged, scan-is-grammar, clean-accepted}
 use Rattle.grammar.proofs.SpellBack.{not-refused, joined-same, stacked-same}
 use Rattle.grammar.proofs.SpellBackFacts.{some-same}

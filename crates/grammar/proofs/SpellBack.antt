@@ -1,4 +1,5 @@
--- Back from an accepted text: what a part has read is what it spells. A number, a row, a line, several lines. Assumes nothing.
+-- Back from an accepted text: what a part has read is what it spells. A number, a row, a line, several lines.
+-- No demand was refused, so each held; by induction on what the part reads. Assumes nothing.
 use Prim.Native.Nat.{ℕ, zero, suc, _+_, _≤_, _<_}
 use Prim.Native.String.{String}
 use native.Mathlib.Omega.{arith}

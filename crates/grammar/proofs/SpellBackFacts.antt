@@ -1,4 +1,5 @@
--- Back from an accepted list of facts: it is the spelling of a row of facts. Assumes nothing.
+-- Back from an accepted list of facts: it is the spelling of a row of facts.
+-- Each fact names a later variable than the one before it, and of those between nothing is said. Assumes nothing.
 use Prim.Native.Nat.{ℕ, zero, suc, _+_, _-_, _≤_, _<_}
 use native.Mathlib.Omega.{arith}
 use native.Mathlib.Numerals.{add-one}
@@ -101,7 +102,8 @@ module _ (place : ℕ → ℕ) where
     unfolding someFacts firstFact
     whole-some =
         some-skip whole d (suc n) i (λ j a b. from-low (i + d) x F j b)
-        ∙ ap₂ (λ (y : ℕ) (z : List ℕ). firstFact y (i + d) z (someFacts whole n (suc (i + d)))) (from-here (i + d) x F) (more-same whole F n (suc (i + d)) (λ j a b. from-high (i + d) x F j (omega arith)))
+        ∙ ap₂ (λ (y : ℕ) (z : List ℕ). firstFact y (i + d) z (someFacts whole n (suc (i + d)))) (from-here (i + d) x F)
+        (more-same whole F n (suc (i + d)) (λ j a b. from-high (i + d) x F j (omega arith)))
 
     whole-put : (w : List ℕ) → changed (put whole) (d + suc n) i w ≡ changed (put F) n (suc (i + d)) (factPut (suc x) (place (i + d)) w)
     unfolding changed
@@ -275,5 +277,11 @@ pub facts-back : (place : ℕ → ℕ) (N l : ℕ) (T : Tables) → T .counts .v
 unfolding factList ask factRow nothing
 facts-back place N l T c t k W h =
     choice-back dash nothing (ask (λ U. factsFrom place (U .counts .vars) 0)) t l T k W h
-    (λ u p q. record { what = λ j. 0; rest = u; says = p ∙ ap (λ (x : List ℕ). x ++ u) (sym (some-none place N l k W N 0)); then = ap (λ (w : List ℕ). k u l (on (λ x. w) T)) (put-none place N l k W N 0 (T .facts)) ∙ q })
+    (λ u p q.
+    record {
+      what = λ j. 0;
+      rest = u;
+      says = p ∙ ap (λ (x : List ℕ). x ++ u) (sym (some-none place N l k W N 0));
+      then = ap (λ (w : List ℕ). k u l (on (λ x. w) T)) (put-none place N l k W N 0 (T .facts)) ∙ q;
+    })
     (λ q. some-back place N l k W (T .counts .vars) t T c q)

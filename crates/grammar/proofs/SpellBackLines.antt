@@ -1,4 +1,5 @@
--- Back from an accepted line: each line of the text is the spelling of the numbers that it leaves in the tables. Assumes nothing.
+-- Back from an accepted line: each line of the text is the spelling of the numbers that it leaves in the tables.
+-- Its parts one after another, each by its own way back. Assumes nothing.
 use Prim.Native.Nat.{ℕ, zero, suc, _+_, _<_}
 use native.Mathlib.Omega.{arith}
 use native.Mathlib.Numerals.{add-one}

@@ -12,7 +12,8 @@ use Rattle.meaning.specs.Split.{Task}
 use Rattle.tables.specs.Layout.{Tables, factsRoom, domAt, domPlace, initPlace, goalPlace, prePlace, effPlace, classPlace, sharePlace}
 use Rattle.grammar.specs.Fields.{edition, slash}
 use Rattle.meaning.specs.Limits.{mostVars, mostValues, mostOps, mostMaps}
-use Rattle.grammar.specs.Grammar.{accepted, Rest, Part, _▸_, nothing, ask, keep, fits, numeral, textLine, textLines, factList, withCounts, putCost, editionLine, varsLine, domLine, initLine, goalLine, operatorFields, opsLine, opLines, mapClasses, mapsLine, mapLines, amounts, shareLines, taskLines, theEnd, noTask, verdict}
+use Rattle.grammar.specs.Grammar.{accepted, Rest, Part, _▸_, nothing, ask, keep, fits, numeral, textLine, textLines, factList, withCounts, putCost, editionLine, varsLine}
+use Rattle.grammar.specs.Grammar.{domLine, initLine, goalLine, operatorFields, opsLine, opLines, mapClasses, mapsLine, mapLines, amounts, shareLines, taskLines, theEnd, noTask, verdict}
 use Rattle.grammar.specs.Spelling.{digits, joined, numbers, someFacts, keyed, stacked, opText, mapText, shareText, spelled, changed, rowPut, factRow}
 use Rattle.tables.specs.Lines.{lineOfVars, lineOfDom, lineOfInit, lineOfGoal, lineOfOps}
 use Rattle.grammar.proofs.SpellTask.{linesText, spelled-lines}
@@ -163,7 +164,8 @@ text-back f lf T W x e h =
     let N = b .0 in
     let n : N ≤ mostVars = let r = within-both N 1 (mostVars + 1) (b .1) in omega arith in
     let T₂ = withCounts N (T .counts .ops) (T .counts .maps) T in
-    onto (line-back (ℕ → ℕ) "dom=" _ lineOfDom T₂ (λ d. numbers d N) (λ d. on (rowPut domPlace d N) T₂) (row-back-put 1 (λ v U. mostValues + 1) domPlace (λ U. U .counts .vars) N lineOfDom T₂ refl) u₂ _ W h₂)
+    onto (line-back (ℕ → ℕ) "dom=" _ lineOfDom T₂ (λ d. numbers d N) (λ d. on (rowPut domPlace d N) T₂)
+    (row-back-put 1 (λ v U. mostValues + 1) domPlace (λ U. U .counts .vars) N lineOfDom T₂ refl) u₂ _ W h₂)
     (λ dom u₃ p₃ h₃.
     let T₃ = on (rowPut domPlace dom N) T₂ in
     let w = known-doms f lf N dom T₂ e refl n in

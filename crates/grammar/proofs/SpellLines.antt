@@ -1,4 +1,5 @@
--- Each line of the text on what is spelled: what the scan says of the same numbers, and the numbers in their places. Assumes nothing.
+-- Each line of the text on what is spelled: what the scan says of the same numbers, and the numbers in their places.
+-- Each line's parts one after another; a range is the same test in both. Assumes nothing.
 use Prim.Native.String.{String}
 use Prim.Native.Nat.{ℕ, zero, suc, _+_, _<_}
 use native.Mathlib.Omega.{arith}
@@ -14,7 +15,8 @@ use Rattle.tables.specs.Layout.{Tables, domAt, domPlace, initPlace, goalPlace, 
 use Rattle.scan.specs.Scan.{unless, _then_, each, factsFault, operatorFault, mapFault, sharesFault, within as scanWithin}
 use Rattle.grammar.specs.Fields.{edition, isDigit, lineEnd, dash, semicolon}
 use Rattle.meaning.specs.Limits.{mostValues, mostCost, mostVars, mostOps, mostMaps}
-use Rattle.grammar.specs.Grammar.{Rest, Part, _▸_, nothing, keep, lit, fits, numeral, textLine, factList, withCounts, putCost, putShare, editionLine, varsLine, domLine, initLine, goalLine, opsLine, operatorFields, mapsLine, mapClasses, amounts}
+use Rattle.grammar.specs.Grammar.{Rest, Part, _▸_, nothing, keep, lit, fits, numeral, textLine, factList, withCounts, putCost}
+use Rattle.grammar.specs.Grammar.{putShare, editionLine, varsLine, domLine, initLine, goalLine, opsLine, operatorFields, mapsLine, mapClasses, amounts}
 use Rattle.grammar.specs.Spelling.{digits, numbers, someFacts, keyed, opText, mapText, shareText, changed, rowPut, factRow, opRows, mapRows}
 use Rattle.grammar.proofs.Runs.{other}
 use Rattle.grammar.proofs.SpellParts.{judged, next, Told, ToldLine, lit-told, number-told, row-told, line-told}
@@ -184,7 +186,8 @@ amounts-told share m (suc n) rest l T k =
     ∙ ap (λ (U : Tables). judged (each (λ o. unless (leb (share o) mostCost) (OutOfRange l)) (suc n) 0) (k (lineEnd ∷ rest) l U)) (shares-changed (λ o x. set x (sharePlace m o) (share o)) (suc n) 0 T)
 
 pub share-told : (τ : Task) (m : ℕ) (T : Tables) (rest : List ℕ)
-    → ToldLine (textLine "share=" (amounts m (τ .sas .ops))) (keyed "share=" (shareText (τ .share m) (τ .sas .ops))) rest (lineOfShares (τ .sas .ops) (τ .maps) m) T (sharesFault τ m) (onShares (rowPut (sharePlace m) (τ .share m) (τ .sas .ops)) T)
+    → ToldLine (textLine "share=" (amounts m (τ .sas .ops))) (keyed "share=" (shareText (τ .share m) (τ .sas .ops))) rest (lineOfShares (τ .sas .ops) (τ .maps) m) T (sharesFault τ m)
+    (onShares (rowPut (sharePlace m) (τ .share m) (τ .sas .ops)) T)
 unfolding sharesFault
 share-told τ m T rest =
     line-told "share=" (amounts m (τ .sas .ops)) (shareText (τ .share m) (τ .sas .ops)) rest (lineOfShares (τ .sas .ops) (τ .maps) m) T _ (sharesFault τ m)

@@ -1,4 +1,5 @@
--- The tables of a small task give back its numbers: at each of the task's own places stands what the task has there. Assumes nothing.
+-- The tables of a small task give back its numbers: at each of the task's own places stands what the task has there.
+-- One change writes it, and no other change has that place. Assumes nothing.
 use Prim.Native.Nat.{ℕ, _≤_, _<_}
 use native.Mathlib.Omega.{arith}
 use mathlib.Core.Path.{_≡_, refl, _∙_}

@@ -1,5 +1,5 @@
 -- Parts of the text on what is spelled: each reads it, and says what the scan says of the same numbers: a number, a row, a line, several lines.
--- Assumes nothing.
+-- By induction on the numbers or lines still to come. Assumes nothing.
 use Prim.Native.Nat.{ℕ, zero, suc, _+_, _<_}
 use Prim.Native.String.{String}
 use native.Mathlib.Omega.{arith}

@@ -1,5 +1,7 @@
--- The reader and the spelling: reading what spells a clean task gives back its tables, and a text that is accepted spells a valid task. Assumes nothing.
+-- The reader and the spelling: reading what spells a clean task gives back its tables, and a text that is accepted spells a valid task.
+-- A valid task's text is short, so that nothing before the text itself refuses it. Assumes nothing.
 use Prim.Native.Nat.{ℕ, _≤_}
+use native.Mathlib.Omega.{arith}
 use mathlib.Core.Path.{_≡_, refl, sym, ap, _∙_}
 use mathlib.Core.List.{List}
 use lib.ListN.{length}
@@ -26,7 +28,7 @@ module _ (f c s : List ℕ) where
       → readText (textOf edition t) f c s ≡ outcome (accepted (canon t)) f c s
   unfolding tablesFault
   read-spelled t p a b d =
-      text-read (textOf edition t) f c s a b d (spelled-short (taskOf t) (clean-valid t p))
+      text-read (textOf edition t) f c s a b d (omega (arith, spelled-short (taskOf t) (clean-valid t p)))
       ∙ ap (λ (v : Verdict). outcome v f c s) (clean-accepted t (clean-next (unless (roomy t) TableTooShort) (taskFault (taskOf t)) p))
 
   -- what is accepted: the tables of a valid task that the text spells

@@ -1,4 +1,4 @@
--- The text of a valid task is short: at most 16,384 bytes, so that number 1 never meets it. Assumes nothing.
+-- The text of a valid task is short: at most 10,449 bytes, so that number 1 never meets it. By the longest that each line can be. Assumes nothing.
 use Prim.Native.Nat.{ℕ, zero, suc, _+_, _*_, _/_, _^_, _≤_, _<_}
 use Prim.Native.String.{String}
 use native.Mathlib.Omega.{arith}
@@ -11,7 +11,7 @@ use Rattle.meaning.specs.Sas.{Facts}
 use Rattle.meaning.specs.Split.{Task, Valid}
 use Rattle.tables.proofs.Laws.{by-cases}
 use Rattle.grammar.specs.Fields.{edition, bytesOf, comma, slash}
-use Rattle.meaning.specs.Limits.{mostBytes, mostCost}
+use Rattle.meaning.specs.Limits.{mostCost}
 use Rattle.grammar.specs.Spelling.{lastDigits, digits, gap, joined, numbers, fact, anotherFact, moreFacts, firstFact, someFacts, keyed, stacked, opText, mapText, shareText, spelled}
 use Rattle.grammar.proofs.Decimal.{few, many}
 
@@ -98,8 +98,12 @@ keyed-short : (key : String) (xs : List ℕ) (c b : ℕ) → length (bytesOf key
 unfolding keyed
 keyed-short key xs c b p q = simp length-append (omega arith)
 
+-- the sum of the longest lines
+abbrev pub longestText : ℕ
+longestText = 10449
+
 ten : (a b c d e f g h i j : List ℕ) → length a ≤ 10 → length b ≤ 7 → length c ≤ 21 → length d ≤ 22 → length e ≤ 39 → length f ≤ 7 → length g ≤ 5056 → length h ≤ 7
-    → length i ≤ 1128 → length j ≤ 4152 → length (a ++ b ++ c ++ d ++ e ++ f ++ g ++ h ++ i ++ j) ≤ mostBytes
+    → length i ≤ 1128 → length j ≤ 4152 → length (a ++ b ++ c ++ d ++ e ++ f ++ g ++ h ++ i ++ j) ≤ longestText
 ten a b c d e f g h i j p₁ p₂ p₃ p₄ p₅ p₆ p₇ p₈ p₉ p₁₀ = simp length-append (omega arith)
 
 module _ (τ : Task) (k : Valid τ) where
@@ -156,7 +160,7 @@ module _ (τ : Task) (k : Valid τ) where
       let p = stacked-short (λ m. keyed "share=" (shareText (τ .share m) (τ .sas .ops))) 519 (τ .maps) 0 (λ m x y. share-short m (omega arith)) in
       omega arith
 
-  pub spelled-short : length (spelled edition τ) ≤ mostBytes
+  pub spelled-short : length (spelled edition τ) ≤ longestText
   unfolding spelled
   spelled-short =
       let a = k .vars .1 in

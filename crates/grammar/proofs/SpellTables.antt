@@ -1,4 +1,5 @@
--- What stands in the tables of a task: its own numbers, each in its place. Assumes nothing.
+-- What stands in the tables of a task: its own numbers, each in its place.
+-- By induction on the changes: one writes a place, the others spare it. Assumes nothing.
 use Prim.Native.Nat.{ℕ, zero, suc, _+_, _≤_, _<_}
 use native.Mathlib.Omega.{arith}
 use mathlib.Core.Path.{_≡_, refl, ap, _∙_}

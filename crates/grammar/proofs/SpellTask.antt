@@ -1,5 +1,5 @@
 -- THE SCAN IS THE GRAMMAR: the text that spells a task gets the refusal that the scan finds in the task, or is accepted with the task's tables.
--- Assumes nothing.
+-- Line by line: each says what the scan says of the same numbers, and what follows counts only if that is clean. Assumes nothing.
 use Prim.Native.Nat.{ℕ, zero, suc, _+_, _≤_, _<_}
 use native.Mathlib.Omega.{arith}
 use mathlib.Core.Path.{_≡_, refl, sym, ap, ap₂, _∙_}
@@ -20,7 +20,8 @@ use Rattle.scan.specs.Scan.{unless, each, factsFault, operatorFault, mapFault, 
 use Rattle.scan.proofs.Rules.{within-says}
 use Rattle.scan.proofs.Walks.{rule-held, walk-clean}
 use Rattle.grammar.specs.Fields.{edition}
-use Rattle.grammar.specs.Grammar.{accepted, refused, Rest, _▸_, ask, textLine, operatorFields, opLines, mapClasses, mapLines, amounts, shareLines, taskLines, settled, theEnd, noTask, verdict, putCost}
+use Rattle.grammar.specs.Grammar.{accepted, refused, Rest, _▸_, ask, textLine, operatorFields, opLines, mapClasses}
+use Rattle.grammar.specs.Grammar.{mapLines, amounts, shareLines, taskLines, settled, theEnd, noTask, verdict, putCost}
 use Rattle.grammar.specs.Spelling.{digits, numbers, someFacts, keyed, stacked, opText, mapText, shareText, spelled, textOf, changed, rowPut, opRows, mapRows, headRows, tablesOf, canon}
 use Rattle.grammar.proofs.SpellParts.{judged, next, lines-told}
 use Rattle.grammar.proofs.SpellFacts.{on, on-changed, Knows, knows-row, knows-facts, knows-changed}
