@@ -5,7 +5,7 @@ use native.Mathlib.Omega.{arith}
 use mathlib.Core.Path.{_≡_, refl, sym, ap, _∙_}
 use mathlib.Core.List.{List, [], _∷_, _++_}
 use mathlib.Core.Bool.{true}
-use lib.ListN.{length, getD, replicate, length-replicate}
+use lib.ListN.{length, getD, length-replicate}
 use Rattle.refusals.specs.declared.Refusal.the-variants.{TableTooShort}
 use Rattle.meaning.specs.Split.{Task, Valid}
 use Rattle.scan.specs.declared.Found.{Found}
@@ -41,9 +41,6 @@ clean-small τ p =
 -- ---- the tables of a small task spell the same text
 
 module _ (τ : Task) (s : Small τ) where
-  abbrev blank : List ℕ
-  blank = replicate factsRoom 0
-
   module _ (w : List ℕ) (l : length w ≡ factsRoom) (z : (p : ℕ) → getD w p 0 ≡ 0) where
     abbrev opsIn : List ℕ
     opsIn = changed (opRows τ) (τ .sas .ops) 0 (headRows τ w)

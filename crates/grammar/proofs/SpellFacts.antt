@@ -12,6 +12,7 @@ use lib.Seq.{getD-set-other}
 use borrow.Author.Tests.{ne-eqb, le-leb, lt-leb, lt-ltb}
 use Rattle.refusals.specs.declared.Refusal.{Refusal}
 use Rattle.refusals.specs.declared.Refusal.the-variants.{OutOfRange, NotRising}
+use Rattle.meaning.specs.Limits.{mostVars}
 use Rattle.meaning.specs.Sas.{Facts}
 use Rattle.scan.specs.declared.Found.{Found}
 use Rattle.tables.specs.Layout.{Tables, domPlace, domAt}
@@ -61,15 +62,15 @@ on-changed g (suc n) i T = on-changed g n (suc i) (on (g i) T)
 -- what the tables so far say of the variables
 pub record Knows (n : ℕ) (dom : ℕ → ℕ) (T : Tables) : Type 0 where
   pub vars : T .counts .vars ≡ n
-  pub few : n ≤ 8
+  pub few : n ≤ mostVars
   pub doms : (v : ℕ) → v < n → domAt (T .facts) v ≡ dom v
 
-pub knows-set : {n : ℕ} {dom : ℕ → ℕ} (T : Tables) (i x : ℕ) → 8 ≤ i → Knows n dom T → Knows n dom (putFact i x T)
+pub knows-set : {n : ℕ} {dom : ℕ → ℕ} (T : Tables) (i x : ℕ) → mostVars ≤ i → Knows n dom T → Knows n dom (putFact i x T)
 knows-set T i x h q =
     let f = q .few in
     record { vars = q .vars; few = q .few; doms = λ v l. getD-set-other (T .facts) i (domPlace v) x 0 (λ z. omega arith) ∙ q .doms v l }
 
-pub knows-said : {n : ℕ} {dom : ℕ → ℕ} (T : Tables) (k i : ℕ) → 8 ≤ i → Knows n dom T → Knows n dom (on (factPut k i) T)
+pub knows-said : {n : ℕ} {dom : ℕ → ℕ} (T : Tables) (k i : ℕ) → mostVars ≤ i → Knows n dom T → Knows n dom (on (factPut k i) T)
 unfolding factPut
 knows-said T zero i h q = q
 knows-said T (suc k) i h q = knows-set T i (suc k) h q
@@ -81,11 +82,11 @@ module _ {n : ℕ} {dom : ℕ → ℕ} where
   knows-changed g h zero i T w = w
   knows-changed g h (suc k) i T w = knows-changed g h k (suc i) (on (g i) T) (h i T w)
 
-  pub knows-row : (place f : ℕ → ℕ) → ((j : ℕ) → 8 ≤ place j) → (k : ℕ) (T : Tables) → Knows n dom T → Knows n dom (on (rowPut place f k) T)
+  pub knows-row : (place f : ℕ → ℕ) → ((j : ℕ) → mostVars ≤ place j) → (k : ℕ) (T : Tables) → Knows n dom T → Knows n dom (on (rowPut place f k) T)
   unfolding rowPut
   knows-row place f high k T w = knows-changed (λ i x. set x (place i) (f i)) (λ j U. knows-set U (place j) (f j) (high j)) k 0 T w
 
-  pub knows-facts : (place : ℕ → ℕ) (F : Facts) → ((j : ℕ) → 8 ≤ place j) → (k : ℕ) (T : Tables) → Knows n dom T → Knows n dom (on (factRow place F k) T)
+  pub knows-facts : (place : ℕ → ℕ) (F : Facts) → ((j : ℕ) → mostVars ≤ place j) → (k : ℕ) (T : Tables) → Knows n dom T → Knows n dom (on (factRow place F k) T)
   unfolding factRow
   knows-facts place F high k T w = knows-changed (λ v. factPut (F v) (place v)) (λ j U. knows-said U (F j) (place j) (high j)) k 0 T w
 
@@ -98,7 +99,7 @@ pub record Ends (b : ℕ) : Type 0 where
 abbrev pub factRule : (ℕ → ℕ) → Facts → ℕ → ℕ → Found
 factRule dom F l v = unless (leb (F v) (dom v)) (OutOfRange l)
 
-module _ (place : ℕ → ℕ) (high : (v : ℕ) → 8 ≤ place v) (F : Facts) (dom : ℕ → ℕ) (N : ℕ) (b : ℕ) (t : List ℕ) (e : Ends b) (l : ℕ) where
+module _ (place : ℕ → ℕ) (high : (v : ℕ) → mostVars ≤ place v) (F : Facts) (dom : ℕ → ℕ) (N : ℕ) (b : ℕ) (t : List ℕ) (e : Ends b) (l : ℕ) where
   -- one fact
   fact-told : (m least v k : ℕ) (u : List ℕ) (T : Tables) (go : Rest) → Stop u → least ≤ v → v < N → Knows N dom T
       → factsFrom place (suc m) least (fact v k ++ u) l T go

@@ -52,16 +52,13 @@ module _ (τ : Task) (s : Small τ) where
       ∙ spares-row domPlace (τ .sas .dom) p (τ .sas .vars) (λ j b e. omega arith) w
 
   module _ (w : List ℕ) (l : length w ≡ factsRoom) (z : (p : ℕ) → getD w p 0 ≡ 0) (v : ℕ) (h : v < τ .sas .vars) where
-    pub row-dom : getD (rowPut domPlace (τ .sas .dom) (τ .sas .vars) w) (domPlace v) 0 ≡ τ .sas .dom v
-    row-dom = let a = s .vars in writes-row domPlace (τ .sas .dom) (τ .sas .vars) v h (λ k e. omega arith) w (omega arith)
-
     pub head-dom : getD (headRows τ w) (domPlace v) 0 ≡ τ .sas .dom v
     unfolding headRows
     head-dom =
         let a = s .vars in
         spares-facts goalPlace (τ .sas .goal) (domPlace v) (τ .sas .vars) (λ j b e. omega arith) _
         ∙ spares-row initPlace (τ .sas .init) (domPlace v) (τ .sas .vars) (λ j b e. omega arith) _
-        ∙ row-dom
+        ∙ writes-row domPlace (τ .sas .dom) (τ .sas .vars) v h (λ k e. omega arith) w (omega arith)
 
     pub head-init : getD (headRows τ w) (initPlace v) 0 ≡ τ .sas .init v
     unfolding headRows
@@ -89,12 +86,6 @@ module _ (τ : Task) (s : Small τ) where
 
   pub spares-ops-low : (p : ℕ) → p < 24 → Spares (changed (opRows τ) (τ .sas .ops) 0) p
   spares-ops-low p h = spares-changed (opRows τ) p (τ .sas .ops) 0 (λ o x y. spares-op o p (λ v i e. omega arith) (λ v i e. omega arith))
-
-  pub spares-ops-high : (p : ℕ) → 1048 ≤ p → Spares (changed (opRows τ) (τ .sas .ops) 0) p
-  spares-ops-high p h =
-      let a = s .vars in
-      let b = s .ops in
-      spares-changed (opRows τ) p (τ .sas .ops) 0 (λ o x y. spares-op o p (λ v i e. omega arith) (λ v i e. omega arith))
 
   module _ (o v : ℕ) (k : o < τ .sas .ops) (h : v < τ .sas .vars) where
     op-pre : (x : List ℕ) → length x ≡ factsRoom → getD x (prePlace o v) 0 ≡ 0 → getD (opRows τ o x) (prePlace o v) 0 ≡ τ .sas .pre o v
@@ -133,7 +124,7 @@ module _ (τ : Task) (s : Small τ) where
 
   -- ---- the maps
 
-  spares-map : (m p : ℕ) → ((v x : ℕ) → v < τ .sas .vars → x < 8 → p ≡ classPlace m v x → ⊥) → Spares (mapRows τ m) p
+  spares-map : (m p : ℕ) → ((v x : ℕ) → v < τ .sas .vars → x < mostValues → p ≡ classPlace m v x → ⊥) → Spares (mapRows τ m) p
   unfolding mapRows
   spares-map m p f =
       spares-changed (λ v. rowPut (classPlace m v) (τ .class m v) (τ .sas .dom v)) p (τ .sas .vars) 0

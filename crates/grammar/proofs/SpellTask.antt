@@ -20,7 +20,7 @@ use Rattle.scan.specs.Scan.{unless, each, factsFault, operatorFault, mapFault, 
 use Rattle.scan.proofs.Rules.{within-says}
 use Rattle.scan.proofs.Walks.{rule-held, walk-clean}
 use Rattle.grammar.specs.Fields.{edition}
-use Rattle.grammar.specs.Grammar.{accepted, refused, Rest, _▸_, ask, textLine, operatorFields, opLines, mapClasses}
+use Rattle.grammar.specs.Grammar.{accepted, Rest, _▸_, ask, textLine, operatorFields, opLines, mapClasses}
 use Rattle.grammar.specs.Grammar.{mapLines, amounts, shareLines, taskLines, settled, theEnd, noTask, verdict, putCost}
 use Rattle.grammar.specs.Spelling.{digits, numbers, someFacts, keyed, stacked, opText, mapText, shareText, spelled, textOf, changed, rowPut, opRows, mapRows, headRows, tablesOf, canon}
 use Rattle.grammar.proofs.SpellParts.{judged, next, lines-told}
@@ -220,9 +220,6 @@ spelled-judged τ =
 -- and for tables with any content: they get the line that the same task's text would have
 pub scan-is-grammar : (t : Tables) → verdict (textOf edition t) ≡ judged (taskFault (taskOf t)) (accepted (canon t))
 scan-is-grammar t = spelled-judged (taskOf t)
-
-pub fault-refused : (t : Tables) (r : Refusal) → taskFault (taskOf t) ≡ Fault r → verdict (textOf edition t) ≡ refused r
-fault-refused t r p = scan-is-grammar t ∙ ap (λ (f : Found). judged f (accepted (canon t))) p
 
 pub clean-accepted : (t : Tables) → taskFault (taskOf t) ≡ Clean → verdict (textOf edition t) ≡ accepted (canon t)
 clean-accepted t p = scan-is-grammar t ∙ ap (λ (f : Found). judged f (accepted (canon t))) p
