@@ -5,7 +5,7 @@ use Prim.Native.Nat.{ℕ}
 use mathlib.Core.Bool.{true, false, false≢true}
 use Rattle.tables.specs.Steps.{rowHolds, mayRun, meetsGoal, overwritten, stepped}
 use Rattle.scan.specs.Scan.{each, factsFault, operatorFault, classesFault, mapFault, sharesFault, splitFault, taskFault, roomy, tablesFault, stateFault, inputFault}
-use Rattle.grammar.specs.Fields.{isDigit, bytes, shareTotal, overLine}
+use Rattle.grammar.specs.Fields.{isDigit, bytesOf}
 use Rattle.grammar.specs.Grammar.{
   Verdict,
   accepted,
@@ -18,32 +18,28 @@ use Rattle.grammar.specs.Grammar.{
   lit,
   choice,
   runLen,
-  value,
+  decimal,
   formed,
   fits,
   numeral,
   parted,
-  row,
+  numberRow,
   endOfLine,
-  line,
-  lines,
+  textLine,
+  textLines,
   editionLine,
   varsLine,
   domLine,
   initLine,
-  facts,
+  factsFrom,
   factList,
   goalLine,
   opsLine,
-  operator,
+  operatorFields,
   opLines,
-  has,
-  topOf,
-  allOf,
-  classCount,
-  noneMissing,
-  classes,
-  variables,
+  classList,
+  classLists,
+  mapClasses,
   mapsLine,
   mapLines,
   amounts,
@@ -78,8 +74,8 @@ claims? x (refused r) e cs = none? cs
 abbrev right? : (c : Case) → Test (Right c)
 right? c =
     into (λ p. record { read = p .0; claims = p .1 })
-    (told? (ofText (verdict (bytes (c .text)))) (c .read) and claims? (bytes (c .text)) (verdict (bytes (c .text))) refl (c .claims))
+    (told? (ofText (verdict (bytesOf (c .text)))) (c .read) and claims? (bytesOf (c .text)) (verdict (bytesOf (c .text))) refl (c .claims))
 
 pub cases-hold : EachAt (λ i c. Right c) 0 table
-unfolding table tableOf isDigit shareTotal overLine _▸_ nothing ask keep demand lit choice runLen value formed fits numeral parted row endOfLine line lines editionLine varsLine domLine initLine facts factList goalLine opsLine operator opLines has topOf allOf classCount noneMissing classes variables mapsLine mapLines amounts shareLines taskLines settled theEnd noTask verdict rowHolds mayRun meetsGoal overwritten stepped each factsFault operatorFault classesFault mapFault sharesFault splitFault taskFault roomy tablesFault stateFault mostSteps inputFault stepOf walked limited judgedOf rest gain booked fresh advanced canRun replayed given startAt startIn sameTo sameStates sameSteps sameRun isRun oldStep nextStep offerJudged answered offered startFrom started begun
+unfolding table tableOf isDigit _▸_ nothing ask keep demand lit choice runLen decimal formed fits numeral parted numberRow endOfLine textLine textLines editionLine varsLine domLine initLine factsFrom factList goalLine opsLine operatorFields opLines classList classLists mapClasses mapsLine mapLines amounts shareLines taskLines settled theEnd noTask verdict rowHolds mayRun meetsGoal overwritten stepped each factsFault operatorFault classesFault mapFault sharesFault splitFault taskFault roomy tablesFault stateFault mostSteps inputFault stepOf walked limited judgedOf rest gain booked fresh advanced canRun replayed given startAt startIn sameTo sameStates sameSteps sameRun isRun oldStep nextStep offerJudged answered offered startFrom started begun
 cases-hold = each? (λ i c. Right c) (λ i c. right? c) 0 table .so refl
