@@ -5,8 +5,51 @@ use Prim.Native.Nat.{ℕ}
 use mathlib.Core.Bool.{true, false, false≢true}
 use Rattle.tables.specs.Steps.{rowHolds, mayRun, meetsGoal, overwritten, stepped, copied}
 use Rattle.scan.specs.Scan.{each, factsFault, operatorFault, classesFault, mapFault, sharesFault, splitFault, taskFault, roomy, tablesFault, stateFault, inputFault}
-use Rattle.grammar.specs.Fields.{isDigit, bytes, shareTotal, overLine}
-use Rattle.grammar.specs.Grammar.{Verdict, accepted, refused, _▸_, nothing, ask, keep, demand, lit, choice, runLen, value, formed, fits, numeral, parted, row, endOfLine, line, lines, editionLine, varsLine, domLine, initLine, facts, factList, goalLine, opsLine, operator, opLines, has, topOf, allOf, classCount, noneMissing, classes, variables, mapsLine, mapLines, amounts, shareLines, taskLines, settled, theEnd, noTask, verdict}
+use Rattle.grammar.specs.Fields.{isDigit, bytesOf}
+use Rattle.grammar.specs.Grammar.{
+  Verdict,
+  accepted,
+  refused,
+  _▸_,
+  nothing,
+  ask,
+  keep,
+  demand,
+  lit,
+  choice,
+  runLen,
+  decimal,
+  formed,
+  fits,
+  numeral,
+  parted,
+  numberRow,
+  endOfLine,
+  textLine,
+  textLines,
+  editionLine,
+  varsLine,
+  domLine,
+  initLine,
+  factsFrom,
+  factList,
+  goalLine,
+  opsLine,
+  operatorFields,
+  opLines,
+  classList,
+  classLists,
+  mapClasses,
+  mapsLine,
+  mapLines,
+  amounts,
+  shareLines,
+  taskLines,
+  settled,
+  theEnd,
+  noTask,
+  verdict,
+}
 use Rattle.grammar.proofs.SpellAccepted.{accepted-spells}
 use Rattle.sequences.specs.Stepping.{stepOf}
 use Rattle.meaning.specs.Limits.{mostSteps}
@@ -31,23 +74,23 @@ claims? x (refused r) e cs = none? cs
 abbrev right? : (c : Case) → Test (Right c)
 right? c =
     into (λ p. record { read = p .0; claims = p .1 })
-    (told? (ofText (verdict (bytes (c .text)))) (c .read) and claims? (bytes (c .text)) (verdict (bytes (c .text))) refl (c .claims))
+    (told? (ofText (verdict (bytesOf (c .text)))) (c .read) and claims? (bytesOf (c .text)) (verdict (bytesOf (c .text))) refl (c .claims))
 
 -- ---- what the computation opens, room by room: to open one of these is to open what it names
 
 -- the characters and marks of a text
 opened-marks : Unit {0}
-unfolding isDigit shareTotal overLine _▸_ nothing ask keep demand lit choice runLen value formed fits numeral parted row
+unfolding isDigit _▸_ nothing ask keep demand lit choice runLen decimal formed fits numeral parted numberRow
 opened-marks = tt
 
 -- its lines
 opened-lines : Unit {0}
-unfolding endOfLine line lines editionLine varsLine domLine initLine facts factList goalLine opsLine operator opLines
+unfolding endOfLine textLine textLines editionLine varsLine domLine initLine factsFrom factList goalLine opsLine operatorFields opLines
 opened-lines = tt
 
 -- its maps and shares, and the verdict
 opened-task : Unit {0}
-unfolding has topOf allOf classCount noneMissing classes variables mapsLine mapLines amounts shareLines taskLines settled theEnd noTask verdict
+unfolding classList classLists mapClasses mapsLine mapLines amounts shareLines taskLines settled theEnd noTask verdict
 opened-task = tt
 
 -- the scan of tables and state

@@ -12,7 +12,7 @@ use Rattle.meaning.specs.Split.{view}
 use Rattle.meaning.specs.Bound.{distance, bound}
 use Rattle.tables.specs.Layout.{Tables}
 use Rattle.tables.specs.Task.{sasOf, taskOf, stateOf}
-use Rattle.grammar.specs.Fields.{bytes}
+use Rattle.grammar.specs.Fields.{bytesOf}
 use Rattle.grammar.specs.Grammar.{Verdict, accepted, refused, verdict}
 use Rattle.sequences.specs.declared.judging.Judged.{Judged}
 use Rattle.sequences.specs.declared.judging.Judged.the-variants as judged
@@ -91,5 +91,5 @@ AllHold (accepted t) cs = EachAt (λ i c. Holds t c) 0 cs
 AllHold (refused r) cs = cs ≡ []
 
 pub record Right (c : Case) : Type 0 where
-  pub read : ofText (verdict (bytes (c .text))) ≡ c .read
-  pub claims : AllHold (verdict (bytes (c .text))) (c .claims)
+  pub read : ofText (verdict (bytesOf (c .text))) ≡ c .read
+  pub claims : AllHold (verdict (bytesOf (c .text))) (c .claims)

@@ -1,5 +1,5 @@
 -- Decimal text: a number's digits are a well-formed run that reads back as the number, and a well-formed run is the digits of its value.
--- Assumes nothing.
+-- By induction on the digits, the last one first. Assumes nothing.
 use Prim.Native.Nat.{ℕ, zero, suc, _+_, _-_, _*_, _/_, _%_, _≤_, _<_}
 use native.Mathlib.Omega.{arith}
 use mathlib.Core.Path.{_≡_, refl, sym, ap, _∙_}
@@ -10,7 +10,7 @@ use lib.ListN.{take, drop, length, take-append-drop}
 use lib.Seq.{take-at, drop-at}
 use borrow.Author.Tests.{lt-ltb, le-ltb, ltb-true, ltb-false, ne-eqb, eqb-true, eqb-false}
 use Rattle.grammar.specs.Fields.{isDigit}
-use Rattle.grammar.specs.Grammar.{value, runLen, formed}
+use Rattle.grammar.specs.Grammar.{decimal, runLen, formed}
 use Rattle.grammar.specs.Spelling.{lastDigits, digits}
 use Rattle.grammar.proofs.Runs.{clash, is-digit, digit-both, run-hit, run-miss, Stop, nil, stop-none, formed-off, formed-zero, formed-lead}
 
@@ -51,8 +51,8 @@ pub data Digits : List ℕ → Type 0 where
   more : {b : ℕ} {t : List ℕ} → 48 ≤ b → b ≤ 57 → Digits t → Digits (b ∷ t)
 
 -- digits after the digits of a number above 0 are the digits of the value they give
-digits-run : {t : List ℕ} → Digits t → (v : ℕ) → 1 ≤ v → digits v ++ t ≡ digits (value v t)
-unfolding value
+digits-run : {t : List ℕ} → Digits t → (v : ℕ) → 1 ≤ v → digits v ++ t ≡ digits (decimal v t)
+unfolding decimal
 digits-run none v a = append-nil (digits v)
 digits-run (more {b = b} {t = t} p q d) v a =
     let e : b ≡ 48 + (b - 48) = omega arith in
@@ -70,33 +70,33 @@ lead-above : (b : ℕ) → 48 ≤ b → (b ≡ 48 → ⊥) → 1 ≤ 10 * 0 + (b
 lead-above b p z = omega arith
 
 -- a run that does not start with 0 is the digits of its value
-digits-of : {b : ℕ} {t : List ℕ} → Digits (b ∷ t) → (b ≡ 48 → ⊥) → b ∷ t ≡ digits (value 0 (b ∷ t))
-unfolding value
+digits-of : {b : ℕ} {t : List ℕ} → Digits (b ∷ t) → (b ≡ 48 → ⊥) → b ∷ t ≡ digits (decimal 0 (b ∷ t))
+unfolding decimal
 digits-of (more {b = b} {t = t} p q d) z =
     let e : b ≡ 48 + (10 * 0 + (b - 48)) = omega arith in
     ap (λ (x : ℕ). x ∷ t) e
     ∙ ap (λ (x : List ℕ). x ++ t) (sym (one-digit (10 * 0 + (b - 48)) (omega arith)))
     ∙ digits-run d (10 * 0 + (b - 48)) (lead-above b p z)
 
-value-snoc : (t : List ℕ) (v b : ℕ) → value v (t ++ (b ∷ [])) ≡ 10 * value v t + (b - 48)
-unfolding value
+value-snoc : (t : List ℕ) (v b : ℕ) → decimal v (t ++ (b ∷ [])) ≡ 10 * decimal v t + (b - 48)
+unfolding decimal
 value-snoc [] v b = refl
 value-snoc (x ∷ t) v b = value-snoc t (10 * v + (x - 48)) b
 
 -- the value of a number's digits is the number
-value-last : (n v : ℕ) → v < n → value 0 (lastDigits n v) ≡ v
-unfolding value
+value-last : (n v : ℕ) → v < n → decimal 0 (lastDigits n v) ≡ v
+unfolding decimal
 value-last zero v h = absurd (let z : ⊥ = omega arith in z)
 value-last (suc n) v h = split (ltb v 10) refl (value-last n (v / 10))
   where
-    split : (q : Bool) → ltb v 10 ≡ q → (v / 10 < n → value 0 (lastDigits n (v / 10)) ≡ v / 10) → value 0 (lastDigits (suc n) v) ≡ v
+    split : (q : Bool) → ltb v 10 ≡ q → (v / 10 < n → decimal 0 (lastDigits n (v / 10)) ≡ v / 10) → decimal 0 (lastDigits (suc n) v) ≡ v
     split true q i = rw (few n v (ltb-true v 10 q)) (omega arith)
     split false q i =
         let g = ltb-false v 10 q in
         let r = i (omega arith) in
         rw (many n v g) (value-snoc (lastDigits n (v / 10)) 0 (48 + v % 10) ∙ omega arith)
 
-pub value-digits : (v : ℕ) → value 0 (digits v) ≡ v
+pub value-digits : (v : ℕ) → decimal 0 (digits v) ≡ v
 unfolding digits
 value-digits v = value-last (suc v) v (omega arith)
 
@@ -165,7 +165,7 @@ formed-digits v u s = split (eqb v 0) refl
 -- the digits of v, at a text's front, with no digit after them: their run, its value, its form and what is left
 pub record Reads (v : ℕ) (t u : List ℕ) : Type 0 where
   pub form : formed t ≡ true
-  pub says : value 0 (take (runLen t) t) ≡ v
+  pub says : decimal 0 (take (runLen t) t) ≡ v
   pub rest : drop (runLen t) t ≡ u
 
 pub digits-read : (v : ℕ) (u : List ℕ) → Stop u → Reads v (digits v ++ u) u
@@ -173,7 +173,7 @@ digits-read v u s =
     let n : runLen (digits v ++ u) ≡ length (digits v) = run-digits (are-digits v) s in
     record {
       form = formed-digits v u s;
-      says = ap (λ (x : List ℕ). value 0 x) (take-at (digits v) u _ (sym n)) ∙ value-digits v;
+      says = ap (λ (x : List ℕ). decimal 0 x) (take-at (digits v) u _ (sym n)) ∙ value-digits v;
       rest = drop-at (digits v) u _ (sym n);
     }
 
@@ -207,23 +207,23 @@ lone b t e q x = go (runLen t) refl
     go zero r = r
     go (suc n) r = clash e (formed-lead b t n q x r)
 
-lone-text : (b : ℕ) → b ≡ 48 → b ∷ [] ≡ digits (value 0 (b ∷ []))
-unfolding value
+lone-text : (b : ℕ) → b ≡ 48 → b ∷ [] ≡ digits (decimal 0 (b ∷ []))
+unfolding decimal
 lone-text b x =
     let y : 10 * 0 + (b - 48) ≡ 0 = omega arith in
     ap (λ (k : ℕ). k ∷ []) x ∙ sym (ap (λ (k : ℕ). digits k) y ∙ one-digit 0 (omega arith))
 
-run-text : (t : List ℕ) → formed t ≡ true → take (runLen t) t ≡ digits (value 0 (take (runLen t) t))
+run-text : (t : List ℕ) → formed t ≡ true → take (runLen t) t ≡ digits (decimal 0 (take (runLen t) t))
 unfolding formed runLen
 run-text [] e = clash e refl
 run-text (b ∷ t) e = split (isDigit b) (eqb b 48) refl refl e
   where
-    split : (q z : Bool) → isDigit b ≡ q → eqb b 48 ≡ z → formed (b ∷ t) ≡ true → take (runLen (b ∷ t)) (b ∷ t) ≡ digits (value 0 (take (runLen (b ∷ t)) (b ∷ t)))
+    split : (q z : Bool) → isDigit b ≡ q → eqb b 48 ≡ z → formed (b ∷ t) ≡ true → take (runLen (b ∷ t)) (b ∷ t) ≡ digits (decimal 0 (take (runLen (b ∷ t)) (b ∷ t)))
     split true false q z e = rw (run-hit b t q) (digits-of (more (digit-both b q .0) (digit-both b q .1) (are-run t)) (eqb-false b 48 z))
     split true true q z e = let x : b ≡ 48 = eqb-true b 48 z in rw (run-hit b t q, lone b t e q x) (lone-text b x)
     split false z q y e = clash e (formed-off b t q)
 
 -- a text that begins with a well-formed run begins with the digits of its value
-pub digits-back : (t : List ℕ) → formed t ≡ true → t ≡ digits (value 0 (take (runLen t) t)) ++ drop (runLen t) t
+pub digits-back : (t : List ℕ) → formed t ≡ true → t ≡ digits (decimal 0 (take (runLen t) t)) ++ drop (runLen t) t
 digits-back t e =
     sym (take-append-drop (runLen t) t) ∙ ap (λ (x : List ℕ). x ++ drop (runLen t) t) (run-text t e)

@@ -4,9 +4,9 @@ pub mod Decimal
 pub mod SpellParts
 pub mod SpellFacts
 pub mod SpellClasses
-pub mod SpellMaps
 pub mod SpellTables
 pub mod SpellOwn
+pub mod SpellMaps
 pub mod SpellLines
 pub mod SpellTask
 pub mod SpellBack

@@ -1,4 +1,4 @@
--- The digit run that a text begins with: where it stops, its form, and a number's range. Assumes nothing.
+-- The digit run that a text begins with: where it stops, its form, and a number's range; by the tests of its first bytes. Assumes nothing.
 use Prim.Native.Nat.{ℕ, suc, _≤_, _<_}
 use native.Mathlib.Omega.{arith}
 use mathlib.Core.Path.{_≡_, refl}

@@ -1,63 +1,47 @@
--- READING ACCEPTS EXACTLY THE TEXTS THAT SPELL TASKS, and gives their tables, with 0 beyond the task's own places. Assumes nothing.
+-- READING ACCEPTS EXACTLY THE TEXTS THAT SPELL TASKS, and gives their tables, with 0 beyond the task's own places.
+-- What an accepted text spells passes the scan, for the scan is the grammar; and a valid task's text is accepted for the same reason. Assumes nothing.
 use Prim.Native.Nat.{ℕ, zero, suc, _+_, _<_}
 use native.Mathlib.Omega.{arith}
 use mathlib.Core.Path.{_≡_, refl, sym, ap, _∙_}
 use mathlib.Core.List.{List, [], _∷_, _++_}
 use mathlib.Core.Bool.{true}
-use lib.Dec.{leb, ltb}
-use lib.ListN.{length, getD, replicate, length-replicate}
-use borrow.Author.Tests.{leb-true}
-use Rattle.refusals.specs.declared.Refusal.the-variants.{OutOfRange, TableTooShort}
+use lib.ListN.{length, getD, length-replicate}
+use Rattle.refusals.specs.declared.Refusal.the-variants.{TableTooShort}
 use Rattle.meaning.specs.Split.{Task, Valid}
 use Rattle.scan.specs.declared.Found.{Found}
 use Rattle.scan.specs.declared.Found.the-variants.{Clean, Fault}
-use Rattle.tables.specs.Layout.{Tables, factsRoom, costsRoom, sharesRoom, domPlace, initPlace, goalPlace, prePlace, effPlace, classPlace, domAt, initAt, goalAt, preAt, effAt, classAt}
+use Rattle.tables.specs.Layout.{Tables, factsRoom, costsRoom, sharesRoom, domPlace, initPlace, goalPlace, prePlace, effPlace, domAt, initAt, goalAt, preAt, effAt, classAt}
 use Rattle.tables.specs.Task.{taskOf}
-use Rattle.scan.specs.Scan.{unless, _then_, each, factsFault, operatorFault, mapFault, sharesFault, splitFault, taskFault, roomy, tablesFault, within as scanWithin}
-use Rattle.scan.proofs.Walks.{clean-next, all-clean, rule-held, walk-clean}
+use Rattle.scan.specs.Scan.{unless, _then_, each, sharesFault, splitFault, taskFault, roomy, tablesFault}
+use Rattle.scan.proofs.Walks.{clean-next, all-clean}
+use Rattle.scan.specs.Parts.{headFault, linesFault}
+use Rattle.scan.proofs.Rules.{head-clean, lines-clean, in-parts}
 use Rattle.scan.proofs.Validity.{clean-valid, valid-clean}
-use Rattle.grammar.specs.Fields.{comma, slash, semicolon}
+use Rattle.grammar.specs.Fields.{edition, comma, slash, semicolon}
 use Rattle.grammar.specs.Grammar.{accepted, verdict}
 use Rattle.grammar.specs.Spelling.{digits, numbers, someFacts, keyed, opText, mapText, shareText, spelled, textOf, changed, opRows, mapRows, headRows, tablesOf, canon}
 use Rattle.grammar.proofs.SpellParts.{judged}
 use Rattle.grammar.proofs.SpellTables.{zeros, long-changed, long-row}
-use Rattle.grammar.proofs.SpellOwn.{Small, long-head, long-op, long-facts-of, long-shares-of, spares-head, head-dom, head-init, head-goal, spares-ops-low, spares-ops-high, ops-pre, ops-eff, spares-maps, maps-class, costs-own, shares-own}
-use Rattle.grammar.proofs.SpellTask.{at-most, spelled-judged, scan-is-grammar, clean-accepted}
+use Rattle.grammar.proofs.SpellOwn.{Small, long-head, long-op, long-facts-of, long-shares-of, spares-head, head-dom, head-init}
+use Rattle.grammar.proofs.SpellOwn.{head-goal, spares-ops-low, ops-pre, ops-eff, spares-maps, maps-class, costs-own, shares-own}
+use Rattle.grammar.proofs.SpellTask.{spelled-judged, scan-is-grammar, clean-accepted}
 use Rattle.grammar.proofs.SpellBack.{not-refused, joined-same, stacked-same}
 use Rattle.grammar.proofs.SpellBackFacts.{some-same}
 use Rattle.grammar.proofs.SpellBackTask.{accepted-task}
-use Rattle.tables.specs.Lines.{lineOfMaps}
 
 -- ---- a clean task is small
 
 pub clean-small : (τ : Task) → taskFault τ ≡ Clean → Small τ
-unfolding taskFault
 clean-small τ p =
-    let doms : ℕ → Found = λ v. unless (scanWithin 1 8 (τ .sas .dom v)) (OutOfRange 3) in
-    let q = all-clean (unless (scanWithin 1 8 (τ .sas .vars)) (OutOfRange 2))
-    (each doms (τ .sas .vars) 0
-    ∷ each (λ v. unless (ltb (τ .sas .init v) (τ .sas .dom v)) (OutOfRange 4)) (τ .sas .vars) 0
-    ∷ factsFault τ (τ .sas .goal) 5
-    ∷ unless (leb (τ .sas .ops) 64) (OutOfRange 6)
-    ∷ each (operatorFault τ) (τ .sas .ops) 0
-    ∷ unless (scanWithin 1 8 (τ .maps)) (OutOfRange (lineOfMaps (τ .sas .ops)))
-    ∷ (each (mapFault τ) (τ .maps) 0 then each (sharesFault τ) (τ .maps) 0 then each (splitFault τ) (τ .sas .ops) 0)
-    ∷ []) p in
-    let r = q .1 .1 .1 .1 in
-    record {
-      vars = at-most 1 8 (τ .sas .vars) (OutOfRange 2) (q .0);
-      doms = λ v h. at-most 1 8 (τ .sas .dom v) (OutOfRange 3) (walk-clean doms (τ .sas .vars) v (q .1 .0) h);
-      ops = leb-true (τ .sas .ops) 64 (rule-held (leb (τ .sas .ops) 64) (OutOfRange 6) (r .0));
-      maps = at-most 1 8 (τ .maps) (OutOfRange (lineOfMaps (τ .sas .ops))) (r .1 .1 .0);
-    }
+    let later = each (sharesFault τ) (τ .maps) 0 then each (splitFault τ) (τ .sas .ops) 0 in
+    let q = all-clean (headFault τ) (linesFault τ ∷ later ∷ []) (sym (in-parts τ) ∙ p) in
+    let h = head-clean τ (q .0) in
+    record { vars = h .vars .1; doms = λ v l. h .doms v l .1; ops = h .ops; maps = lines-clean τ (q .1 .0) .maps .1 }
 
 -- ---- the tables of a small task spell the same text
 
 module _ (τ : Task) (s : Small τ) where
-  abbrev blank : List ℕ
-  blank = replicate factsRoom 0
-
-  module _ (w : List ℕ) (l : length w ≡ 1624) (z : (p : ℕ) → getD w p 0 ≡ 0) where
+  module _ (w : List ℕ) (l : length w ≡ factsRoom) (z : (p : ℕ) → getD w p 0 ≡ 0) where
     abbrev opsIn : List ℕ
     opsIn = changed (opRows τ) (τ .sas .ops) 0 (headRows τ w)
 
@@ -93,7 +77,6 @@ module _ (τ : Task) (s : Small τ) where
     class-in : (m v x : ℕ) → m < τ .maps → v < τ .sas .vars → x < τ .sas .dom v → classAt factsIn m v x ≡ τ .class m v x
     class-in m v x k h g =
         maps-class τ s m v x k h g opsIn (long-changed (opRows τ) (long-op τ) (τ .sas .ops) 0 (headRows τ w) ∙ long-head τ w ∙ l)
-        (spares-ops-high τ s (classPlace m v x) (omega arith) (headRows τ w) ∙ spares-head τ s (classPlace m v x) (omega arith) w ∙ z (classPlace m v x))
 
 numbers-same : (f g : ℕ → ℕ) (n : ℕ) → ((i : ℕ) → i < n → f i ≡ g i) → numbers f n ≡ numbers g n
 unfolding numbers
@@ -124,11 +107,11 @@ own-numbers τ s =
       dom = dom-in τ s _ l z;
       init = init-in τ s _ l z;
       goal = goal-in τ s _ l z;
-      cost = costs-own τ s _ (length-replicate {A = ℕ} costsRoom 0) (zeros costsRoom);
+      cost = costs-own τ s _ (length-replicate {A = ℕ} costsRoom 0);
       pre = pre-in τ s _ l z;
       eff = eff-in τ s _ l z;
       class = class-in τ s _ l z;
-      share = shares-own τ s _ (length-replicate {A = ℕ} sharesRoom 0) (zeros sharesRoom);
+      share = shares-own τ s _ (length-replicate {A = ℕ} sharesRoom 0);
     }
 
 same-lines : (a b c c′ d d′ e e′ f g g′ h i i′ j j′ : List ℕ) → c ≡ c′ → d ≡ d′ → e ≡ e′ → g ≡ g′ → i ≡ i′ → j ≡ j′
@@ -143,12 +126,12 @@ op-same N c c′ F F′ E E′ p q r =
     cc
 
 -- tables that agree with a task spell its text
-pub tables-spell : (τ : Task) → Small τ → textOf (tablesOf τ) ≡ spelled τ
+pub tables-spell : (τ : Task) → Small τ → textOf edition (tablesOf τ) ≡ spelled edition τ
 unfolding spelled tablesOf opText mapText
 tables-spell τ s =
     let σ = taskOf (tablesOf τ) in
     let a = own-numbers τ s in
-    same-lines (keyed "edition=" (digits 1)) (keyed "vars=" (digits (τ .sas .vars))) _ _ _ _ _ _ (keyed "ops=" (digits (τ .sas .ops))) _ _ (keyed "maps=" (digits (τ .maps))) _ _ _ _
+    same-lines (keyed "edition=" (digits edition)) (keyed "vars=" (digits (τ .sas .vars))) _ _ _ _ _ _ (keyed "ops=" (digits (τ .sas .ops))) _ _ (keyed "maps=" (digits (τ .maps))) _ _ _ _
     (ap (keyed "dom=") (numbers-same (σ .sas .dom) (τ .sas .dom) (τ .sas .vars) (a .dom)))
     (ap (keyed "init=") (numbers-same (σ .sas .init) (τ .sas .init) (τ .sas .vars) (a .init)))
     (ap (keyed "goal=") (some-same (σ .sas .goal) (τ .sas .goal) (τ .sas .vars) 0 (λ v x y. a .goal v (omega arith))))
@@ -184,7 +167,7 @@ canon-roomy t =
 
 -- the text x spells the valid task of the tables T, in which every other place is 0
 pub record Spells (x : List ℕ) (T : Tables) : Type 0 where
-  pub text : textOf T ≡ x
+  pub text : textOf edition T ≡ x
   pub own : T ≡ canon T
   pub valid : Valid (taskOf T)
 
@@ -193,7 +176,7 @@ own-roomy T p = ap roomy p ∙ canon-roomy T
 
 -- what an accepted text leaves passes the scan
 record Left (x : List ℕ) (T : Tables) : Type 0 where
-  text : textOf T ≡ x
+  text : textOf edition T ≡ x
   own : T ≡ canon T
   clean : taskFault (taskOf T) ≡ Clean
 
@@ -202,7 +185,7 @@ left x T h =
     let t = accepted-task x T h in
     let τ = t .0 in
     let j = judged-accepted (taskFault τ) (tablesOf τ) T (sym (spelled-judged τ) ∙ ap verdict (sym (t .1)) ∙ h) in
-    let p : textOf T ≡ x = ap textOf (sym (j .1)) ∙ tables-spell τ (clean-small τ (j .0)) ∙ sym (t .1) in
+    let p : textOf edition T ≡ x = ap (textOf edition) (sym (j .1)) ∙ tables-spell τ (clean-small τ (j .0)) ∙ sym (t .1) in
     let i = judged-accepted (taskFault (taskOf T)) (canon T) T (sym (scan-is-grammar T) ∙ ap verdict p ∙ h) in
     record { text = p; own = sym (i .1); clean = i .0 }
 
@@ -223,10 +206,10 @@ spells-accepted x T s =
 -- ---- one text a task
 
 -- only the task's own places are spelled
-pub own-places-spelled : (t : Tables) → taskFault (taskOf t) ≡ Clean → textOf (canon t) ≡ textOf t
+pub own-places-spelled : (t : Tables) → taskFault (taskOf t) ≡ Clean → textOf edition (canon t) ≡ textOf edition t
 own-places-spelled t p = tables-spell (taskOf t) (clean-small (taskOf t) p)
 
 -- tables with one text are those of one task
-pub one-text : (t u : Tables) → taskFault (taskOf t) ≡ Clean → textOf t ≡ textOf u → canon t ≡ canon u
+pub one-text : (t u : Tables) → taskFault (taskOf t) ≡ Clean → textOf edition t ≡ textOf edition u → canon t ≡ canon u
 one-text t u p e =
     sym (judged-accepted (taskFault (taskOf u)) (canon u) (canon t) (sym (scan-is-grammar u) ∙ ap verdict (sym e) ∙ clean-accepted t p) .1)

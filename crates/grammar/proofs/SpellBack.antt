@@ -1,4 +1,5 @@
--- Back from an accepted text: what a part has read is what it spells. A number, a row, a line, several lines. Assumes nothing.
+-- Back from an accepted text: what a part has read is what it spells. A number, a row, a line, several lines.
+-- No demand was refused, so each held; by induction on what the part reads. Assumes nothing.
 use Prim.Native.Nat.{ℕ, zero, suc, _+_, _≤_, _<_}
 use Prim.Native.String.{String}
 use native.Mathlib.Omega.{arith}
@@ -12,8 +13,8 @@ use borrow.Author.Tests.{eq-eqb, ne-eqb, eqb-true}
 use Rattle.refusals.specs.declared.Refusal.{Refusal}
 use Rattle.refusals.specs.declared.Refusal.the-variants.{OffForm, OutOfRange}
 use Rattle.tables.specs.Layout.{Tables}
-use Rattle.grammar.specs.Fields.{bytes, lineEnd, comma}
-use Rattle.grammar.specs.Grammar.{accepted, refused, Rest, Part, _▸_, keep, demand, lit, runLen, value, formed, fits, numeral, parted, row, endOfLine, line, lines}
+use Rattle.grammar.specs.Fields.{bytesOf, lineEnd, comma}
+use Rattle.grammar.specs.Grammar.{accepted, refused, Rest, Part, _▸_, keep, demand, lit, runLen, decimal, formed, fits, numeral, parted, numberRow, endOfLine, textLine, textLines}
 use Rattle.grammar.specs.Spelling.{digits, gap, joined, keyed, stacked, changed}
 use Rattle.grammar.proofs.Decimal.{digits-back}
 use Rattle.grammar.proofs.SpellParts.{joined-none, joined-front}
@@ -52,7 +53,7 @@ pub number-back : (least limit : ℕ) (p : ℕ → Part) (t : List ℕ) (l : ℕ
     → Back ℕ digits t (λ v u. (fits v least limit ≡ true) × (p v u l T k ≡ accepted W))
 unfolding numeral _▸_
 number-back least limit p t l T k W h =
-    let v = value 0 (take (runLen t) t) in
+    let v = decimal 0 (take (runLen t) t) in
     let u = drop (runLen t) t in
     let d = demand-back (formed t) OffForm u l T _ W h in
     let e = demand-back (fits v least limit) OutOfRange u l T _ W (d .1) in
@@ -124,15 +125,15 @@ parted-back (suc n) mark l T t k W h = lit-back (mark ∷ []) l T t k W h
 
 -- A ROW of numbers
 module _ (least : ℕ) (limit : ℕ → Tables → ℕ) (put : ℕ → ℕ → Tables → Tables) where
-  pub row-back : (n i l : ℕ) (T : Tables) → BackOf (ℕ → ℕ) (row least limit put n i) l l T (λ f. joined comma (λ j. digits (f j)) n i) (λ f. changed (λ j. put j (f j)) n i T)
-  unfolding row changed _▸_ keep
+  pub row-back : (n i l : ℕ) (T : Tables) → BackOf (ℕ → ℕ) (numberRow least limit put n i) l l T (λ f. joined comma (λ j. digits (f j)) n i) (λ f. changed (λ j. put j (f j)) n i T)
+  unfolding numberRow changed _▸_ keep
   row-back zero i l T t k W h = record { what = λ j. 0; rest = t; says = ap (λ (x : List ℕ). x ++ t) (sym (joined-none comma _ 0 i refl)); then = h }
   row-back (suc n) i l T t k W h =
       let a = number-back least (limit i T) _ t l T k W h in
       let v = a .what in
       let U = put i v T in
       let b = parted-back n comma l U (a .rest) _ W (a .then .1) in
-      let r = row-back n (suc i) l U (b .rest) k W (ap (λ (x : ℕ). row least limit put n x (b .rest) l U k) (sym (add-one i)) ∙ b .then) in
+      let r = row-back n (suc i) l U (b .rest) k W (ap (λ (x : ℕ). numberRow least limit put n x (b .rest) l U k) (sym (add-one i)) ∙ b .then) in
       record {
         what = at i v (r .what);
         rest = r .rest;
@@ -146,16 +147,16 @@ unfolding endOfLine _▸_
 end-back l T t k W h = lit-back (lineEnd ∷ []) l T t _ W h
 
 pub line-back : (A : Type 0) (key : String) (p : Part) (l : ℕ) (T : Tables) (text : A → List ℕ) (change : A → Tables) → BackOf A p l l T text change
-    → BackOf A (line key p) l (l + 1) T (λ a. keyed key (text a)) change
-unfolding line keyed _▸_
+    → BackOf A (textLine key p) l (l + 1) T (λ a. keyed key (text a)) change
+unfolding textLine keyed _▸_
 line-back A key p l T text change back t k W h =
-    let a = lit-back (bytes key) l T t _ W h in
+    let a = lit-back (bytesOf key) l T t _ W h in
     let b = back (a .rest) _ W (a .then) in
     let c = end-back l (change (b .what)) (b .rest) k W (b .then) in
     record {
       what = b .what;
       rest = c .rest;
-      says = ended (bytes key) (text (b .what)) t (a .rest) (b .rest) (c .rest) (a .says) (b .says) (c .says);
+      says = ended (bytesOf key) (text (b .what)) t (a .rest) (b .rest) (c .rest) (a .says) (b .says) (c .says);
       then = c .then;
     }
   where
@@ -166,14 +167,14 @@ line-back A key p l T text change back t k W h =
 module _ (A : Type 0) (none : A) (p : ℕ → Part) (text : ℕ → A → List ℕ) (change : ℕ → A → Tables → Tables) (P : Tables → Type 0)
     (keeps : (i : ℕ) (a : A) (T : Tables) → P T → P (change i a T))
     (back : (i l : ℕ) (T : Tables) → P T → BackOf A (p i) l (l + 1) T (text i) (λ a. change i a T)) where
-  pub lines-back : (n i l : ℕ) (T : Tables) → P T → BackOf (ℕ → A) (lines p n i) l (l + n) T (λ d. stacked (λ j. text j (d j)) n i) (λ d. changed (λ j. change j (d j)) n i T)
-  unfolding lines stacked changed _▸_
+  pub lines-back : (n i l : ℕ) (T : Tables) → P T → BackOf (ℕ → A) (textLines p n i) l (l + n) T (λ d. stacked (λ j. text j (d j)) n i) (λ d. changed (λ j. change j (d j)) n i T)
+  unfolding textLines stacked changed _▸_
   lines-back zero i l T pT t k W h = record { what = λ j. none; rest = t; says = refl; then = let z : l + 0 ≡ l = omega arith in ap (λ (m : ℕ). k t m T) z ∙ h }
   lines-back (suc n) i l T pT t k W h =
       let z : l + suc n ≡ (l + 1) + n = omega arith in
       let a = back i l T pT t _ W h in
       let U = change i (a .what) T in
-      let r = lines-back n (suc i) (l + 1) U (keeps i (a .what) T pT) (a .rest) k W (ap (λ (x : ℕ). lines p n x (a .rest) (l + 1) U k) (sym (add-one i)) ∙ a .then) in
+      let r = lines-back n (suc i) (l + 1) U (keeps i (a .what) T pT) (a .rest) k W (ap (λ (x : ℕ). textLines p n x (a .rest) (l + 1) U k) (sym (add-one i)) ∙ a .then) in
       record {
         what = at i (a .what) (r .what);
         rest = r .rest;

@@ -1,4 +1,5 @@
--- Back from an accepted list of facts: it is the spelling of a row of facts. Assumes nothing.
+-- Back from an accepted list of facts: it is the spelling of a row of facts.
+-- Each fact names a later variable than the one before it, and of those between nothing is said. Assumes nothing.
 use Prim.Native.Nat.{ℕ, zero, suc, _+_, _-_, _≤_, _<_}
 use native.Mathlib.Omega.{arith}
 use native.Mathlib.Numerals.{add-one}
@@ -12,8 +13,8 @@ use Rattle.meaning.specs.Sas.{Facts}
 use Rattle.tables.specs.Layout.{Tables, domAt}
 use Rattle.tables.proofs.Laws.{by-cases}
 use Rattle.grammar.specs.Fields.{comma, dash, colon}
-use Rattle.grammar.specs.Grammar.{accepted, Rest, Part, _▸_, nothing, ask, keep, choice, fits, putFact, facts, factList}
-use Rattle.grammar.specs.Spelling.{digits, fact, another, moreFacts, first, someFacts, changed, factPut, factRow}
+use Rattle.grammar.specs.Grammar.{accepted, Rest, Part, _▸_, nothing, ask, keep, choice, fits, putFact, factsFrom, factList}
+use Rattle.grammar.specs.Spelling.{digits, fact, anotherFact, moreFacts, firstFact, someFacts, changed, factPut, factRow}
 use Rattle.grammar.proofs.Runs.{clash}
 use Rattle.grammar.proofs.SpellFacts.{within-below, on}
 use Rattle.grammar.proofs.SpellBack.{Back, BackOf, demand-back, lit-back, number-back, changed-same}
@@ -39,35 +40,35 @@ pub more-same : (F G : Facts) (n i : ℕ) → ((j : ℕ) → i ≤ j → j < i +
 unfolding moreFacts
 more-same F G zero i h = refl
 more-same F G (suc n) i h =
-    ap₂ (λ (x : ℕ) (y : List ℕ). another x i ++ y) (h i (omega arith) (omega arith)) (more-same F G n (suc i) (λ j a b. h j (omega arith) (omega arith)))
+    ap₂ (λ (x : ℕ) (y : List ℕ). anotherFact x i ++ y) (h i (omega arith) (omega arith)) (more-same F G n (suc i) (λ j a b. h j (omega arith) (omega arith)))
 
 pub some-same : (F G : Facts) (n i : ℕ) → ((j : ℕ) → i ≤ j → j < i + n → F j ≡ G j) → someFacts F n i ≡ someFacts G n i
 unfolding someFacts
 some-same F G zero i h = refl
 some-same F G (suc n) i h =
-    ap (λ (x : ℕ). first x i (moreFacts F n (suc i)) (someFacts F n (suc i))) (h i (omega arith) (omega arith))
-    ∙ ap₂ (λ (x y : List ℕ). first (G i) i x y) (more-same F G n (suc i) (λ j a b. h j (omega arith) (omega arith))) (some-same F G n (suc i) (λ j a b. h j (omega arith) (omega arith)))
+    ap (λ (x : ℕ). firstFact x i (moreFacts F n (suc i)) (someFacts F n (suc i))) (h i (omega arith) (omega arith))
+    ∙ ap₂ (λ (x y : List ℕ). firstFact (G i) i x y) (more-same F G n (suc i) (λ j a b. h j (omega arith) (omega arith))) (some-same F G n (suc i) (λ j a b. h j (omega arith) (omega arith)))
 
 -- nothing is said of d variables
 more-skip : (F : Facts) (d n i : ℕ) → ((j : ℕ) → i ≤ j → j < i + d → F j ≡ 0) → moreFacts F (d + n) i ≡ moreFacts F n (i + d)
-unfolding moreFacts another
+unfolding moreFacts anotherFact
 more-skip F zero n i h = let a : 0 + n ≡ n = omega arith in let b : i ≡ i + 0 = omega arith in ap₂ (moreFacts F) a b
 more-skip F (suc d) n i h =
     let a : suc d + n ≡ suc (d + n) = omega arith in
     let b : suc i + d ≡ i + suc d = omega arith in
     ap (λ (m : ℕ). moreFacts F m i) a
-    ∙ ap (λ (x : ℕ). another x i ++ moreFacts F (d + n) (suc i)) (h i (omega arith) (omega arith))
+    ∙ ap (λ (x : ℕ). anotherFact x i ++ moreFacts F (d + n) (suc i)) (h i (omega arith) (omega arith))
     ∙ more-skip F d n (suc i) (λ j p q. h j (omega arith) (omega arith))
     ∙ ap (moreFacts F n) b
 
 some-skip : (F : Facts) (d n i : ℕ) → ((j : ℕ) → i ≤ j → j < i + d → F j ≡ 0) → someFacts F (d + n) i ≡ someFacts F n (i + d)
-unfolding someFacts first
+unfolding someFacts firstFact
 some-skip F zero n i h = let a : 0 + n ≡ n = omega arith in let b : i ≡ i + 0 = omega arith in ap₂ (someFacts F) a b
 some-skip F (suc d) n i h =
     let a : suc d + n ≡ suc (d + n) = omega arith in
     let b : suc i + d ≡ i + suc d = omega arith in
     ap (λ (m : ℕ). someFacts F m i) a
-    ∙ ap (λ (x : ℕ). first x i (moreFacts F (d + n) (suc i)) (someFacts F (d + n) (suc i))) (h i (omega arith) (omega arith))
+    ∙ ap (λ (x : ℕ). firstFact x i (moreFacts F (d + n) (suc i)) (someFacts F (d + n) (suc i))) (h i (omega arith) (omega arith))
     ∙ some-skip F d n (suc i) (λ j p q. h j (omega arith) (omega arith))
     ∙ ap (someFacts F n) b
 
@@ -92,16 +93,17 @@ module _ (place : ℕ → ℕ) where
     whole = from (i + d) x F
 
     whole-more : moreFacts whole (d + suc n) i ≡ (comma ∷ fact (i + d) x) ++ moreFacts F n (suc (i + d))
-    unfolding moreFacts another
+    unfolding moreFacts anotherFact
     whole-more =
         more-skip whole d (suc n) i (λ j a b. from-low (i + d) x F j b)
-        ∙ ap₂ (λ (y : ℕ) (z : List ℕ). another y (i + d) ++ z) (from-here (i + d) x F) (more-same whole F n (suc (i + d)) (λ j a b. from-high (i + d) x F j (omega arith)))
+        ∙ ap₂ (λ (y : ℕ) (z : List ℕ). anotherFact y (i + d) ++ z) (from-here (i + d) x F) (more-same whole F n (suc (i + d)) (λ j a b. from-high (i + d) x F j (omega arith)))
 
     whole-some : someFacts whole (d + suc n) i ≡ fact (i + d) x ++ moreFacts F n (suc (i + d))
-    unfolding someFacts first
+    unfolding someFacts firstFact
     whole-some =
         some-skip whole d (suc n) i (λ j a b. from-low (i + d) x F j b)
-        ∙ ap₂ (λ (y : ℕ) (z : List ℕ). first y (i + d) z (someFacts whole n (suc (i + d)))) (from-here (i + d) x F) (more-same whole F n (suc (i + d)) (λ j a b. from-high (i + d) x F j (omega arith)))
+        ∙ ap₂ (λ (y : ℕ) (z : List ℕ). firstFact y (i + d) z (someFacts whole n (suc (i + d)))) (from-here (i + d) x F)
+        (more-same whole F n (suc (i + d)) (λ j a b. from-high (i + d) x F j (omega arith)))
 
     whole-put : (w : List ℕ) → changed (put whole) (d + suc n) i w ≡ changed (put F) n (suc (i + d)) (factPut (suc x) (place (i + d)) w)
     unfolding changed
@@ -139,21 +141,21 @@ record OneFact (place : ℕ → ℕ) (n least N : ℕ) (t : List ℕ) (l : ℕ) 
   low : least ≤ var
   high : var < N
   says : t ≡ fact var val ++ rest
-  then : choice comma (facts place n (suc var)) nothing rest l (on (factPut (suc val) (place var)) T) k ≡ accepted W
+  then : choice comma (factsFrom place n (suc var)) nothing rest l (on (factPut (suc val) (place var)) T) k ≡ accepted W
 
 module _ (place : ℕ → ℕ) (N l : ℕ) (k : Rest) (W : Tables) where
   below : (v : ℕ) (T : Tables) → T .counts .vars ≡ N → fits v 0 (T .counts .vars) ≡ true → v < N
   below v T e p = let h = ltb-true v (T .counts .vars) (sym (within-below v (T .counts .vars)) ∙ p) in omega arith
 
-  none-left : {R : Type 0} (least : ℕ) (t : List ℕ) (T : Tables) → facts place 0 least t l T k ≡ accepted W → R
-  unfolding facts
+  none-left : {R : Type 0} (least : ℕ) (t : List ℕ) (T : Tables) → factsFrom place 0 least t l T k ≡ accepted W → R
+  unfolding factsFrom
   none-left least t T h =
       let a = number-back 0 (T .counts .vars) _ t l T k W h in
       let d = demand-back false NotRising (a .rest) l T k W (a .then .1) in
       clash (d .0) refl
 
-  fact-back : (n least : ℕ) (t : List ℕ) (T : Tables) → T .counts .vars ≡ N → facts place (suc n) least t l T k ≡ accepted W → OneFact place n least N t l T k W
-  unfolding facts fact factPut _▸_ keep
+  fact-back : (n least : ℕ) (t : List ℕ) (T : Tables) → T .counts .vars ≡ N → factsFrom place (suc n) least t l T k ≡ accepted W → OneFact place n least N t l T k W
+  unfolding factsFrom fact factPut _▸_ keep
   fact-back n least t T e h =
       let a = number-back 0 (T .counts .vars) _ t l T k W h in
       let v = a .what in
@@ -168,8 +170,8 @@ module _ (place : ℕ → ℕ) (N l : ℕ) (k : Rest) (W : Tables) where
         high = below v T e (a .then .0);
         says = told (digits v) (digits (x .what)) t (a .rest) (c .rest) (x .rest) (a .says) (c .says) (x .says);
         then =
-            ap (λ (y : ℕ). choice comma (facts place n y) nothing (x .rest) l (putFact (place v) (suc (x .what)) T) k) (sym (add-one v))
-            ∙ ap (λ (y : ℕ). choice comma (facts place n (v + 1)) nothing (x .rest) l (putFact (place v) y T) k) (sym (add-one (x .what)))
+            ap (λ (y : ℕ). choice comma (factsFrom place n y) nothing (x .rest) l (putFact (place v) (suc (x .what)) T) k) (sym (add-one v))
+            ∙ ap (λ (y : ℕ). choice comma (factsFrom place n (v + 1)) nothing (x .rest) l (putFact (place v) y T) k) (sym (add-one (x .what)))
             ∙ x .then .1;
       }
     where
@@ -181,12 +183,12 @@ module _ (place : ℕ → ℕ) (N l : ℕ) (k : Rest) (W : Tables) where
 
   -- nothing is said
   more-none : (r i : ℕ) → moreFacts (λ j. 0) r i ≡ []
-  unfolding moreFacts another
+  unfolding moreFacts anotherFact
   more-none zero i = refl
   more-none (suc r) i = more-none r (suc i)
 
   some-none : (r i : ℕ) → someFacts (λ j. 0) r i ≡ dash ∷ []
-  unfolding someFacts first
+  unfolding someFacts firstFact
   some-none zero i = refl
   some-none (suc r) i = some-none r (suc i)
 
@@ -251,20 +253,20 @@ module _ (place : ℕ → ℕ) (N l : ℕ) (k : Rest) (W : Tables) where
         then = ap (λ (w : List ℕ). k t l (on (λ x. w) T)) (put-none r least (T .facts)) ∙ q;
       }
 
-  more-back : (n least r : ℕ) → least + r ≡ N → (t : List ℕ) (T : Tables) → T .counts .vars ≡ N → choice comma (facts place n least) nothing t l T k ≡ accepted W
+  more-back : (n least r : ℕ) → least + r ≡ N → (t : List ℕ) (T : Tables) → T .counts .vars ≡ N → choice comma (factsFrom place n least) nothing t l T k ≡ accepted W
       → Read r least (λ F. moreFacts F r least) t T
   unfolding nothing
   more-back zero least r e t T c h =
-      choice-back comma (facts place 0 least) nothing t l T k W h (λ u p q. none-left least u T q)
+      choice-back comma (factsFrom place 0 least) nothing t l T k W h (λ u p q. none-left least u T q)
       (λ q. more-nothing least r t T q)
   more-back (suc n) least r e t T c h =
-      choice-back comma (facts place (suc n) least) nothing t l T k W h
+      choice-back comma (factsFrom place (suc n) least) nothing t l T k W h
       (λ u p q.
       let o = fact-back n least u T c q in
       more-joined least r e n u T o (more-back n (suc (o .var)) (N - suc (o .var)) (omega (arith, o .high)) (o .rest) (on (factPut (suc (o .val)) (place (o .var))) T) c (o .then)) t p)
       (λ q. more-nothing least r t T q)
 
-  some-back : (n : ℕ) (t : List ℕ) (T : Tables) → T .counts .vars ≡ N → facts place n 0 t l T k ≡ accepted W → Read N 0 (λ F. someFacts F N 0) t T
+  some-back : (n : ℕ) (t : List ℕ) (T : Tables) → T .counts .vars ≡ N → factsFrom place n 0 t l T k ≡ accepted W → Read N 0 (λ F. someFacts F N 0) t T
   some-back zero t T c h = none-left 0 t T h
   some-back (suc n) t T c h =
       let o = fact-back n 0 t T c h in
@@ -274,6 +276,12 @@ module _ (place : ℕ → ℕ) (N l : ℕ) (k : Rest) (W : Tables) where
 pub facts-back : (place : ℕ → ℕ) (N l : ℕ) (T : Tables) → T .counts .vars ≡ N → BackOf Facts (factList place) l l T (λ F. someFacts F N 0) (λ F. on (factRow place F N) T)
 unfolding factList ask factRow nothing
 facts-back place N l T c t k W h =
-    choice-back dash nothing (ask (λ U. facts place (U .counts .vars) 0)) t l T k W h
-    (λ u p q. record { what = λ j. 0; rest = u; says = p ∙ ap (λ (x : List ℕ). x ++ u) (sym (some-none place N l k W N 0)); then = ap (λ (w : List ℕ). k u l (on (λ x. w) T)) (put-none place N l k W N 0 (T .facts)) ∙ q })
+    choice-back dash nothing (ask (λ U. factsFrom place (U .counts .vars) 0)) t l T k W h
+    (λ u p q.
+    record {
+      what = λ j. 0;
+      rest = u;
+      says = p ∙ ap (λ (x : List ℕ). x ++ u) (sym (some-none place N l k W N 0));
+      then = ap (λ (w : List ℕ). k u l (on (λ x. w) T)) (put-none place N l k W N 0 (T .facts)) ∙ q;
+    })
     (λ q. some-back place N l k W (T .counts .vars) t T c q)

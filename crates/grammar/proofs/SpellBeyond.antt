@@ -1,10 +1,13 @@
--- The tables of a task hold 0 in every place that isn't the task's own. Assumes nothing.
-use Prim.Native.Nat.{ℕ, _≤_, _<_}
+-- The tables of a task hold 0 in every place that isn't the task's own, for no change writes there; and a lent table that is longer holds 0 beyond.
+-- Assumes nothing.
+use Prim.Native.Nat.{ℕ, zero, suc, _-_, _≤_, _<_}
 use native.Mathlib.Omega.{arith}
 use mathlib.Core.Path.{_≡_, _∙_}
-use lib.ListN.{getD}
+use mathlib.Core.List.{List, [], _∷_, _++_}
+use lib.ListN.{length, getD, replicate}
 use Rattle.meaning.specs.Split.{Task}
 use Rattle.tables.specs.Layout.{factsRoom, costsRoom, sharesRoom, domPlace, initPlace, goalPlace, prePlace, effPlace, classPlace, sharePlace}
+use Rattle.grammar.specs.Fields.{filled}
 use Rattle.grammar.specs.Spelling.{rowPut, opRows, mapRows, headRows, tablesOf}
 use Rattle.grammar.proofs.SpellTables.{Spares, spares-changed, spares-row, spares-facts, zeros}
 
@@ -43,6 +46,16 @@ module _ (τ : Task) (p : ℕ) (n : NotOwn τ p) where
       ∙ spares-changed (opRows τ) p (τ .sas .ops) 0 (λ o a b. op-spared o (omega arith)) _
       ∙ head-spared _
       ∙ zeros factsRoom p
+
+-- the places of a lent table beyond the room of the largest task
+zeros-after : (xs : List ℕ) (n i : ℕ) → length xs ≤ i → getD (xs ++ replicate n 0) i 0 ≡ 0
+zeros-after [] n i h = zeros n i
+zeros-after (x ∷ xs) n zero h = absurd (let z : ⊥ = omega arith in z)
+zeros-after (x ∷ xs) n (suc i) h = zeros-after xs n i (omega arith)
+
+pub room-beyond : (room : ℕ) (xs lent : List ℕ) (i : ℕ) → length xs ≡ room → room ≤ i → getD (filled room xs lent) i 0 ≡ 0
+unfolding filled
+room-beyond room xs lent i e h = zeros-after xs (length lent - room) i (omega arith)
 
 pub costs-beyond : (τ : Task) (o : ℕ) → τ .sas .ops ≤ o → getD (tablesOf τ .costs) o 0 ≡ 0
 unfolding tablesOf

@@ -1,119 +1,46 @@
--- The classes of a variable as the text's grammar counts them and as the scan does: the same count, and none missing together. Assumes nothing.
-use Prim.Native.Nat.{ℕ, zero, suc, _+_, _≤_, _<_}
+-- A rule over numbers says the same where the numbers are the same: the class rule, the count of abstract states, a split's total, a walk of rules.
+-- By induction on how many numbers there are. Assumes nothing.
+use Prim.Native.Nat.{ℕ, zero, suc, _+_, _*_, _≤_, _<_, max}
 use native.Mathlib.Omega.{arith}
-use mathlib.Core.Path.{_≡_, refl, sym, ap, ap₂, _∙_}
-use mathlib.Core.List.{List, [], _∷_}
-use mathlib.Core.Bool.{Bool, true, false, _&&_, _||_, cond}
+use mathlib.Core.Path.{_≡_, refl, ap, ap₂, _∙_}
+use mathlib.Core.Bool.{Bool, _||_}
 use lib.Dec.{eqb}
-use borrow.Author.Tests.{eq-eqb, ne-eqb, eqb-true, eqb-false}
-use Rattle.refusals.specs.declared.Refusal.{Refusal}
+use Rattle.meaning.specs.Numbering.{size}
 use Rattle.meaning.specs.Views.{every}
-use Rattle.meaning.specs.Split.{countOf}
-use Rattle.scan.specs.declared.Found.the-variants.{Clean, Fault}
-use Rattle.tables.specs.Classes.{someHas, noneMissing as scanNoneMissing}
-use Rattle.tables.proofs.Laws.{by-cases}
-use Rattle.meaning.specs.Limits.{mostValues}
-use Rattle.grammar.specs.Grammar.{has, topOf, allOf, classCount, noneMissing}
+use Rattle.meaning.specs.Split.{countOf, sum}
+use Rattle.meaning.proofs.Facts.{every-same}
+use Rattle.scan.specs.declared.Found.{Found}
+use Rattle.scan.specs.Scan.{_then_, each}
+use Rattle.tables.specs.Classes.{someHas, noneMissing}
 
--- a fault is not clean
-pub no-fault : {A : Type 0} {r : Refusal} → Fault r ≡ Clean → A
-no-fault p = let z : _≡_ {A = ℕ} 0 1 = cc in absurd (let n : ⊥ = omega arith in n)
+-- two rows of numbers that agree in the first n
+abbrev pub Same : (ℕ → ℕ) → (ℕ → ℕ) → ℕ → Type 0
+Same f g n = (x : ℕ) → x < n → f x ≡ g x
 
--- ---- classes in the order read, the last first
+module _ (f g : ℕ → ℕ) where
+  some-has-same : (n c : ℕ) → Same f g n → someHas f n c ≡ someHas g n c
+  some-has-same zero c h = refl
+  some-has-same (suc n) c h =
+      ap₂ (λ (a : Bool) (x : ℕ). a || eqb x c) (some-has-same n c (λ x l. h x (omega arith))) (h n (omega arith))
 
-pub down : (ℕ → ℕ) → ℕ → List ℕ
-down c zero = []
-down c (suc n) = c n ∷ down c n
+  pub count-same : (n : ℕ) → Same f g n → countOf f n ≡ countOf g n
+  count-same zero h = refl
+  count-same (suc n) h = ap₂ (λ (a x : ℕ). max a (suc x)) (count-same n (λ x l. h x (omega arith))) (h n (omega arith))
 
--- n classes from the x-th on, after those before
-unfoldable pub listed : (ℕ → ℕ) → ℕ → ℕ → List ℕ → List ℕ
-listed c zero x cs = cs
-listed c (suc n) x cs = listed c n (suc x) (c x ∷ cs)
+  pub missing-same : (n : ℕ) → Same f g n → noneMissing f n ≡ noneMissing g n
+  missing-same n h =
+      ap (every (someHas f n)) (count-same n h) ∙ every-same (someHas f n) (someHas g n) (countOf g n) (λ c l. some-has-same n c h)
 
-listed-down : (c : ℕ → ℕ) (n x : ℕ) → listed c n x (down c x) ≡ down c (x + n)
-unfolding listed down
-listed-down c zero x = let z : x ≡ x + 0 = omega arith in ap (down c) z
-listed-down c (suc n) x = let z : suc x + n ≡ x + suc n = omega arith in listed-down c n (suc x) ∙ ap (down c) z
+  pub size-same : (n : ℕ) → Same f g n → size f n ≡ size g n
+  size-same zero h = refl
+  size-same (suc n) h = ap₂ (λ (a x : ℕ). a * x) (size-same n (λ x l. h x (omega arith))) (h n (omega arith))
 
-pub listed-all : (c : ℕ → ℕ) (n : ℕ) → listed c n 0 [] ≡ down c n
-unfolding down
-listed-all c n = let z : 0 + n ≡ n = omega arith in listed-down c n 0 ∙ ap (down c) z
+  pub sum-same : (n : ℕ) → Same f g n → sum f n ≡ sum g n
+  sum-same zero h = refl
+  sum-same (suc n) h = ap₂ (λ (a x : ℕ). a + x) (sum-same n (λ x l. h x (omega arith))) (h n (omega arith))
 
-eqb-turn : (a b : ℕ) → eqb a b ≡ eqb b a
-eqb-turn a b = by-cases (eqb a b) (λ p. p ∙ sym (eq-eqb b a (sym (eqb-true a b p)))) (λ p. p ∙ sym (ne-eqb b a (λ q. eqb-false a b p (sym q))))
-
-pick-or : (a b : Bool) → cond a true b ≡ b || a
-pick-or true true = refl
-pick-or true false = refl
-pick-or false true = refl
-pick-or false false = refl
-
-has-some : (c : ℕ → ℕ) (n d : ℕ) → has (down c n) d ≡ someHas c n d
-unfolding has down
-has-some c zero d = refl
-has-some c (suc n) d = pick-or (eqb d (c n)) (has (down c n) d) ∙ ap₂ _||_ (has-some c n d) (eqb-turn d (c n))
-
-pick-and : (a b : Bool) → cond a b false ≡ b && a
-pick-and true true = refl
-pick-and true false = refl
-pick-and false true = refl
-pick-and false false = refl
-
-all-every : (f g : ℕ → Bool) (n : ℕ) → ((d : ℕ) → f d ≡ g d) → allOf n f ≡ every g n
-unfolding allOf
-all-every f g zero h = refl
-all-every f g (suc n) h = pick-and (f n) (allOf n f) ∙ ap₂ _&&_ (all-every f g n h) (h n)
-
--- ---- the largest class and one
-
--- t is the top of the numbers below K that pass
-top-is : (K t : ℕ) (f : ℕ → Bool) → t ≤ K → ((d : ℕ) → t ≤ d → d < K → f d ≡ false) → ((s : ℕ) → t ≡ suc s → f s ≡ true) → topOf K f ≡ t
-unfolding topOf
-top-is zero t f h above at = omega arith
-top-is (suc K) t f h above at =
-    by-cases (eqb t (suc K)) (λ q. let e : t ≡ suc K = eqb-true t (suc K) q in rw (at K e) (sym e))
-    (λ q.
-    let e : t ≡ suc K → ⊥ = eqb-false t (suc K) q in
-    rw (above K (omega arith) (omega arith)) (top-is K t f (omega arith) (λ d a b. above d a (omega arith)) at))
-
-below-max : (c : ℕ → ℕ) (n K : ℕ) → ((x : ℕ) → x < n → c x < K) → countOf c n ≤ K
-below-max c zero K h = omega arith
-below-max c (suc n) K h =
-    let p = below-max c n K (λ x l. h x (omega arith)) in
-    let q = h n (omega arith) in
-    omega arith
-
-none-above : (c : ℕ → ℕ) (n d : ℕ) → countOf c n ≤ d → someHas c n d ≡ false
-none-above c zero d h = refl
-none-above c (suc n) d h = rw (none-above c n d (omega arith), ne-eqb (c n) d (λ z. omega arith)) refl
-
-top-has : (c : ℕ → ℕ) (n s : ℕ) → countOf c n ≡ suc s → someHas c n s ≡ true
-top-has c zero s e = absurd (let z : ⊥ = omega arith in z)
-top-has c (suc n) s e =
-    by-cases (eqb (c n) s) (λ q. ap (λ (b : Bool). someHas c n s || b) q ∙ or-true′ (someHas c n s))
-    (λ q.
-    let d : c n ≡ s → ⊥ = eqb-false (c n) s q in
-    ap (λ (b : Bool). b || eqb (c n) s) (top-has c n s (omega arith)))
-  where
-    or-true′ : (b : Bool) → (b || true) ≡ true
-    or-true′ true = refl
-    or-true′ false = refl
-
-top-same : (f g : ℕ → Bool) (n : ℕ) → ((d : ℕ) → f d ≡ g d) → topOf n f ≡ topOf n g
-unfolding topOf
-top-same f g zero h = refl
-top-same f g (suc n) h = rw (h n, top-same f g n h) refl
-
-module _ (c : ℕ → ℕ) (n : ℕ) (low : (x : ℕ) → x < n → c x < mostValues) where
-  pub count-is : classCount (listed c n 0 []) ≡ countOf c n
-  unfolding classCount
-  count-is =
-      rw (listed-all c n)
-      (top-same (has (down c n)) (someHas c n) mostValues (has-some c n)
-      ∙ top-is mostValues (countOf c n) (someHas c n) (below-max c n mostValues low) (λ d a b. none-above c n d a) (top-has c n))
-
-  pub missing-is : noneMissing (listed c n 0 []) ≡ scanNoneMissing c n
-  unfolding noneMissing
-  missing-is =
-      ap₂ (λ (k : ℕ) (cs : List ℕ). allOf k (has cs)) count-is (listed-all c n)
-      ∙ all-every (has (down c n)) (someHas c n) (countOf c n) (has-some c n)
+pub each-same : (f g : ℕ → Found) (n i : ℕ) → ((j : ℕ) → i ≤ j → j < i + n → f j ≡ g j) → each f n i ≡ each g n i
+unfolding each
+each-same f g zero i h = refl
+each-same f g (suc n) i h =
+    ap₂ (λ (a b : Found). a then b) (h i (omega arith) (omega arith)) (each-same f g n (suc i) (λ j a b. h j (omega arith) (omega arith)))

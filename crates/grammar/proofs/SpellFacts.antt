@@ -1,4 +1,5 @@
--- A list of facts on what is spelled: the rule of each variable that is named, and the facts in their places. Assumes nothing.
+-- A list of facts on what is spelled: the rule of each variable that is named, and the facts in their places; by induction on the variables still to come.
+-- And on any text: a variable that doesn't rise is told before its colon. Assumes nothing.
 use Prim.Native.Nat.{ℕ, zero, suc, _+_, _≤_, _<_}
 use native.Mathlib.Omega.{arith}
 use native.Mathlib.Numerals.{add-one}
@@ -8,25 +9,20 @@ use mathlib.Core.Bool.{Bool, true, false}
 use lib.Dec.{eqb, leb, ltb}
 use lib.ListN.{set}
 use lib.Seq.{getD-set-other}
-use borrow.Author.Tests.{ne-eqb, le-leb, lt-ltb}
+use borrow.Author.Tests.{ne-eqb, le-leb, lt-leb, lt-ltb}
 use Rattle.refusals.specs.declared.Refusal.{Refusal}
 use Rattle.refusals.specs.declared.Refusal.the-variants.{OutOfRange, NotRising}
+use Rattle.meaning.specs.Limits.{mostVars}
 use Rattle.meaning.specs.Sas.{Facts}
 use Rattle.scan.specs.declared.Found.{Found}
 use Rattle.tables.specs.Layout.{Tables, domPlace, domAt}
 use Rattle.scan.specs.Scan.{unless, _then_, each}
 use Rattle.grammar.specs.Fields.{isDigit, comma, dash, colon}
-use Rattle.grammar.specs.Grammar.{Verdict, Rest, Part, _▸_, nothing, ask, keep, demand, lit, choice, fits, numeral, putFact, facts, factList}
-use Rattle.grammar.specs.Spelling.{digits, fact, another, moreFacts, first, someFacts, changed, rowPut, factPut, factRow}
+use Rattle.grammar.specs.Grammar.{Verdict, refused, Rest, Part, _▸_, nothing, ask, keep, demand, lit, choice, fits, numeral, putFact, factsFrom, factList}
+use Rattle.grammar.specs.Spelling.{digits, fact, anotherFact, moreFacts, firstFact, someFacts, changed, rowPut, factPut, factRow}
 use Rattle.grammar.proofs.Runs.{Stop, other}
 use Rattle.grammar.proofs.Decimal.{Head, head, digits-head}
 use Rattle.grammar.proofs.SpellParts.{judged, next, Told, demand-told, lit-told, number-told}
-
--- two tests that hold together
-pub same-test : (a b : Bool) → (a ≡ true → b ≡ true) → (b ≡ true → a ≡ true) → a ≡ b
-same-test true b p q = sym (p refl)
-same-test false true p q = q refl
-same-test false false p q = refl
 
 pub within-below : (v n : ℕ) → fits v 0 n ≡ ltb v n
 unfolding fits
@@ -43,6 +39,17 @@ passed r A p = rw p
 unsaid : (r : Refusal) (g : Found) (A : Verdict) (d : ℕ) → judged (unless (leb 0 d) r then g) A ≡ judged g A
 unsaid r g A d = rw (le-leb 0 d (omega arith)) refl
 
+-- 4 BEFORE ALL ELSE OF A FACT: whatever stands after the variable
+pub order-first : (place : ℕ → ℕ) (n least v : ℕ) (u : List ℕ) (l : ℕ) (T : Tables) (k : Rest) → Stop u → v < T .counts .vars → v < least
+    → factsFrom place n least (digits v ++ u) l T k ≡ refused (NotRising l)
+unfolding factsFrom _▸_ demand
+order-first place zero least v u l T k s a b =
+    number-told 0 (T .counts .vars) v _ u l T k s ∙ passed _ _ (within-below v (T .counts .vars) ∙ lt-ltb v (T .counts .vars) a)
+order-first place (suc n) least v u l T k s a b =
+    number-told 0 (T .counts .vars) v _ u l T k s
+    ∙ passed _ _ (within-below v (T .counts .vars) ∙ lt-ltb v (T .counts .vars) a)
+    ∙ rw (lt-leb least v b) refl
+
 -- the tables with other facts
 abbrev pub on : (List ℕ → List ℕ) → Tables → Tables
 on g T = record { counts = T .counts; facts = g (T .facts); costs = T .costs; shares = T .shares }
@@ -55,15 +62,15 @@ on-changed g (suc n) i T = on-changed g n (suc i) (on (g i) T)
 -- what the tables so far say of the variables
 pub record Knows (n : ℕ) (dom : ℕ → ℕ) (T : Tables) : Type 0 where
   pub vars : T .counts .vars ≡ n
-  pub few : n ≤ 8
+  pub few : n ≤ mostVars
   pub doms : (v : ℕ) → v < n → domAt (T .facts) v ≡ dom v
 
-pub knows-set : {n : ℕ} {dom : ℕ → ℕ} (T : Tables) (i x : ℕ) → 8 ≤ i → Knows n dom T → Knows n dom (putFact i x T)
+pub knows-set : {n : ℕ} {dom : ℕ → ℕ} (T : Tables) (i x : ℕ) → mostVars ≤ i → Knows n dom T → Knows n dom (putFact i x T)
 knows-set T i x h q =
     let f = q .few in
     record { vars = q .vars; few = q .few; doms = λ v l. getD-set-other (T .facts) i (domPlace v) x 0 (λ z. omega arith) ∙ q .doms v l }
 
-pub knows-said : {n : ℕ} {dom : ℕ → ℕ} (T : Tables) (k i : ℕ) → 8 ≤ i → Knows n dom T → Knows n dom (on (factPut k i) T)
+pub knows-said : {n : ℕ} {dom : ℕ → ℕ} (T : Tables) (k i : ℕ) → mostVars ≤ i → Knows n dom T → Knows n dom (on (factPut k i) T)
 unfolding factPut
 knows-said T zero i h q = q
 knows-said T (suc k) i h q = knows-set T i (suc k) h q
@@ -75,11 +82,11 @@ module _ {n : ℕ} {dom : ℕ → ℕ} where
   knows-changed g h zero i T w = w
   knows-changed g h (suc k) i T w = knows-changed g h k (suc i) (on (g i) T) (h i T w)
 
-  pub knows-row : (place f : ℕ → ℕ) → ((j : ℕ) → 8 ≤ place j) → (k : ℕ) (T : Tables) → Knows n dom T → Knows n dom (on (rowPut place f k) T)
+  pub knows-row : (place f : ℕ → ℕ) → ((j : ℕ) → mostVars ≤ place j) → (k : ℕ) (T : Tables) → Knows n dom T → Knows n dom (on (rowPut place f k) T)
   unfolding rowPut
   knows-row place f high k T w = knows-changed (λ i x. set x (place i) (f i)) (λ j U. knows-set U (place j) (f j) (high j)) k 0 T w
 
-  pub knows-facts : (place : ℕ → ℕ) (F : Facts) → ((j : ℕ) → 8 ≤ place j) → (k : ℕ) (T : Tables) → Knows n dom T → Knows n dom (on (factRow place F k) T)
+  pub knows-facts : (place : ℕ → ℕ) (F : Facts) → ((j : ℕ) → mostVars ≤ place j) → (k : ℕ) (T : Tables) → Knows n dom T → Knows n dom (on (factRow place F k) T)
   unfolding factRow
   knows-facts place F high k T w = knows-changed (λ v. factPut (F v) (place v)) (λ j U. knows-said U (F j) (place j) (high j)) k 0 T w
 
@@ -92,17 +99,17 @@ pub record Ends (b : ℕ) : Type 0 where
 abbrev pub factRule : (ℕ → ℕ) → Facts → ℕ → ℕ → Found
 factRule dom F l v = unless (leb (F v) (dom v)) (OutOfRange l)
 
-module _ (place : ℕ → ℕ) (high : (v : ℕ) → 8 ≤ place v) (F : Facts) (dom : ℕ → ℕ) (N : ℕ) (b : ℕ) (t : List ℕ) (e : Ends b) (l : ℕ) where
+module _ (place : ℕ → ℕ) (high : (v : ℕ) → mostVars ≤ place v) (F : Facts) (dom : ℕ → ℕ) (N : ℕ) (b : ℕ) (t : List ℕ) (e : Ends b) (l : ℕ) where
   -- one fact
   fact-told : (m least v k : ℕ) (u : List ℕ) (T : Tables) (go : Rest) → Stop u → least ≤ v → v < N → Knows N dom T
-      → facts place (suc m) least (fact v k ++ u) l T go
-      ≡ judged (unless (leb (suc k) (dom v)) (OutOfRange l)) (choice comma (facts place m (suc v)) nothing u l (on (factPut (suc k) (place v)) T) go)
-  unfolding facts fact factPut _▸_ keep
+      → factsFrom place (suc m) least (fact v k ++ u) l T go
+      ≡ judged (unless (leb (suc k) (dom v)) (OutOfRange l)) (choice comma (factsFrom place m (suc v)) nothing u l (on (factPut (suc k) (place v)) T) go)
+  unfolding factsFrom fact factPut _▸_ keep
   fact-told m least v k u T go s p q w =
-      let inner : (x : ℕ) → Part = λ x. keep (putFact (place v) (x + 1)) ▸ choice comma (facts place m (v + 1)) nothing in
+      let inner : (x : ℕ) → Part = λ x. keep (putFact (place v) (x + 1)) ▸ choice comma (factsFrom place m (v + 1)) nothing in
       let outer : (x : ℕ) → Part = λ x. demand (leb least x) NotRising ▸ lit (colon ∷ [])
-      ▸ numeral 0 (domAt (T .facts) x) (λ y. keep (putFact (place x) (y + 1)) ▸ choice comma (facts place m (x + 1)) nothing) in
-      ap (λ (xs : List ℕ). facts place (suc m) least xs l T go) (append-assoc (digits v) (colon ∷ digits k) u)
+      ▸ numeral 0 (domAt (T .facts) x) (λ y. keep (putFact (place x) (y + 1)) ▸ choice comma (factsFrom place m (x + 1)) nothing) in
+      ap (λ (xs : List ℕ). factsFrom place (suc m) least xs l T go) (append-assoc (digits v) (colon ∷ digits k) u)
       ∙ number-told 0 (T .counts .vars) v outer (colon ∷ (digits k ++ u)) l T go (other colon-no-digit)
       ∙ passed _ _ (within-below v (T .counts .vars) ∙ lt-ltb v (T .counts .vars) (omega (arith, w .vars)))
       ∙ demand-told (leb least v) NotRising (colon ∷ (digits k ++ u)) l T _
@@ -110,35 +117,35 @@ module _ (place : ℕ → ℕ) (high : (v : ℕ) → 8 ≤ place v) (F : Facts) 
       ∙ lit-told (colon ∷ []) (digits k ++ u) l T _
       ∙ number-told 0 (domAt (T .facts) v) k inner u l T go s
       ∙ ap (λ (y : Bool). judged (unless y (OutOfRange l)) (inner k u l T go)) (within-below k (domAt (T .facts) v) ∙ ap (ltb k) (w .doms v q))
-      ∙ ap (λ (y : ℕ). judged (unless (ltb k (dom v)) (OutOfRange l)) (choice comma (facts place m (v + 1)) nothing u l (putFact (place v) y T) go)) (add-one k)
-      ∙ ap (λ (y : ℕ). judged (unless (ltb k (dom v)) (OutOfRange l)) (choice comma (facts place m y) nothing u l (putFact (place v) (suc k) T) go)) (add-one v)
+      ∙ ap (λ (y : ℕ). judged (unless (ltb k (dom v)) (OutOfRange l)) (choice comma (factsFrom place m (v + 1)) nothing u l (putFact (place v) y T) go)) (add-one k)
+      ∙ ap (λ (y : ℕ). judged (unless (ltb k (dom v)) (OutOfRange l)) (choice comma (factsFrom place m y) nothing u l (putFact (place v) (suc k) T) go)) (add-one v)
 
   -- the facts after the first
   abbrev MoreTold : ℕ → ℕ → Type 0
   MoreTold n v = (m least : ℕ) → n ≤ m → least ≤ v → (T : Tables) → Knows N dom T
-      → Told (choice comma (facts place m least) nothing) (moreFacts F n v) (b ∷ t) l T (each (factRule dom F l) n v) (on (changed (λ v. factPut (F v) (place v)) n v) T)
+      → Told (choice comma (factsFrom place m least) nothing) (moreFacts F n v) (b ∷ t) l T (each (factRule dom F l) n v) (on (changed (λ v. factPut (F v) (place v)) n v) T)
 
-  stop-another : (x v : ℕ) (u : List ℕ) → Stop u → Stop (another x v ++ u)
-  unfolding another isDigit
+  stop-another : (x v : ℕ) (u : List ℕ) → Stop u → Stop (anotherFact x v ++ u)
+  unfolding anotherFact isDigit
   stop-another zero v u s = s
   stop-another (suc k) v u s = other refl
 
   stop-more : (n v : ℕ) → Stop (moreFacts F n v ++ b ∷ t)
   unfolding moreFacts
   stop-more zero v = other (e .no-digit)
-  stop-more (suc n) v = rw (append-assoc (another (F v) v) (moreFacts F n (suc v)) (b ∷ t)) (stop-another (F v) v _ (stop-more n (suc v)))
+  stop-more (suc n) v = rw (append-assoc (anotherFact (F v) v) (moreFacts F n (suc v)) (b ∷ t)) (stop-another (F v) v _ (stop-more n (suc v)))
 
   more-next : (n v : ℕ) → MoreTold n (suc v) → v + suc n ≡ N → (x m least : ℕ) → suc n ≤ m → least ≤ v → (T : Tables) → Knows N dom T → (k : Rest)
-      → choice comma (facts place m least) nothing ((another x v ++ moreFacts F n (suc v)) ++ b ∷ t) l T k
+      → choice comma (factsFrom place m least) nothing ((anotherFact x v ++ moreFacts F n (suc v)) ++ b ∷ t) l T k
       ≡ judged (unless (leb x (dom v)) (OutOfRange l) then each (factRule dom F l) n (suc v)) (k (b ∷ t) l (on (changed (λ v. factPut (F v) (place v)) n (suc v)) (on (factPut x (place v)) T)))
-  unfolding choice another factPut
+  unfolding choice anotherFact factPut
   more-next n v ih r zero m least p q T w k =
       ih m least (omega arith) (omega arith) T w k
       ∙ sym (unsaid (OutOfRange l) _ _ (dom v))
   more-next n v ih r (suc x) zero least p q T w k = absurd (let z : ⊥ = omega arith in z)
   more-next n v ih r (suc x) (suc m) least p q T w k =
       next (unless (leb (suc x) (dom v)) (OutOfRange l)) (each (factRule dom F l) n (suc v)) _
-      (ap (λ (xs : List ℕ). facts place (suc m) least xs l T k) (append-assoc (fact v x) (moreFacts F n (suc v)) (b ∷ t))
+      (ap (λ (xs : List ℕ). factsFrom place (suc m) least xs l T k) (append-assoc (fact v x) (moreFacts F n (suc v)) (b ∷ t))
       ∙ fact-told m least v x (moreFacts F n (suc v) ++ b ∷ t) T k (stop-more n (suc v)) q (omega arith) w)
       (λ c. ih m (suc v) (omega arith) (omega arith) (on (factPut (suc x) (place v)) T) (knows-said T (suc x) (place v) (high v) w) k)
 
@@ -152,7 +159,7 @@ module _ (place : ℕ → ℕ) (high : (v : ℕ) → 8 ≤ place v) (F : Facts) 
   unfolding choice
   not-dash p q (head {b = c} x y) u T k = rw (ne-eqb c dash (λ z. omega arith)) refl
 
-  begun : (v x : ℕ) (u : List ℕ) (T : Tables) (k : Rest) → factList place (fact v x ++ u) l T k ≡ facts place (T .counts .vars) 0 (fact v x ++ u) l T k
+  begun : (v x : ℕ) (u : List ℕ) (T : Tables) (k : Rest) → factList place (fact v x ++ u) l T k ≡ factsFrom place (T .counts .vars) 0 (fact v x ++ u) l T k
   unfolding factList ask fact
   begun v x u T k = rw (append-assoc (digits v) (colon ∷ digits x) u) (not-dash nothing _ (digits-head v) (colon ∷ digits x ++ u) T k)
 
@@ -161,9 +168,9 @@ module _ (place : ℕ → ℕ) (high : (v : ℕ) → 8 ≤ place v) (F : Facts) 
       → Told (factList place) (someFacts F n v) (b ∷ t) l T (each (factRule dom F l) n v) (on (changed (λ v. factPut (F v) (place v)) n v) T)
 
   some-next : (n v : ℕ) → SomeTold n (suc v) → v + suc n ≡ N → (x : ℕ) (T : Tables) → Knows N dom T → (k : Rest)
-      → factList place (first x v (moreFacts F n (suc v)) (someFacts F n (suc v)) ++ b ∷ t) l T k
+      → factList place (firstFact x v (moreFacts F n (suc v)) (someFacts F n (suc v)) ++ b ∷ t) l T k
       ≡ judged (unless (leb x (dom v)) (OutOfRange l) then each (factRule dom F l) n (suc v)) (k (b ∷ t) l (on (changed (λ v. factPut (F v) (place v)) n (suc v)) (on (factPut x (place v)) T)))
-  unfolding first factPut
+  unfolding firstFact factPut
   some-next n v ih r zero T w k =
       ih T w k
       ∙ sym (unsaid (OutOfRange l) _ _ (dom v))
@@ -171,7 +178,7 @@ module _ (place : ℕ → ℕ) (high : (v : ℕ) → 8 ≤ place v) (F : Facts) 
       next (unless (leb (suc x) (dom v)) (OutOfRange l)) (each (factRule dom F l) n (suc v)) _
       (ap (λ (xs : List ℕ). factList place xs l T k) (append-assoc (fact v x) (moreFacts F n (suc v)) (b ∷ t))
       ∙ begun v x (moreFacts F n (suc v) ++ b ∷ t) T k
-      ∙ ap (λ (m : ℕ). facts place m 0 (fact v x ++ (moreFacts F n (suc v) ++ b ∷ t)) l T k) (w .vars ∙ size)
+      ∙ ap (λ (m : ℕ). factsFrom place m 0 (fact v x ++ (moreFacts F n (suc v) ++ b ∷ t)) l T k) (w .vars ∙ size)
       ∙ fact-told (v + n) 0 v x (moreFacts F n (suc v) ++ b ∷ t) T k (stop-more n (suc v)) (omega arith) (omega arith) w)
       (λ c. more-told n (suc v) (omega arith) (v + n) (suc v) (omega arith) (omega arith) (on (factPut (suc x) (place v)) T) (knows-said T (suc x) (place v) (high v) w) k)
     where

@@ -1,10 +1,11 @@
--- Tables never get number 2 or 4: what spells a task has the form, and its facts rise. Assumes nothing.
+-- Tables never get number 2 or 4: what spells a task has the form, and its facts rise.
+-- No rule of the scan has these numbers, and the scan is the grammar. Assumes nothing.
 use Prim.Native.Nat.{ℕ, zero, suc}
 use native.Mathlib.Omega.{arith}
 use mathlib.Core.Path.{_≡_, sym, _∙_, subst}
-use mathlib.Core.List.{List, [], _∷_}
 use mathlib.Core.Bool.{Bool, true, false}
 use lib.Dec.{leb, ltb}
+use Rattle.meaning.specs.Limits.{mostVars, mostValues, mostOps, mostCost, mostMaps, mostStates}
 use Rattle.refusals.specs.declared.Refusal.{Refusal}
 use Rattle.refusals.specs.declared.Refusal.the-variants.{OutOfRange, ClassMissing, SharesAboveCost, TooManyStates}
 use Rattle.refusals.specs.Listed.{numberOf}
@@ -17,12 +18,12 @@ use Rattle.tables.specs.Layout.{Tables}
 use Rattle.tables.specs.Task.{taskOf}
 use Rattle.scan.specs.Scan.{unless, _then_, each, factsFault, operatorFault, classesFault, mapFault, sharesFault, splitFault, taskFault, within as scanWithin}
 use Rattle.tables.specs.Classes.{noneMissing}
-use Rattle.scan.proofs.Walks.{inOrder}
+use Rattle.grammar.specs.Fields.{edition}
 use Rattle.grammar.specs.Grammar.{accepted, refused, verdict}
 use Rattle.grammar.specs.Spelling.{textOf, canon}
 use Rattle.grammar.proofs.SpellParts.{judged}
 use Rattle.grammar.proofs.SpellTask.{scan-is-grammar}
-use Rattle.tables.specs.Lines.{lineOfOp, lineOfMaps, lineOfMap, lineOfShares}
+use Rattle.tables.specs.Lines.{lineOfOp, lineOfMaps, lineOfMap, lineOfShares, lineOfVars, lineOfDom, lineOfInit, lineOfGoal, lineOfOps}
 
 -- a refusal for a number, a class, a total or a map's size: 3, 5, 6 or 7
 abbrev pub OfNumbers : Refusal → Type 0
@@ -39,14 +40,6 @@ rule false r k = fault k
 both : (f g : Found) → Kind f → Kind g → Kind (f then g)
 both Clean g p q = q
 both (Fault r) g p q = p
-
-data Kinds : List Found → Type 0 where
-  none : Kinds []
-  more : {f : Found} {l : List Found} → Kind f → Kinds l → Kinds (f ∷ l)
-
-in-order : {f : Found} {l : List Found} → Kind f → Kinds l → Kind (inOrder f l)
-in-order p none = p
-in-order {f = f} p (more {f = g} {l = l} q ks) = both f (inOrder g l) p (in-order q ks)
 
 walk : (f : ℕ → Found) → ((i : ℕ) → Kind (f i)) → (n i : ℕ) → Kind (each f n i)
 unfolding each
@@ -67,29 +60,26 @@ module _ (T : Task) where
   of-operator : (o : ℕ) → Kind (operatorFault T o)
   unfolding operatorFault
   of-operator o =
-      let pre = factsFault T (T .sas .pre o) (lineOfOp o) in
-      let eff = factsFault T (T .sas .eff o) (lineOfOp o) in
-      both (unless (leb (T .sas .cost o) 1000000) (OutOfRange (lineOfOp o))) (pre then eff) (range (leb (T .sas .cost o) 1000000) (lineOfOp o))
-      (both pre eff (of-facts (T .sas .pre o) (lineOfOp o)) (of-facts (T .sas .eff o) (lineOfOp o)))
+      both _ _ (range (leb (T .sas .cost o) mostCost) (lineOfOp o))
+      (both _ _ (of-facts (T .sas .pre o) (lineOfOp o)) (of-facts (T .sas .eff o) (lineOfOp o)))
 
   of-classes : (m l v : ℕ) → Kind (classesFault T m l v)
   unfolding classesFault
   of-classes m l v =
-      let test : ℕ → Bool = λ x. ltb (T .class m v x) (T .sas .dom v) in
-      both (each (λ x. unless (test x) (OutOfRange l)) (T .sas .dom v) 0) (unless (noneMissing (T .class m v) (T .sas .dom v)) (ClassMissing l)) (ranges test l (T .sas .dom v))
+      both _ _ (ranges (λ x. ltb (T .class m v x) (T .sas .dom v)) l (T .sas .dom v))
       (rule (noneMissing (T .class m v) (T .sas .dom v)) (ClassMissing l) (λ e. omega arith, λ e. omega arith))
 
   of-map : (m : ℕ) → Kind (mapFault T m)
   unfolding mapFault
   of-map m =
       let l = lineOfMap (T .sas .ops) m in
-      let few = leb (abstractStates (T .sas) (view T m)) 4096 in
-      both (each (classesFault T m l) (T .sas .vars) 0) (unless few (TooManyStates l)) (walk (classesFault T m l) (of-classes m l) (T .sas .vars) 0)
+      let few = leb (abstractStates (T .sas) (view T m)) mostStates in
+      both _ _ (walk (classesFault T m l) (of-classes m l) (T .sas .vars) 0)
       (rule few (TooManyStates l) (λ e. omega arith, λ e. omega arith))
 
   of-shares : (m : ℕ) → Kind (sharesFault T m)
   unfolding sharesFault
-  of-shares m = ranges (λ o. leb (T .share m o) 1000000) (lineOfShares (T .sas .ops) (T .maps) m) (T .sas .ops)
+  of-shares m = ranges (λ o. leb (T .share m o) mostCost) (lineOfShares (T .sas .ops) (T .maps) m) (T .sas .ops)
 
   of-split : (o : ℕ) → Kind (splitFault T o)
   unfolding splitFault
@@ -98,19 +88,18 @@ module _ (T : Task) where
   of-task : Kind (taskFault T)
   unfolding taskFault
   of-task =
-      in-order (range (scanWithin 1 8 (T .sas .vars)) 2)
-      (more (ranges (λ v. scanWithin 1 8 (T .sas .dom v)) 3 (T .sas .vars))
-      (more (ranges (λ v. ltb (T .sas .init v) (T .sas .dom v)) 4 (T .sas .vars))
-      (more (of-facts (T .sas .goal) 5)
-      (more (range (leb (T .sas .ops) 64) 6)
-      (more (walk (operatorFault T) of-operator (T .sas .ops) 0)
-      (more (range (scanWithin 1 8 (T .maps)) (lineOfMaps (T .sas .ops)))
-      (more (walk (mapFault T) of-map (T .maps) 0)
-      (more (walk (sharesFault T) of-shares (T .maps) 0)
-      (more (walk (splitFault T) of-split (T .sas .ops) 0) none)))))))))
+      both _ _ (range (scanWithin 1 mostVars (T .sas .vars)) lineOfVars)
+      (both _ _ (ranges (λ v. scanWithin 1 mostValues (T .sas .dom v)) lineOfDom (T .sas .vars))
+      (both _ _ (ranges (λ v. ltb (T .sas .init v) (T .sas .dom v)) lineOfInit (T .sas .vars))
+      (both _ _ (of-facts (T .sas .goal) lineOfGoal)
+      (both _ _ (range (leb (T .sas .ops) mostOps) lineOfOps)
+      (both _ _ (walk (operatorFault T) of-operator (T .sas .ops) 0)
+      (both _ _ (range (scanWithin 1 mostMaps (T .maps)) (lineOfMaps (T .sas .ops)))
+      (both _ _ (walk (mapFault T) of-map (T .maps) 0)
+      (both _ _ (walk (sharesFault T) of-shares (T .maps) 0) (walk (splitFault T) of-split (T .sas .ops) 0)))))))))
 
 -- what refuses the text that spells a task
-pub spelled-refused : (t : Tables) (r : Refusal) → verdict (textOf t) ≡ refused r → OfNumbers r
+pub spelled-refused : (t : Tables) (r : Refusal) → verdict (textOf edition t) ≡ refused r → OfNumbers r
 spelled-refused t r h = go (taskFault (taskOf t)) (of-task (taskOf t)) (sym (scan-is-grammar t) ∙ h)
   where
     go : (f : Found) → Kind f → judged f (accepted (canon t)) ≡ refused r → OfNumbers r

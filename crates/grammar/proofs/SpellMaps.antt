@@ -1,33 +1,32 @@
 -- A map's line on what is spelled: the rules of its variables' classes, then that of its abstract states, and the classes in their places.
--- Assumes nothing.
-use Prim.Native.Nat.{ℕ, zero, suc, _+_, _*_, _≤_, _<_}
+-- The classes just read stand in the tables, so that the scan's rule of them is asked of the task's own. Assumes nothing.
+use Prim.Native.Nat.{ℕ, zero, suc, _+_, _<_}
 use native.Mathlib.Omega.{arith}
 use native.Mathlib.Numerals.{add-one}
-use mathlib.Core.Path.{_≡_, refl, sym, ap, _∙_}
-use mathlib.Core.List.{List, [], _∷_, _++_}
+use mathlib.Core.Path.{_≡_, refl, ap, _∙_}
+use mathlib.Core.List.{List, [], _++_}
 use mathlib.Core.Bool.{Bool, false}
 use lib.Dec.{leb, ltb}
-use lib.ListN.{set}
-use borrow.Author.Tests.{ltb-true}
+use lib.ListN.{length, set}
 use Rattle.refusals.specs.declared.Refusal.{Refusal}
 use Rattle.refusals.specs.declared.Refusal.the-variants.{OutOfRange, ClassMissing, TooManyStates}
+use Rattle.meaning.specs.Limits.{mostStates}
 use Rattle.meaning.specs.Numbering.{size}
 use Rattle.meaning.specs.Views.{abstractStates}
-use Rattle.meaning.specs.Split.{Task, view}
-use Rattle.scan.specs.declared.Found.{Found}
-use Rattle.scan.specs.declared.Found.the-variants.{Clean}
-use Rattle.tables.specs.Layout.{Tables, domAt, classPlace}
+use Rattle.meaning.specs.Split.{Task, countOf, view}
+use Rattle.tables.specs.Layout.{Tables, factsRoom, domAt, classAt, classPlace}
+use Rattle.tables.specs.Task.{sasOf, taskOf}
+use Rattle.tables.specs.Classes.{noneMissing}
 use Rattle.scan.specs.Scan.{unless, _then_, each, classesFault}
-use Rattle.tables.specs.Classes.{noneMissing as scanNoneMissing}
-use Rattle.scan.proofs.Walks.{then-then, clean-first, rule-held, walk-clean}
 use Rattle.grammar.specs.Fields.{isDigit, comma, slash}
-use Rattle.meaning.specs.Limits.{mostValues, mostStates}
-use Rattle.grammar.specs.Grammar.{Verdict, Rest, Part, _▸_, keep, parted, putFact, classCount, noneMissing, classes, variables}
-use Rattle.grammar.specs.Spelling.{digits, gap, joined, numbers, changed, rowPut}
+use Rattle.grammar.specs.Grammar.{Rest, Part, _▸_, nothing, ask, demand, fits, parted, numberRow, putFact, classList, classLists, mapClasses}
+use Rattle.grammar.specs.Spelling.{digits, gap, joined, numbers, mapText, changed, rowPut, mapRows}
 use Rattle.grammar.proofs.Runs.{Stop, other}
-use Rattle.grammar.proofs.SpellParts.{judged, next, Told, demand-told, number-told, parted-told, stop-gap, joined-none, joined-front}
-use Rattle.grammar.proofs.SpellFacts.{within-below, on, Knows, knows-set, knows-row}
-use Rattle.grammar.proofs.SpellClasses.{listed, count-is, missing-is}
+use Rattle.grammar.proofs.SpellParts.{judged, next, Told, demand-told, parted-told, row-told, joined-none, joined-front}
+use Rattle.grammar.proofs.SpellFacts.{within-below, on, on-changed, Knows, knows-set, knows-row, knows-changed}
+use Rattle.grammar.proofs.SpellTables.{long-row, writes-row}
+use Rattle.grammar.proofs.SpellOwn.{Small, long-map, map-class}
+use Rattle.grammar.proofs.SpellClasses.{Same, count-same, missing-same, size-same}
 
 slash-no-digit : isDigit slash ≡ false
 unfolding isDigit
@@ -39,91 +38,95 @@ unfolding gap
 stop-slash zero xs u s e = rw (e refl) s
 stop-slash (suc n) xs u s e = other slash-no-digit
 
-test-same : (r : Refusal) (A : Verdict) {b c : Bool} → b ≡ c → judged (unless b r) A ≡ judged (unless c r) A
-test-same r A p = rw p refl
+-- what is demanded of the tables so far, where it says the same of the task
+asked-told : (test : Tables → Bool) (r : ℕ → Refusal) (b : Bool) (t : List ℕ) (l : ℕ) (T : Tables) (k : Rest) → test T ≡ b
+    → ask (λ U. demand (test U) r) t l T k ≡ judged (unless b (r l)) (k t l T)
+unfolding ask
+asked-told test r b t l T k e = demand-told (test T) r t l T k ∙ ap (λ (c : Bool). judged (unless c (r l)) (k t l T)) e
 
-module _ (τ : Task) (m l : ℕ) where
-  -- a class is below its variable's number of values
-  abbrev classRule : ℕ → ℕ → Found
-  classRule v y = unless (ltb (τ .class m v y) (τ .sas .dom v)) (OutOfRange l)
+-- A ROW of numbers in their places, as many as the tables so far say
+module _ (least : ℕ) (limit : ℕ → Tables → ℕ) (place f : ℕ → ℕ) (test : ℕ → Bool) (P : Tables → Type 0) (N : ℕ)
+    (keeps : (i : ℕ) (T : Tables) → i < N → P T → P (putFact (place i) (f i) T))
+    (tests : (i : ℕ) (T : Tables) → i < N → P T → fits (f i) least (limit i T) ≡ test i) where
+  pub row-told-put : (count : Tables → ℕ) (rest : List ℕ) → Stop rest → (l : ℕ) (T : Tables) → count T ≡ N → P T
+      → Told (ask (λ U. numberRow least limit (λ i x. putFact (place i) x) (count U) 0)) (numbers f N) rest l T (each (λ i. unless (test i) (OutOfRange l)) N 0) (on (rowPut place f N) T)
+  unfolding ask numbers rowPut
+  row-told-put count rest s l T e p k =
+      let part : ℕ → Part = λ n. numberRow least limit (λ i x. putFact (place i) x) n 0 in
+      ap (λ (n : ℕ). part n (joined comma (λ i. digits (f i)) N 0 ++ rest) l T k) e
+      ∙ row-told least limit (λ i x. putFact (place i) x) f test P N keeps tests N 0 (omega arith) rest s l T p k
+      ∙ ap (λ (U : Tables). judged (each (λ i. unless (test i) (OutOfRange l)) N 0) (k rest l U)) (on-changed (λ i w. set w (place i) (f i)) N 0 T)
 
-  abbrev classSet : ℕ → ℕ → List ℕ → List ℕ
-  classSet v y w = set w (classPlace m v y) (τ .class m v y)
+-- the tables so far say the variables' values, and have room for the facts
+abbrev pub Ready : Task → Tables → Type 0
+Ready τ T = Knows (τ .sas .vars) (τ .sas .dom) T × (length (T .facts) ≡ factsRoom)
 
-  classes-told : (v : ℕ) (p : List ℕ → Part) (rest : List ℕ) → Stop rest → v < τ .sas .vars → (n x : ℕ) (cs : List ℕ) (T : Tables) → Knows (τ .sas .vars) (τ .sas .dom) T
-      → (k : Rest)
-      → classes m v p n x cs (joined comma (λ y. digits (τ .class m v y)) n x ++ rest) l T k
-      ≡ judged (each (classRule v) n x) (classes m v p 0 0 (listed (τ .class m v) n x cs) rest l (on (changed (classSet v) n x) T) k)
-  unfolding classes each listed changed _▸_ keep
-  classes-told v p rest s a zero x cs T w k = rw (joined-none comma (λ y. digits (τ .class m v y)) 0 x refl) refl
-  classes-told v p rest s a (suc n) x cs T w k =
-      let c = τ .class m v in
-      let text : ℕ → List ℕ = λ y. digits (c y) in
-      let tail = joined comma text n (suc x) in
-      let U = putFact (classPlace m v x) (c x) T in
-      next {B = parted n comma (gap comma n ++ (tail ++ rest)) l U (λ u i W. classes m v p n (x + 1) (c x ∷ cs) u i W k)}
-      (classRule v x) (each (classRule v) n (suc x)) _
-      (ap (λ (t : List ℕ). classes m v p (suc n) x cs t l T k) (joined-front comma text n x rest)
-      ∙ number-told 0 (domAt (T .facts) v) (c x) _ (gap comma n ++ (tail ++ rest)) l T k (stop-gap n tail rest s (joined-none comma text n (suc x)))
-      ∙ rw (within-below (c x) (domAt (T .facts) v), w .doms v a) refl)
-      (λ q. parted-told n comma (tail ++ rest) l U _
-      ∙ ap (λ (y : ℕ). classes m v p n y (c x ∷ cs) (tail ++ rest) l U k) (add-one x)
-      ∙ classes-told v p rest s a n (suc x) (c x ∷ cs) U (knows-set T (classPlace m v x) (c x) (omega arith) w) k)
+pub ready-map : (τ : Task) (m : ℕ) (T : Tables) → Ready τ T → Ready τ (on (mapRows τ m) T)
+unfolding mapRows
+ready-map τ m T w = (
+  knows-changed (λ v. rowPut (classPlace m v) (τ .class m v) (τ .sas .dom v)) (λ v U. knows-row (classPlace m v) (τ .class m v) (λ j. omega arith) (τ .sas .dom v) U) (τ .sas .vars) 0 T (w .0),
+  long-map τ m (T .facts) ∙ w .1,
+)
 
-  low-classes : (v : ℕ) → τ .sas .dom v ≤ 8 → each (classRule v) (τ .sas .dom v) 0 ≡ Clean → (x : ℕ) → x < τ .sas .dom v → τ .class m v x < mostValues
-  low-classes v b q x h =
-      let y = ltb-true (τ .class m v x) (τ .sas .dom v) (rule-held (ltb (τ .class m v x) (τ .sas .dom v)) (OutOfRange l) (walk-clean (classRule v) (τ .sas .dom v) x q h)) in
-      omega arith
+module _ (τ : Task) (s : Small τ) (m : ℕ) (a : m < τ .maps) (l : ℕ) where
+  abbrev classesIn : ℕ → List ℕ → List ℕ
+  classesIn v = rowPut (classPlace m v) (τ .class m v) (τ .sas .dom v)
 
-  low-all : (v : ℕ) → τ .sas .dom v ≤ 8 → classesFault τ m l v ≡ Clean → (x : ℕ) → x < τ .sas .dom v → τ .class m v x < mostValues
-  unfolding classesFault
-  low-all v b q = low-classes v b (clean-first (each (classRule v) (τ .sas .dom v) 0) _ q)
+  ready-next : (v : ℕ) (T : Tables) → Ready τ T → Ready τ (on (classesIn v) T)
+  ready-next v T w =
+      (knows-row (classPlace m v) (τ .class m v) (λ j. omega arith) (τ .sas .dom v) T (w .0), long-row (classPlace m v) (τ .class m v) (τ .sas .dom v) (T .facts) ∙ w .1)
 
   -- a variable's classes, each in its range, and at their end none missing
-  variable-told : (v : ℕ) (p : List ℕ → Part) (rest : List ℕ) → Stop rest → v < τ .sas .vars → τ .sas .dom v ≤ 8 → (T : Tables) → Knows (τ .sas .vars) (τ .sas .dom) T
-      → (k : Rest)
-      → classes m v p (domAt (T .facts) v) 0 [] (numbers (τ .class m v) (τ .sas .dom v) ++ rest) l T k
-      ≡ judged (classesFault τ m l v) (p (listed (τ .class m v) (τ .sas .dom v) 0 []) rest l (on (rowPut (classPlace m v) (τ .class m v) (τ .sas .dom v)) T) k)
-  unfolding numbers classesFault rowPut classes _▸_
-  variable-told v p rest s a b T w k =
+  classes-told : (v : ℕ) → v < τ .sas .vars → (rest : List ℕ) → Stop rest → (T : Tables) → Ready τ T
+      → Told (classList m v) (numbers (τ .class m v) (τ .sas .dom v)) rest l T (classesFault τ m l v) (on (classesIn v) T)
+  unfolding classList classesFault _▸_
+  classes-told v h rest st T w k =
       let c = τ .class m v in
       let d = τ .sas .dom v in
-      let ends = unless (scanNoneMissing c d) (ClassMissing l) in
-      ap (λ (n : ℕ). classes m v p n 0 [] (joined comma (λ y. digits (c y)) d 0 ++ rest) l T k) (w .doms v a)
-      ∙ next (each (classRule v) d 0) ends _ (classes-told v p rest s a d 0 [] T w k)
-      (λ q.
-      demand-told (noneMissing (listed c d 0 [])) ClassMissing rest l (on (changed (classSet v) d 0) T) _
-      ∙ test-same (ClassMissing l) _ (missing-is c d (low-classes v b q)))
+      let U = on (classesIn v) T in
+      let e : domAt (U .facts) v ≡ d = ready-next v T w .0 .doms v h in
+      let own : Same (classAt (U .facts) m v) c d = λ x g.
+      let x₁ = s .vars in let x₂ = s .doms v h in let x₃ = s .maps in
+      writes-row (classPlace m v) c d x g (λ j q. omega arith) (T .facts) (omega (arith, w .1)) in
+      next (each (λ x. unless (ltb (c x) d) (OutOfRange l)) d 0) (unless (noneMissing c d) (ClassMissing l)) _
+      (row-told-put 0 (λ x U. domAt (U .facts) v) (classPlace m v) c (λ x. ltb (c x) d) (Knows (τ .sas .vars) (τ .sas .dom)) d
+      (λ x U g p. knows-set U (classPlace m v x) (c x) (omega arith) p) (λ x U g p. within-below (c x) (domAt (U .facts) v) ∙ ap (ltb (c x)) (p .doms v h))
+      (λ U. domAt (U .facts) v) rest st l T (w .0 .doms v h) (w .0) _)
+      (λ q. asked-told (λ U. noneMissing (classAt (U .facts) m v) (domAt (U .facts) v)) ClassMissing (noneMissing c d) rest l U k
+      (ap (noneMissing (classAt (U .facts) m v)) e ∙ missing-same (classAt (U .facts) m v) c d own))
 
-  -- the variables one after another, and at the end not too many abstract states
-  abbrev statesRule : Found
-  statesRule = unless (leb (abstractStates (τ .sas) (view τ m)) 4096) (TooManyStates l)
-
-  abbrev mapSet : ℕ → List ℕ → List ℕ
-  mapSet v = rowPut (classPlace m v) (τ .class m v) (τ .sas .dom v)
-
-  module _ (rest : List ℕ) (s : Stop rest) (small : (v : ℕ) → v < τ .sas .vars → τ .sas .dom v ≤ 8) where
-    pub variables-told : (n v states : ℕ) → v + n ≡ τ .sas .vars → states ≡ size (view τ m .classes) v → (T : Tables) → Knows (τ .sas .vars) (τ .sas .dom) T
-        → Told (variables m n v states) (joined slash (λ u. numbers (τ .class m u) (τ .sas .dom u)) n v) rest l T (each (classesFault τ m l) n v then statesRule) (on (changed mapSet n v) T)
-    unfolding variables each changed _▸_
-    variables-told zero v states e z T w k =
-        let y : v ≡ τ .sas .vars = omega arith in
-        rw (joined-none slash (λ u. numbers (τ .class m u) (τ .sas .dom u)) 0 v refl)
-        (demand-told (leb states mostStates) TooManyStates rest l T k
-        ∙ test-same (TooManyStates l) (k rest l T) (ap (λ (x : ℕ). leb x 4096) (z ∙ ap (size (view τ m .classes)) y)))
-    variables-told (suc n) v states e z T w k =
+  module _ (rest : List ℕ) (st : Stop rest) where
+    -- the variables one after another
+    lists-told : (n v : ℕ) → v + n ≡ τ .sas .vars → (T : Tables) → Ready τ T
+        → Told (classLists m n v) (joined slash (λ u. numbers (τ .class m u) (τ .sas .dom u)) n v) rest l T (each (classesFault τ m l) n v) (on (changed classesIn n v) T)
+    unfolding classLists each changed nothing _▸_
+    lists-told zero v e T w k = rw (joined-none slash (λ u. numbers (τ .class m u) (τ .sas .dom u)) 0 v refl) refl
+    lists-told (suc n) v e T w k =
         let text : ℕ → List ℕ = λ u. numbers (τ .class m u) (τ .sas .dom u) in
         let tail = joined slash text n (suc v) in
-        let a : v < τ .sas .vars = omega arith in
-        let U = on (mapSet v) T in
-        let cs = listed (τ .class m v) (τ .sas .dom v) 0 [] in
-        let count : classesFault τ m l v ≡ Clean → states * classCount cs ≡ size (view τ m .classes) (suc v) =
-        λ q. ap (λ (x : ℕ). states * x) (count-is (τ .class m v) (τ .sas .dom v) (low-all v (small v a) q)) ∙ ap (λ (x : ℕ). x * view τ m .classes v) z in
-        next {B = parted n slash (gap slash n ++ (tail ++ rest)) l U (λ u i W. variables m n (v + 1) (states * classCount cs) u i W k)}
-        (classesFault τ m l v) (each (classesFault τ m l) n (suc v) then statesRule) _
-        (ap (λ (t : List ℕ). variables m (suc n) v states t l T k) (joined-front slash text n v rest)
-        ∙ variable-told v _ (gap slash n ++ (tail ++ rest)) (stop-slash n tail rest s (joined-none slash text n (suc v))) a (small v a) T w k)
+        let U = on (classesIn v) T in
+        next {B = parted n slash (gap slash n ++ (tail ++ rest)) l U (λ u i W. classLists m n (v + 1) u i W k)}
+        (classesFault τ m l v) (each (classesFault τ m l) n (suc v)) _
+        (ap (λ (t : List ℕ). classLists m (suc n) v t l T k) (joined-front slash text n v rest)
+        ∙ classes-told v (omega arith) (gap slash n ++ (tail ++ rest)) (stop-slash n tail rest st (joined-none slash text n (suc v))) T w _)
         (λ q. parted-told n slash (tail ++ rest) l U _
-        ∙ ap (λ (y : ℕ). variables m n y (states * classCount cs) (tail ++ rest) l U k) (add-one v)
-        ∙ variables-told n (suc v) (states * classCount cs) (omega arith) (count q) U (knows-row (classPlace m v) (τ .class m v) (λ j. omega arith) (τ .sas .dom v) T w) k)
-        ∙ sym (ap (λ (f : Found). judged f (k rest l (on (changed mapSet n (suc v)) U))) (then-then (classesFault τ m l v) (each (classesFault τ m l) n (suc v)) statesRule))
+        ∙ ap (λ (y : ℕ). classLists m n y (tail ++ rest) l U k) (add-one v)
+        ∙ lists-told n (suc v) (omega arith) U (ready-next v T w) k)
+
+    -- and at their end not too many abstract states
+    pub classes-of-map : (T : Tables) → Ready τ T
+        → Told (mapClasses m) (mapText τ m) rest l T
+        (each (classesFault τ m l) (τ .sas .vars) 0 then unless (leb (abstractStates (τ .sas) (view τ m)) mostStates) (TooManyStates l)) (on (mapRows τ m) T)
+    unfolding mapClasses mapText mapRows ask _▸_
+    classes-of-map T w k =
+        let N = τ .sas .vars in
+        let U = on (mapRows τ m) T in
+        let known = ready-map τ m T w .0 in
+        let few : Tables → Bool = λ X. leb (abstractStates (sasOf X) (view (taskOf X) m)) mostStates in
+        let go : Rest = λ u i X. ask (λ Y. demand (few Y) TooManyStates) u i X k in
+        let states : abstractStates (sasOf U) (view (taskOf U) m) ≡ abstractStates (τ .sas) (view τ m) =
+        ap (size (view (taskOf U) m .classes)) (w .0 .vars) ∙ size-same (view (taskOf U) m .classes) (view τ m .classes) N
+        (λ v h. ap (countOf (classAt (U .facts) m v)) (known .doms v h) ∙ count-same (classAt (U .facts) m v) (τ .class m v) (τ .sas .dom v) (λ x g. map-class τ s m v x a h g (T .facts) (w .1))) in
+        next (each (classesFault τ m l) N 0) (unless (leb (abstractStates (τ .sas) (view τ m)) mostStates) (TooManyStates l)) _
+        (ap (λ (n : ℕ). classLists m n 0 (mapText τ m ++ rest) l T go) (w .0 .vars) ∙ lists-told N 0 (omega arith) T w go)
+        (λ q. asked-told few TooManyStates _ rest l U k (ap (λ (n : ℕ). leb n mostStates) states))

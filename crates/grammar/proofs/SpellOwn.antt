@@ -1,20 +1,22 @@
--- The tables of a small task give back its numbers: at each of the task's own places stands what the task has there. Assumes nothing.
+-- The tables of a small task give back its numbers: at each of the task's own places stands what the task has there.
+-- One change writes it, and no other change has that place. Assumes nothing.
 use Prim.Native.Nat.{ℕ, _≤_, _<_}
 use native.Mathlib.Omega.{arith}
-use mathlib.Core.Path.{_≡_, _∙_}
+use mathlib.Core.Path.{_≡_, refl, _∙_}
 use mathlib.Core.List.{List}
 use lib.ListN.{length, getD}
+use Rattle.meaning.specs.Limits.{mostVars, mostValues, mostOps, mostMaps}
 use Rattle.meaning.specs.Split.{Task}
-use Rattle.tables.specs.Layout.{domPlace, initPlace, goalPlace, prePlace, effPlace, classPlace, sharePlace}
+use Rattle.tables.specs.Layout.{domPlace, initPlace, goalPlace, prePlace, effPlace, classPlace, sharePlace, factsRoom, costsRoom, sharesRoom}
 use Rattle.grammar.specs.Spelling.{changed, rowPut, opRows, mapRows, headRows}
 use Rattle.grammar.proofs.SpellTables.{Spares, Long, long-changed, spares-changed, writes-changed, long-row, spares-row, writes-row, long-facts, spares-facts, writes-facts}
 
 -- a task within the limits that the tables have room for
 pub record Small (τ : Task) : Type 0 where
-  pub vars : τ .sas .vars ≤ 8
-  pub doms : (v : ℕ) → v < τ .sas .vars → τ .sas .dom v ≤ 8
-  pub ops : τ .sas .ops ≤ 64
-  pub maps : τ .maps ≤ 8
+  pub vars : τ .sas .vars ≤ mostVars
+  pub doms : (v : ℕ) → v < τ .sas .vars → τ .sas .dom v ≤ mostValues
+  pub ops : τ .sas .ops ≤ mostOps
+  pub maps : τ .maps ≤ mostMaps
 
 -- ---- lengths
 
@@ -49,17 +51,14 @@ module _ (τ : Task) (s : Small τ) where
       ∙ spares-row initPlace (τ .sas .init) p (τ .sas .vars) (λ j b e. omega arith) _
       ∙ spares-row domPlace (τ .sas .dom) p (τ .sas .vars) (λ j b e. omega arith) w
 
-  module _ (w : List ℕ) (l : length w ≡ 1624) (z : (p : ℕ) → getD w p 0 ≡ 0) (v : ℕ) (h : v < τ .sas .vars) where
-    pub row-dom : getD (rowPut domPlace (τ .sas .dom) (τ .sas .vars) w) (domPlace v) 0 ≡ τ .sas .dom v
-    row-dom = let a = s .vars in writes-row domPlace (τ .sas .dom) (τ .sas .vars) v h (λ k e. omega arith) w (omega arith) (z (domPlace v))
-
+  module _ (w : List ℕ) (l : length w ≡ factsRoom) (z : (p : ℕ) → getD w p 0 ≡ 0) (v : ℕ) (h : v < τ .sas .vars) where
     pub head-dom : getD (headRows τ w) (domPlace v) 0 ≡ τ .sas .dom v
     unfolding headRows
     head-dom =
         let a = s .vars in
         spares-facts goalPlace (τ .sas .goal) (domPlace v) (τ .sas .vars) (λ j b e. omega arith) _
         ∙ spares-row initPlace (τ .sas .init) (domPlace v) (τ .sas .vars) (λ j b e. omega arith) _
-        ∙ row-dom
+        ∙ writes-row domPlace (τ .sas .dom) (τ .sas .vars) v h (λ k e. omega arith) w (omega arith)
 
     pub head-init : getD (headRows τ w) (initPlace v) 0 ≡ τ .sas .init v
     unfolding headRows
@@ -67,7 +66,6 @@ module _ (τ : Task) (s : Small τ) where
         let a = s .vars in
         spares-facts goalPlace (τ .sas .goal) (initPlace v) (τ .sas .vars) (λ j b e. omega arith) _
         ∙ writes-row initPlace (τ .sas .init) (τ .sas .vars) v h (λ k e. omega arith) _ (omega (arith, long-row domPlace (τ .sas .dom) (τ .sas .vars) w))
-        (spares-row domPlace (τ .sas .dom) (initPlace v) (τ .sas .vars) (λ j b e. omega arith) w ∙ z (initPlace v))
 
     pub head-goal : getD (headRows τ w) (goalPlace v) 0 ≡ τ .sas .goal v
     unfolding headRows
@@ -89,14 +87,8 @@ module _ (τ : Task) (s : Small τ) where
   pub spares-ops-low : (p : ℕ) → p < 24 → Spares (changed (opRows τ) (τ .sas .ops) 0) p
   spares-ops-low p h = spares-changed (opRows τ) p (τ .sas .ops) 0 (λ o x y. spares-op o p (λ v i e. omega arith) (λ v i e. omega arith))
 
-  pub spares-ops-high : (p : ℕ) → 1048 ≤ p → Spares (changed (opRows τ) (τ .sas .ops) 0) p
-  spares-ops-high p h =
-      let a = s .vars in
-      let b = s .ops in
-      spares-changed (opRows τ) p (τ .sas .ops) 0 (λ o x y. spares-op o p (λ v i e. omega arith) (λ v i e. omega arith))
-
   module _ (o v : ℕ) (k : o < τ .sas .ops) (h : v < τ .sas .vars) where
-    op-pre : (x : List ℕ) → length x ≡ 1624 → getD x (prePlace o v) 0 ≡ 0 → getD (opRows τ o x) (prePlace o v) 0 ≡ τ .sas .pre o v
+    op-pre : (x : List ℕ) → length x ≡ factsRoom → getD x (prePlace o v) 0 ≡ 0 → getD (opRows τ o x) (prePlace o v) 0 ≡ τ .sas .pre o v
     unfolding opRows
     op-pre x m y =
         let a = s .vars in
@@ -104,7 +96,7 @@ module _ (τ : Task) (s : Small τ) where
         spares-facts (effPlace o) (τ .sas .eff o) (prePlace o v) (τ .sas .vars) (λ j i e. omega arith) _
         ∙ writes-facts (prePlace o) (τ .sas .pre o) (τ .sas .vars) v h (λ i e. omega arith) x (omega arith) y
 
-    op-eff : (x : List ℕ) → length x ≡ 1624 → getD x (effPlace o v) 0 ≡ 0 → getD (opRows τ o x) (effPlace o v) 0 ≡ τ .sas .eff o v
+    op-eff : (x : List ℕ) → length x ≡ factsRoom → getD x (effPlace o v) 0 ≡ 0 → getD (opRows τ o x) (effPlace o v) 0 ≡ τ .sas .eff o v
     unfolding opRows
     op-eff x m y =
         let a = s .vars in
@@ -113,13 +105,13 @@ module _ (τ : Task) (s : Small τ) where
         (omega (arith, long-facts (prePlace o) (τ .sas .pre o) (τ .sas .vars) x))
         (spares-facts (prePlace o) (τ .sas .pre o) (effPlace o v) (τ .sas .vars) (λ j i e. omega arith) x ∙ y)
 
-    module _ (w : List ℕ) (l : length w ≡ 1624) where
+    module _ (w : List ℕ) (l : length w ≡ factsRoom) where
       pub ops-pre : getD w (prePlace o v) 0 ≡ 0 → getD (changed (opRows τ) (τ .sas .ops) 0 w) (prePlace o v) 0 ≡ τ .sas .pre o v
       ops-pre z =
           let a = s .vars in
           let b = s .ops in
           writes-changed (opRows τ) (prePlace o v) (τ .sas .pre o v) o (τ .sas .ops) 0 (long-op τ)
-          (λ i x y d. spares-op i (prePlace o v) (λ u q e. d (omega arith)) (λ u q e. omega arith)) 1624
+          (λ i x y d. spares-op i (prePlace o v) (λ u q e. d (omega arith)) (λ u q e. omega arith)) factsRoom 0
           op-pre (omega arith) (omega arith) w l z
 
       pub ops-eff : getD w (effPlace o v) 0 ≡ 0 → getD (changed (opRows τ) (τ .sas .ops) 0 w) (effPlace o v) 0 ≡ τ .sas .eff o v
@@ -127,12 +119,12 @@ module _ (τ : Task) (s : Small τ) where
           let a = s .vars in
           let b = s .ops in
           writes-changed (opRows τ) (effPlace o v) (τ .sas .eff o v) o (τ .sas .ops) 0 (long-op τ)
-          (λ i x y d. spares-op i (effPlace o v) (λ u q e. omega arith) (λ u q e. d (omega arith))) 1624
+          (λ i x y d. spares-op i (effPlace o v) (λ u q e. omega arith) (λ u q e. d (omega arith))) factsRoom 0
           op-eff (omega arith) (omega arith) w l z
 
   -- ---- the maps
 
-  spares-map : (m p : ℕ) → ((v x : ℕ) → v < τ .sas .vars → x < 8 → p ≡ classPlace m v x → ⊥) → Spares (mapRows τ m) p
+  spares-map : (m p : ℕ) → ((v x : ℕ) → v < τ .sas .vars → x < mostValues → p ≡ classPlace m v x → ⊥) → Spares (mapRows τ m) p
   unfolding mapRows
   spares-map m p f =
       spares-changed (λ v. rowPut (classPlace m v) (τ .class m v) (τ .sas .dom v)) p (τ .sas .vars) 0
@@ -142,36 +134,36 @@ module _ (τ : Task) (s : Small τ) where
   spares-maps p h = spares-changed (mapRows τ) p (τ .maps) 0 (λ m x y. spares-map m p (λ v i a b e. omega arith))
 
   module _ (m v x : ℕ) (k : m < τ .maps) (h : v < τ .sas .vars) (g : x < τ .sas .dom v) where
-    map-class : (w : List ℕ) → length w ≡ 1624 → getD w (classPlace m v x) 0 ≡ 0 → getD (mapRows τ m w) (classPlace m v x) 0 ≡ τ .class m v x
+    pub map-class : (w : List ℕ) → length w ≡ factsRoom → getD (mapRows τ m w) (classPlace m v x) 0 ≡ τ .class m v x
     unfolding mapRows
-    map-class w l z =
+    map-class w l =
         let a = s .vars in
         let b = s .maps in
         let c = s .doms v h in
         writes-changed (λ u. rowPut (classPlace m u) (τ .class m u) (τ .sas .dom u)) (classPlace m v x) (τ .class m v x) v (τ .sas .vars) 0
         (λ u. long-row (classPlace m u) (τ .class m u) (τ .sas .dom u))
         (λ u i j d. spares-row (classPlace m u) (τ .class m u) (classPlace m v x) (τ .sas .dom u) (λ y f e. let n = s .doms u (omega arith) in d (omega arith)))
-        1624 (λ w₁ l₁ z₁. writes-row (classPlace m v) (τ .class m v) (τ .sas .dom v) x g (λ y e. omega arith) w₁ (omega arith) z₁) (omega arith) (omega arith) w l z
+        factsRoom _ (λ w₁ l₁ z. writes-row (classPlace m v) (τ .class m v) (τ .sas .dom v) x g (λ y e. omega arith) w₁ (omega arith)) (omega arith) (omega arith) w l refl
 
-    pub maps-class : (w : List ℕ) → length w ≡ 1624 → getD w (classPlace m v x) 0 ≡ 0 → getD (changed (mapRows τ) (τ .maps) 0 w) (classPlace m v x) 0 ≡ τ .class m v x
-    maps-class w l z =
+    pub maps-class : (w : List ℕ) → length w ≡ factsRoom → getD (changed (mapRows τ) (τ .maps) 0 w) (classPlace m v x) 0 ≡ τ .class m v x
+    maps-class w l =
         let a = s .vars in
         let b = s .maps in
         let c = s .doms v h in
         writes-changed (mapRows τ) (classPlace m v x) (τ .class m v x) m (τ .maps) 0 (long-map τ)
-        (λ i j q d. spares-map i (classPlace m v x) (λ u y f n e. d (omega arith))) 1624 map-class (omega arith) (omega arith) w l z
+        (λ i j q d. spares-map i (classPlace m v x) (λ u y f n e. d (omega arith))) factsRoom _ (λ w₁ l₁ z. map-class w₁ l₁) (omega arith) (omega arith) w l refl
 
   -- ---- costs and shares
 
-  pub costs-own : (w : List ℕ) → length w ≡ 64 → ((p : ℕ) → getD w p 0 ≡ 0) → (o : ℕ) → o < τ .sas .ops → getD (rowPut (λ i. i) (τ .sas .cost) (τ .sas .ops) w) o 0 ≡ τ .sas .cost o
-  costs-own w l z o h = let b = s .ops in writes-row (λ i. i) (τ .sas .cost) (τ .sas .ops) o h (λ k e. omega arith) w (omega arith) (z o)
+  pub costs-own : (w : List ℕ) → length w ≡ costsRoom → (o : ℕ) → o < τ .sas .ops → getD (rowPut (λ i. i) (τ .sas .cost) (τ .sas .ops) w) o 0 ≡ τ .sas .cost o
+  costs-own w l o h = let b = s .ops in writes-row (λ i. i) (τ .sas .cost) (τ .sas .ops) o h (λ k e. omega arith) w (omega arith)
 
-  pub shares-own : (w : List ℕ) → length w ≡ 512 → ((p : ℕ) → getD w p 0 ≡ 0) → (m o : ℕ) → m < τ .maps → o < τ .sas .ops
+  pub shares-own : (w : List ℕ) → length w ≡ sharesRoom → (m o : ℕ) → m < τ .maps → o < τ .sas .ops
       → getD (changed (λ i. rowPut (sharePlace i) (τ .share i) (τ .sas .ops)) (τ .maps) 0 w) (sharePlace m o) 0 ≡ τ .share m o
-  shares-own w l z m o k h =
+  shares-own w l m o k h =
       let a = s .ops in
       let b = s .maps in
       writes-changed (λ i. rowPut (sharePlace i) (τ .share i) (τ .sas .ops)) (sharePlace m o) (τ .share m o) m (τ .maps) 0
       (λ i. long-row (sharePlace i) (τ .share i) (τ .sas .ops))
-      (λ i x y d. spares-row (sharePlace i) (τ .share i) (sharePlace m o) (τ .sas .ops) (λ j f e. d (omega arith))) 512
-      (λ w₁ l₁ z₁. writes-row (sharePlace m) (τ .share m) (τ .sas .ops) o h (λ j e. omega arith) w₁ (omega arith) z₁) (omega arith) (omega arith) w l (z (sharePlace m o))
+      (λ i x y d. spares-row (sharePlace i) (τ .share i) (sharePlace m o) (τ .sas .ops) (λ j f e. d (omega arith))) sharesRoom _
+      (λ w₁ l₁ z. writes-row (sharePlace m) (τ .share m) (τ .sas .ops) o h (λ j e. omega arith) w₁ (omega arith)) (omega arith) (omega arith) w l refl

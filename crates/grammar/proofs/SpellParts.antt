@@ -1,10 +1,10 @@
 -- Parts of the text on what is spelled: each reads it, and says what the scan says of the same numbers: a number, a row, a line, several lines.
--- Assumes nothing.
+-- By induction on the numbers or lines still to come. Assumes nothing.
 use Prim.Native.Nat.{ℕ, zero, suc, _+_, _<_}
 use Prim.Native.String.{String}
 use native.Mathlib.Omega.{arith}
 use native.Mathlib.Numerals.{add-one}
-use mathlib.Core.Path.{_≡_, refl, sym, ap, _∙_}
+use mathlib.Core.Path.{_≡_, refl, sym, ap, ap₂, _∙_}
 use mathlib.Core.List.{List, [], _∷_, _++_, append-assoc}
 use mathlib.Core.Bool.{Bool, true, false}
 use borrow.Author.Tests.{eq-eqb}
@@ -14,8 +14,8 @@ use Rattle.scan.specs.declared.Found.{Found}
 use Rattle.scan.specs.declared.Found.the-variants.{Clean, Fault}
 use Rattle.tables.specs.Layout.{Tables}
 use Rattle.scan.specs.Scan.{unless, _then_, each}
-use Rattle.grammar.specs.Fields.{isDigit, bytes, lineEnd, comma}
-use Rattle.grammar.specs.Grammar.{Verdict, refused, Rest, Part, _▸_, keep, demand, lit, fits, numeral, parted, row, endOfLine, line, lines}
+use Rattle.grammar.specs.Fields.{isDigit, bytesOf, lineEnd, comma}
+use Rattle.grammar.specs.Grammar.{Verdict, refused, Rest, Part, _▸_, keep, demand, lit, fits, numeral, parted, numberRow, endOfLine, textLine, textLines}
 use Rattle.grammar.specs.Spelling.{digits, gap, joined, keyed, stacked, changed}
 use Rattle.grammar.proofs.Runs.{Stop, other}
 use Rattle.grammar.proofs.Decimal.{digits-read}
@@ -93,19 +93,19 @@ module _ (least : ℕ) (limit : ℕ → Tables → ℕ) (put : ℕ → ℕ → T
     (keeps : (i : ℕ) (T : Tables) → i < N → P T → P (put i (f i) T))
     (tests : (i : ℕ) (T : Tables) → i < N → P T → fits (f i) least (limit i T) ≡ test i) where
   pub row-told : (n i : ℕ) → i + n ≡ N → (rest : List ℕ) → Stop rest → (l : ℕ) (T : Tables) → P T
-      → Told (row least limit put n i) (joined comma (λ j. digits (f j)) n i) rest l T (each (λ j. unless (test j) (OutOfRange l)) n i) (changed (λ j. put j (f j)) n i T)
-  unfolding row each changed _▸_ keep
+      → Told (numberRow least limit put n i) (joined comma (λ j. digits (f j)) n i) rest l T (each (λ j. unless (test j) (OutOfRange l)) n i) (changed (λ j. put j (f j)) n i T)
+  unfolding numberRow each changed _▸_ keep
   row-told zero i e rest s l T p k = rw (joined-none comma (λ j. digits (f j)) 0 i refl) refl
   row-told (suc n) i e rest s l T p k =
       let tail = joined comma (λ j. digits (f j)) n (suc i) in
       let U = put i (f i) T in
-      next {B = parted n comma (gap comma n ++ (tail ++ rest)) l U (λ u m W. row least limit put n (i + 1) u m W k)}
+      next {B = parted n comma (gap comma n ++ (tail ++ rest)) l U (λ u m W. numberRow least limit put n (i + 1) u m W k)}
       (unless (test i) (OutOfRange l)) (each (λ j. unless (test j) (OutOfRange l)) n (suc i)) _
-      (ap (λ (t : List ℕ). row least limit put (suc n) i t l T k) (joined-front comma (λ j. digits (f j)) n i rest)
+      (ap (λ (t : List ℕ). numberRow least limit put (suc n) i t l T k) (joined-front comma (λ j. digits (f j)) n i rest)
       ∙ number-told least (limit i T) (f i) _ (gap comma n ++ (tail ++ rest)) l T k (stop-gap n tail rest s (joined-none comma (λ j. digits (f j)) n (suc i)))
       ∙ rw (tests i T (omega arith) p) refl)
       (λ q. parted-told n comma (tail ++ rest) l U _
-      ∙ ap (λ (x : ℕ). row least limit put n x (tail ++ rest) l U k) (add-one i)
+      ∙ ap (λ (x : ℕ). numberRow least limit put n x (tail ++ rest) l U k) (add-one i)
       ∙ row-told n (suc i) (omega arith) rest s l U (keeps i T (omega arith) p) k)
 
 -- A LINE
@@ -114,31 +114,31 @@ unfolding endOfLine _▸_
 end-told rest l T k = lit-told (lineEnd ∷ []) rest l T _
 
 pub line-told : (key : String) (p : Part) (xs rest : List ℕ) (l : ℕ) (T U : Tables) (f : Found) → Told p xs (lineEnd ∷ rest) l T f U
-    → ToldLine (line key p) (keyed key xs) rest l T f U
-unfolding line keyed _▸_
+    → ToldLine (textLine key p) (keyed key xs) rest l T f U
+unfolding textLine keyed _▸_
 line-told key p xs rest l T U f h k =
-    let e : ((bytes key ++ xs) ++ lineEnd ∷ []) ++ rest ≡ bytes key ++ (xs ++ lineEnd ∷ rest) = simp append-assoc in
-    ap (λ (t : List ℕ). line key p t l T k) e
-    ∙ lit-told (bytes key) (xs ++ lineEnd ∷ rest) l T _
+    let e : ((bytesOf key ++ xs) ++ lineEnd ∷ []) ++ rest ≡ bytesOf key ++ (xs ++ lineEnd ∷ rest) = simp append-assoc in
+    ap (λ (t : List ℕ). textLine key p t l T k) e
+    ∙ lit-told (bytesOf key) (xs ++ lineEnd ∷ rest) l T _
     ∙ h _
     ∙ ap (judged f) (end-told rest l U k)
 
--- SEVERAL LINES, each with its rule
-module _ (p : ℕ → Part) (text : ℕ → List ℕ) (rule : ℕ → Found) (change : ℕ → Tables → Tables) (P : Tables → Type 0) (N base : ℕ)
-    (keeps : (i : ℕ) (T : Tables) → i < N → P T → P (change i T))
-    (told : (i : ℕ) (T : Tables) (rest : List ℕ) → i < N → P T → ToldLine (p i) (text i) rest (base + i) T (rule i) (change i T)) where
-  pub lines-told : (n i : ℕ) → i + n ≡ N → (rest : List ℕ) (T : Tables) → P T → (k : Rest)
-      → lines p n i (stacked text n i ++ rest) (base + i) T k ≡ judged (each rule n i) (k rest (base + i + n) (changed change n i T))
-  unfolding lines stacked each changed _▸_
-  lines-told zero i e rest T pT k = let z : base + i + 0 ≡ base + i = omega arith in rw z refl
-  lines-told (suc n) i e rest T pT k =
-      let z : base + i + suc n ≡ base + suc i + n = omega arith in
-      let y : base + i + 1 ≡ base + suc i = omega arith in
+-- SEVERAL LINES, each with its rule; the i-th stands in line `line i`
+module _ (p : ℕ → Part) (text : ℕ → List ℕ) (rule : ℕ → Found) (change : ℕ → Tables → Tables) (P : Tables → Type 0) (N : ℕ) (line : ℕ → ℕ)
+    (up : (i : ℕ) → line i + 1 ≡ line (suc i)) (keeps : (i : ℕ) (T : Tables) → i < N → P T → P (change i T))
+    (told : (i : ℕ) (T : Tables) (rest : List ℕ) → i < N → P T → ToldLine (p i) (text i) rest (line i) T (rule i) (change i T)) where
+  lines-from : (n i : ℕ) → i + n ≡ N → (rest : List ℕ) (T : Tables) → P T → (k : Rest)
+      → textLines p n i (stacked text n i ++ rest) (line i) T k ≡ judged (each rule n i) (k rest (line N) (changed change n i T))
+  unfolding textLines stacked each changed _▸_
+  lines-from zero i e rest T pT k = let z : i ≡ N = omega arith in ap (λ (j : ℕ). k rest (line j) T) z
+  lines-from (suc n) i e rest T pT k =
       next (rule i) (each rule n (suc i)) _
-      (ap (λ (t : List ℕ). lines p (suc n) i t (base + i) T k) (append-assoc (text i) (stacked text n (suc i)) rest)
-      ∙ told i T (stacked text n (suc i) ++ rest) (omega arith) pT (λ u m U. lines p n (i + 1) u m U k))
+      (ap (λ (t : List ℕ). textLines p (suc n) i t (line i) T k) (append-assoc (text i) (stacked text n (suc i)) rest)
+      ∙ told i T (stacked text n (suc i) ++ rest) (omega arith) pT (λ u m U. textLines p n (i + 1) u m U k))
       (λ c.
-      ap (λ (x : ℕ). lines p n x (stacked text n (suc i) ++ rest) (base + i + 1) (change i T) k) (add-one i)
-      ∙ ap (λ (x : ℕ). lines p n (suc i) (stacked text n (suc i) ++ rest) x (change i T) k) y
-      ∙ lines-told n (suc i) (omega arith) rest (change i T) (keeps i T (omega arith) pT) k
-      ∙ ap (λ (x : ℕ). judged (each rule n (suc i)) (k rest x (changed change n (suc i) (change i T)))) (sym z))
+      ap₂ (λ (x l : ℕ). textLines p n x (stacked text n (suc i) ++ rest) l (change i T) k) (add-one i) (up i)
+      ∙ lines-from n (suc i) (omega arith) rest (change i T) (keeps i T (omega arith) pT) k)
+
+  pub lines-told : (rest : List ℕ) (T : Tables) → P T → (k : Rest)
+      → textLines p N 0 (stacked text N 0 ++ rest) (line 0) T k ≡ judged (each rule N 0) (k rest (line N) (changed change N 0 T))
+  lines-told = lines-from N 0 (omega arith)

@@ -1,4 +1,4 @@
--- The text of a valid task is short: at most 16,384 bytes, so that number 1 never meets it. Assumes nothing.
+-- The text of a valid task is short: at most 10,449 bytes, so that number 1 never meets it. By the longest that each line can be. Assumes nothing.
 use Prim.Native.Nat.{ℕ, zero, suc, _+_, _*_, _/_, _^_, _≤_, _<_}
 use Prim.Native.String.{String}
 use native.Mathlib.Omega.{arith}
@@ -10,9 +10,9 @@ use borrow.Author.Tests.{ltb-true, ltb-false}
 use Rattle.meaning.specs.Sas.{Facts}
 use Rattle.meaning.specs.Split.{Task, Valid}
 use Rattle.tables.proofs.Laws.{by-cases}
-use Rattle.grammar.specs.Fields.{bytes, comma, slash}
-use Rattle.meaning.specs.Limits.{mostBytes}
-use Rattle.grammar.specs.Spelling.{lastDigits, digits, gap, joined, numbers, fact, another, moreFacts, first, someFacts, keyed, stacked, opText, mapText, shareText, spelled}
+use Rattle.grammar.specs.Fields.{edition, bytesOf, comma, slash}
+use Rattle.meaning.specs.Limits.{mostCost}
+use Rattle.grammar.specs.Spelling.{lastDigits, digits, gap, joined, numbers, fact, anotherFact, moreFacts, firstFact, someFacts, keyed, stacked, opText, mapText, shareText, spelled}
 use Rattle.grammar.proofs.Decimal.{few, many}
 
 -- a number below 10 ^ (d + 1) has at most d + 1 digits
@@ -62,8 +62,8 @@ fact-short : (v x : ℕ) → v < 10 → x < 10 → length (fact v x) ≤ 3
 unfolding fact
 fact-short v x p q = simp length-append (omega (arith, digits-short 0 v p, digits-short 0 x q))
 
-another-short : (x v : ℕ) → v < 10 → x ≤ 10 → length (another x v) ≤ 4
-unfolding another
+another-short : (x v : ℕ) → v < 10 → x ≤ 10 → length (anotherFact x v) ≤ 4
+unfolding anotherFact
 another-short zero v p q = omega arith
 another-short (suc k) v p q = omega (arith, fact-short v k p (omega arith))
 
@@ -75,8 +75,8 @@ module _ (F : Facts) where
       let q = more-short n (suc v) (omega arith) (λ j x y. g j (omega arith) (omega arith)) in
       simp length-append (omega (arith, another-short (F v) v (omega arith) (omega (arith, g v (omega arith) (omega arith))), suc-mul n 4))
 
-  first-short : (x v m : ℕ) (more without : List ℕ) → v < 10 → x ≤ 10 → length more ≤ m → length without ≤ m + 1 → length (first x v more without) ≤ m + 4
-  unfolding first
+  first-short : (x v m : ℕ) (more without : List ℕ) → v < 10 → x ≤ 10 → length more ≤ m → length without ≤ m + 1 → length (firstFact x v more without) ≤ m + 4
+  unfolding firstFact
   first-short zero v m more without p q r s = omega arith
   first-short (suc k) v m more without p q r s = simp length-append (omega (arith, fact-short v k p (omega arith)))
 
@@ -89,17 +89,21 @@ module _ (F : Facts) where
       let r = first-short (F v) v (n * 4) (moreFacts F n (suc v)) (someFacts F n (suc v)) (omega arith) (omega (arith, g v (omega arith) (omega arith))) p q in
       omega (arith, suc-mul n 4)
 
-amounts-short : (f : ℕ → ℕ) (n : ℕ) → n ≤ 64 → ((o : ℕ) → o < n → f o ≤ 1000000) → length (shareText f n) ≤ 512
+amounts-short : (f : ℕ → ℕ) (n : ℕ) → n ≤ 64 → ((o : ℕ) → o < n → f o ≤ mostCost) → length (shareText f n) ≤ 512
 unfolding shareText
 amounts-short f zero h g = omega arith
 amounts-short f (suc n) h g = let p = numbers-short f 6 (suc n) (λ o l. let q = g o l in omega arith) in omega arith
 
-keyed-short : (key : String) (xs : List ℕ) (c b : ℕ) → length (bytes key) ≤ c → length xs ≤ b → length (keyed key xs) ≤ c + b + 1
+keyed-short : (key : String) (xs : List ℕ) (c b : ℕ) → length (bytesOf key) ≤ c → length xs ≤ b → length (keyed key xs) ≤ c + b + 1
 unfolding keyed
 keyed-short key xs c b p q = simp length-append (omega arith)
 
+-- the sum of the longest lines
+abbrev pub longestText : ℕ
+longestText = 10449
+
 ten : (a b c d e f g h i j : List ℕ) → length a ≤ 10 → length b ≤ 7 → length c ≤ 21 → length d ≤ 22 → length e ≤ 39 → length f ≤ 7 → length g ≤ 5056 → length h ≤ 7
-    → length i ≤ 1128 → length j ≤ 4152 → length (a ++ b ++ c ++ d ++ e ++ f ++ g ++ h ++ i ++ j) ≤ mostBytes
+    → length i ≤ 1128 → length j ≤ 4152 → length (a ++ b ++ c ++ d ++ e ++ f ++ g ++ h ++ i ++ j) ≤ longestText
 ten a b c d e f g h i j p₁ p₂ p₃ p₄ p₅ p₆ p₇ p₈ p₉ p₁₀ = simp length-append (omega arith)
 
 module _ (τ : Task) (k : Valid τ) where
@@ -156,15 +160,15 @@ module _ (τ : Task) (k : Valid τ) where
       let p = stacked-short (λ m. keyed "share=" (shareText (τ .share m) (τ .sas .ops))) 519 (τ .maps) 0 (λ m x y. share-short m (omega arith)) in
       omega arith
 
-  pub spelled-short : length (spelled τ) ≤ mostBytes
+  pub spelled-short : length (spelled edition τ) ≤ longestText
   unfolding spelled
   spelled-short =
       let a = k .vars .1 in
       let b = k .maps .1 in
       let c = k .ops in
-      ten (keyed "edition=" (digits 1)) (keyed "vars=" (digits (τ .sas .vars))) (keyed "dom=" (numbers (τ .sas .dom) (τ .sas .vars))) (keyed "init=" (numbers (τ .sas .init) (τ .sas .vars)))
+      ten (keyed "edition=" (digits edition)) (keyed "vars=" (digits (τ .sas .vars))) (keyed "dom=" (numbers (τ .sas .dom) (τ .sas .vars))) (keyed "init=" (numbers (τ .sas .init) (τ .sas .vars)))
       (keyed "goal=" (someFacts (τ .sas .goal) (τ .sas .vars) 0)) (keyed "ops=" (digits (τ .sas .ops))) opsPart (keyed "maps=" (digits (τ .maps))) mapsPart sharesPart
-      (keyed-short "edition=" (digits 1) 8 1 (omega arith) (digits-short 0 1 (omega arith)))
+      (keyed-short "edition=" (digits edition) 8 1 (omega arith) (digits-short 0 1 (omega arith)))
       (keyed-short "vars=" _ 5 1 (omega arith) (digits-short 0 (τ .sas .vars) (omega arith)))
       (keyed-short "dom=" _ 4 16 (omega arith) (row-short (τ .sas .dom) (λ v l. let q = k .values v l in omega arith)))
       (keyed-short "init=" _ 5 16 (omega arith) (row-short (τ .sas .init) (λ v l. let q = k .values v l in let r = k .proper .init v l in omega arith)))

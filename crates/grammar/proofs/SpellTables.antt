@@ -1,4 +1,5 @@
--- What stands in the tables of a task: its own numbers, each in its place. Assumes nothing.
+-- What stands in the tables of a task: its own numbers, each in its place.
+-- By induction on the changes: one writes a place, the others spare it. Assumes nothing.
 use Prim.Native.Nat.{ℕ, zero, suc, _+_, _≤_, _<_}
 use native.Mathlib.Omega.{arith}
 use mathlib.Core.Path.{_≡_, refl, ap, _∙_}
@@ -32,22 +33,22 @@ module _ (g : ℕ → List ℕ → List ℕ) where
   spares-changed p (suc n) i h w =
       spares-changed p n (suc i) (λ j a b. h j (omega arith) (omega arith)) (g i w) ∙ h i (omega arith) (omega arith) w
 
-  -- the j-th change writes x at p, where 0 stood; the others spare it
-  pub writes-changed : (p x j n i : ℕ) → ((k : ℕ) → Long (g k)) → ((k : ℕ) → i ≤ k → k < i + n → (k ≡ j → ⊥) → Spares (g k) p) → (L : ℕ)
-      → ((w : List ℕ) → length w ≡ L → getD w p 0 ≡ 0 → getD (g j w) p 0 ≡ x) → i ≤ j → j < i + n → (w : List ℕ) → length w ≡ L → getD w p 0 ≡ 0
+  -- the j-th change writes x at p, where y stood; the others spare it
+  pub writes-changed : (p x j n i : ℕ) → ((k : ℕ) → Long (g k)) → ((k : ℕ) → i ≤ k → k < i + n → (k ≡ j → ⊥) → Spares (g k) p) → (L y : ℕ)
+      → ((w : List ℕ) → length w ≡ L → getD w p 0 ≡ y → getD (g j w) p 0 ≡ x) → i ≤ j → j < i + n → (w : List ℕ) → length w ≡ L → getD w p 0 ≡ y
       → getD (changed g n i w) p 0 ≡ x
   unfolding changed
-  writes-changed p x j zero i long spare L at a b w l z = absurd (let q : ⊥ = omega arith in q)
-  writes-changed p x j (suc n) i long spare L at a b w l z =
+  writes-changed p x j zero i long spare L y at a b w l z = absurd (let q : ⊥ = omega arith in q)
+  writes-changed p x j (suc n) i long spare L y at a b w l z =
       by-cases (eqb i j)
       (λ q.
       let e : i ≡ j = eqb-true i j q in
-      spares-changed p n (suc i) (λ k c d. spare k (omega arith) (omega arith) (λ y. omega arith)) (g i w)
+      spares-changed p n (suc i) (λ k c d. spare k (omega arith) (omega arith) (λ z. omega arith)) (g i w)
       ∙ ap (λ (k : ℕ). getD (g k w) p 0) e
       ∙ at w l z)
       (λ q.
       let e : i ≡ j → ⊥ = eqb-false i j q in
-      writes-changed p x j n (suc i) long (λ k c d. spare k (omega arith) (omega arith)) L at (omega arith) (omega arith) (g i w) (long i w ∙ l)
+      writes-changed p x j n (suc i) long (λ k c d. spare k (omega arith) (omega arith)) L y at (omega arith) (omega arith) (g i w) (long i w ∙ l)
       (spare i (omega arith) (omega arith) e w ∙ z))
 
 -- ---- a row of numbers
@@ -61,12 +62,13 @@ module _ (place f : ℕ → ℕ) where
   unfolding rowPut
   spares-row p n h = spares-changed (λ i w. set w (place i) (f i)) p n 0 (λ j a b w. getD-set-other w (place j) p (f j) 0 (h j (omega arith)))
 
-  pub writes-row : (n j : ℕ) → j < n → ((k : ℕ) → place j ≡ place k → k ≡ j) → (w : List ℕ) → place j < length w → getD w (place j) 0 ≡ 0 → getD (rowPut place f n w) (place j) 0 ≡ f j
+  pub writes-row : (n j : ℕ) → j < n → ((k : ℕ) → place j ≡ place k → k ≡ j) → (w : List ℕ) → place j < length w
+      → getD (rowPut place f n w) (place j) 0 ≡ f j
   unfolding rowPut
-  writes-row n j h one w l z =
+  writes-row n j h one w l =
       writes-changed (λ i x. set x (place i) (f i)) (place j) (f j) j n 0 (λ k x. length-set x (place k) (f k))
       (λ k a b c x. getD-set-other x (place k) (place j) (f k) 0 (λ e. c (one k e)))
-      (length w) (λ x m y. getD-set-same x (place j) (f j) 0 (omega arith)) (omega arith) (omega arith) w refl z
+      (length w) (getD w (place j) 0) (λ x m y. getD-set-same x (place j) (f j) 0 (omega arith)) (omega arith) (omega arith) w refl refl
 
 -- ---- a row of facts
 
@@ -99,7 +101,7 @@ module _ (place : ℕ → ℕ) (F : Facts) where
   writes-facts n j h one w l z =
       writes-changed (λ v. factPut (F v) (place v)) (place j) (F j) j n 0 (λ k. long-said (F k) (place k))
       (λ k a b c. spares-said (F k) (place k) (place j) (λ e. c (one k e)))
-      (length w) (λ x m y. writes-said (F j) (place j) x (omega arith) y) (omega arith) (omega arith) w refl z
+      (length w) 0 (λ x m y. writes-said (F j) (place j) x (omega arith) y) (omega arith) (omega arith) w refl z
 
 pub zeros : (n i : ℕ) → _≡_ {A = ℕ} (getD (replicate n 0) i 0) 0
 zeros zero i = refl

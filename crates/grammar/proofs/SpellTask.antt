@@ -1,63 +1,43 @@
 -- THE SCAN IS THE GRAMMAR: the text that spells a task gets the refusal that the scan finds in the task, or is accepted with the task's tables.
--- Assumes nothing.
+-- Line by line: each says what the scan says of the same numbers, and what follows counts only if that is clean. Assumes nothing.
 use Prim.Native.Nat.{ℕ, zero, suc, _+_, _≤_, _<_}
 use native.Mathlib.Omega.{arith}
-use native.Mathlib.Numerals.{add-one}
 use mathlib.Core.Path.{_≡_, refl, sym, ap, ap₂, _∙_}
 use mathlib.Core.List.{List, [], _++_, append-assoc, append-nil}
-use mathlib.Core.Bool.{Bool, true, false, _&&_, cond}
+use mathlib.Core.Bool.{true}
 use lib.Dec.{leb, ltb}
-use lib.ListN.{length, getD, set, replicate, length-replicate}
+use lib.ListN.{length, set, replicate, length-replicate}
 use borrow.Author.Tests.{leb-true}
+use Rattle.meaning.specs.Limits.{mostVars, mostValues, mostOps, mostMaps}
 use Rattle.refusals.specs.declared.Refusal.{Refusal}
 use Rattle.refusals.specs.declared.Refusal.the-variants.{OutOfRange, SharesAboveCost}
-use Rattle.meaning.specs.Split.{Task, sum}
+use Rattle.meaning.specs.Split.{Task}
 use Rattle.scan.specs.declared.Found.{Found}
 use Rattle.scan.specs.declared.Found.the-variants.{Clean, Fault}
-use Rattle.tables.specs.Layout.{Tables, factsRoom, costsRoom, sharesRoom, domPlace, initPlace, goalPlace, prePlace, effPlace, classPlace, sharePlace, costAt, shareAt}
+use Rattle.tables.specs.Layout.{Tables, factsRoom, costsRoom, sharesRoom, domPlace, initPlace, goalPlace, prePlace, effPlace, sharePlace, shareAt}
 use Rattle.tables.specs.Task.{taskOf}
-use Rattle.scan.specs.Scan.{unless, _then_, each, factsFault, operatorFault, mapFault, sharesFault, splitFault, taskFault, roomy, tablesFault, within as scanWithin}
+use Rattle.scan.specs.Scan.{unless, each, factsFault, operatorFault, mapFault, sharesFault, splitFault, taskFault, roomy, tablesFault, within as scanWithin}
+use Rattle.scan.proofs.Rules.{within-says}
 use Rattle.scan.proofs.Walks.{rule-held, walk-clean}
-use Rattle.grammar.specs.Fields.{shareTotal, opLine, overLine}
-use Rattle.grammar.specs.Grammar.{accepted, refused, Rest, Part, _▸_, ask, line, lines, initLine, goalLine, operator, opsLine, opLines, mapsLine, variables, mapLines, amounts, shareLines, taskLines, settled, theEnd, noTask, verdict, putCost}
+use Rattle.grammar.specs.Fields.{edition}
+use Rattle.grammar.specs.Grammar.{accepted, Rest, _▸_, ask, textLine, operatorFields, opLines, mapClasses}
+use Rattle.grammar.specs.Grammar.{mapLines, amounts, shareLines, taskLines, settled, theEnd, noTask, verdict, putCost}
 use Rattle.grammar.specs.Spelling.{digits, numbers, someFacts, keyed, stacked, opText, mapText, shareText, spelled, textOf, changed, rowPut, opRows, mapRows, headRows, tablesOf, canon}
-use Rattle.grammar.proofs.Runs.{clash}
 use Rattle.grammar.proofs.SpellParts.{judged, next, lines-told}
 use Rattle.grammar.proofs.SpellFacts.{on, on-changed, Knows, knows-row, knows-facts, knows-changed}
-use Rattle.grammar.proofs.SpellTables.{zeros, writes-row}
-use Rattle.grammar.proofs.SpellOwn.{Small, costs-own, shares-own}
+use Rattle.grammar.proofs.SpellTables.{long-changed, writes-row}
+use Rattle.grammar.proofs.SpellOwn.{Small, long-head, long-op, costs-own, shares-own}
+use Rattle.grammar.proofs.SpellClasses.{sum-same, each-same}
+use Rattle.grammar.proofs.SpellMaps.{Ready, ready-map}
 use Rattle.grammar.proofs.SpellLines.{edition-told, vars-told, dom-told, init-told, goal-told, ops-told, opChange, op-told, maps-told, map-told, onShares, shares-changed, share-told}
-use Rattle.tables.specs.Lines.{lineOfOp, lineOfMaps}
+use Rattle.tables.specs.Lines.{lineOfOp, lineOfMaps, lineOfMap, lineOfShares, lineOfVars, lineOfDom, lineOfInit, lineOfGoal, lineOfOps}
 
 -- ---- after all else: shares against costs
 
-totals : (τ : Task) (share : ℕ → ℕ → ℕ) (o n : ℕ) → ((m : ℕ) → m < n → share m o ≡ τ .share m o) → shareTotal share n o ≡ sum (λ m. τ .share m o) n
-unfolding shareTotal
-totals τ share o zero h = refl
-totals τ share o (suc n) h = ap₂ (λ (a b : ℕ). a + b) (totals τ share o n (λ m l. h m (omega arith))) (h n (omega arith))
-
-settled-over : (o : ℕ) (T : Tables) → settled (opLine o) T ≡ refused (SharesAboveCost (lineOfOp o))
+settled-judged : (f : Found) (T : Tables) → settled f T ≡ judged f (accepted T)
 unfolding settled
-settled-over o T =
-    let e : 7 + o ≡ suc (6 + o) = omega arith in
-    ap (λ (l : ℕ). settled l T) e ∙ ap (λ (l : ℕ). refused (SharesAboveCost l)) (sym e)
-
-module _ (τ : Task) (T : Tables) (cost : ℕ → ℕ) (share : ℕ → ℕ → ℕ) (costs : (o : ℕ) → o < τ .sas .ops → cost o ≡ τ .sas .cost o)
-    (shares : (m o : ℕ) → m < τ .maps → o < τ .sas .ops → share m o ≡ τ .share m o) where
-  over-told : (n o : ℕ) → o + n ≡ τ .sas .ops → settled (overLine cost share (τ .maps) n o) T ≡ judged (each (splitFault τ) n o) (accepted T)
-  unfolding overLine each splitFault settled
-  over-told zero o e = refl
-  over-told (suc n) o e =
-      let h : o < τ .sas .ops = omega arith in
-      let a : shareTotal share (τ .maps) o ≡ sum (λ m. τ .share m o) (τ .maps) = totals τ share o (τ .maps) (λ m l. shares m o l h) in
-      ap₂ (λ (x y : ℕ). settled (cond (leb x y) (overLine cost share (τ .maps) n (o + 1)) (opLine o)) T) a (costs o h)
-      ∙ go (leb (sum (λ m. τ .share m o) (τ .maps)) (τ .sas .cost o)) (ap (λ (x : ℕ). settled (overLine cost share (τ .maps) n x) T) (add-one o) ∙ over-told n (suc o) (omega arith))
-    where
-      go : (b : Bool) → settled (overLine cost share (τ .maps) n (o + 1)) T ≡ judged (each (splitFault τ) n (suc o)) (accepted T)
-          → settled (cond b (overLine cost share (τ .maps) n (o + 1)) (opLine o)) T
-          ≡ judged (unless b (SharesAboveCost (lineOfOp o)) then each (splitFault τ) n (suc o)) (accepted T)
-      go true h = h
-      go false h = settled-over o T
+settled-judged Clean T = refl
+settled-judged (Fault r) T = refl
 
 -- ---- the lines of one kind
 
@@ -68,13 +48,13 @@ module _ (τ : Task) where
   abbrev Known : Tables → Type 0
   Known = Knows (τ .sas .vars) (τ .sas .dom)
 
-  abbrev opsText : List ℕ
+  abbrev pub opsText : List ℕ
   opsText = stacked (λ o. keyed "op=" (opText τ o)) (τ .sas .ops) 0
 
-  abbrev mapsText : List ℕ
+  abbrev pub mapsText : List ℕ
   mapsText = stacked (λ m. keyed "map=" (mapText τ m)) (τ .maps) 0
 
-  abbrev sharesText : List ℕ
+  abbrev pub sharesText : List ℕ
   sharesText = stacked (λ m. keyed "share=" (shareText (τ .share m) (τ .sas .ops))) (τ .maps) 0
 
   abbrev opsDone : List ℕ → List ℕ
@@ -104,202 +84,147 @@ module _ (τ : Task) where
   knows-op : (o : ℕ) (T : Tables) → Known T → Known (opChange τ o T)
   knows-op o T w = knows-rows o (putCost o (τ .sas .cost o) T) (record { vars = w .vars; few = w .few; doms = w .doms })
 
-  knows-map : (m : ℕ) (T : Tables) → Known T → Known (on (mapRows τ m) T)
-  unfolding mapRows
-  knows-map m T w =
-      knows-changed (λ v. rowPut (classPlace m v) (τ .class m v) (τ .sas .dom v)) (λ v U. knows-row (classPlace m v) (τ .class m v) (λ j. omega arith) (τ .sas .dom v) U) (τ .sas .vars) 0 T w
-
   all-ops : (m : ℕ) (f c h rest : List ℕ) (k : Rest) → Known (made (τ .sas .vars) (τ .sas .ops) m f c h)
-      → opLines (opsText ++ rest) 7 (made (τ .sas .vars) (τ .sas .ops) m f c h) k
+      → opLines (opsText ++ rest) (lineOfOp 0) (made (τ .sas .vars) (τ .sas .ops) m f c h) k
       ≡ judged (each (operatorFault τ) (τ .sas .ops) 0) (k rest (lineOfMaps (τ .sas .ops)) (made (τ .sas .vars) (τ .sas .ops) m (opsDone f) (costsDone c) h))
   unfolding opLines ask rowPut
   all-ops m f c h rest k w =
       let T = made (τ .sas .vars) (τ .sas .ops) m f c h in
-      lines-told (λ o. line "op=" (operator o)) (λ o. keyed "op=" (opText τ o)) (operatorFault τ) (opChange τ) Known (τ .sas .ops) 7
-      (λ o U l. knows-op o U) (λ o U u l v. op-told τ o U v u) (τ .sas .ops) 0 (omega arith) rest T w k
+      lines-told (λ o. textLine "op=" (operatorFields o)) (λ o. keyed "op=" (opText τ o)) (operatorFault τ) (opChange τ) Known (τ .sas .ops) lineOfOp
+      (λ o. omega arith) (λ o U l. knows-op o U) (λ o U u l v. op-told τ o U v u) rest T w k
       ∙ ap (λ (U : Tables). judged (each (operatorFault τ) (τ .sas .ops) 0) (k rest (lineOfMaps (τ .sas .ops)) U)) (ops-changed (τ .sas .ops) 0 T)
 
-  all-maps : (f c h rest : List ℕ) (k : Rest) → ((v : ℕ) → v < τ .sas .vars → τ .sas .dom v ≤ 8) → Known (made (τ .sas .vars) (τ .sas .ops) (τ .maps) f c h)
-      → mapLines (mapsText ++ rest) (8 + τ .sas .ops) (made (τ .sas .vars) (τ .sas .ops) (τ .maps) f c h) k
-      ≡ judged (each (mapFault τ) (τ .maps) 0) (k rest (8 + τ .sas .ops + τ .maps) (made (τ .sas .vars) (τ .sas .ops) (τ .maps) (mapsDone f) c h))
+  all-maps : (f c h rest : List ℕ) (k : Rest) → Small τ → Ready τ (made (τ .sas .vars) (τ .sas .ops) (τ .maps) f c h)
+      → mapLines (mapsText ++ rest) (lineOfMap (τ .sas .ops) 0) (made (τ .sas .vars) (τ .sas .ops) (τ .maps) f c h) k
+      ≡ judged (each (mapFault τ) (τ .maps) 0) (k rest (lineOfMap (τ .sas .ops) (τ .maps)) (made (τ .sas .vars) (τ .sas .ops) (τ .maps) (mapsDone f) c h))
   unfolding mapLines ask
-  all-maps f c h rest k small w =
+  all-maps f c h rest k s w =
       let T = made (τ .sas .vars) (τ .sas .ops) (τ .maps) f c h in
-      let z : 8 + τ .sas .ops ≡ 8 + τ .sas .ops + 0 = omega arith in
-      let p : ℕ → Part = λ m. line "map=" (variables m (τ .sas .vars) 0 1) in
-      ap (λ (l : ℕ). lines p (τ .maps) 0 (mapsText ++ rest) l T k) z
-      ∙ lines-told p (λ m. keyed "map=" (mapText τ m)) (mapFault τ) (λ m. on (mapRows τ m)) Known (τ .maps) (8 + τ .sas .ops)
-      (λ m U l. knows-map m U) (λ m U u l v. map-told τ m U v small u) (τ .maps) 0 (omega arith) rest T w k
-      ∙ ap (λ (l : ℕ). judged (each (mapFault τ) (τ .maps) 0) (k rest (l + τ .maps) (changed (λ m. on (mapRows τ m)) (τ .maps) 0 T))) (sym z)
-      ∙ ap (λ (U : Tables). judged (each (mapFault τ) (τ .maps) 0) (k rest (8 + τ .sas .ops + τ .maps) U)) (on-changed (mapRows τ) (τ .maps) 0 T)
+      lines-told (λ m. textLine "map=" (mapClasses m)) (λ m. keyed "map=" (mapText τ m)) (mapFault τ) (λ m. on (mapRows τ m)) (Ready τ) (τ .maps) (lineOfMap (τ .sas .ops))
+      (λ m. omega arith) (λ m U l. ready-map τ m U) (λ m U u l v. map-told τ s m l U v u) rest T w k
+      ∙ ap (λ (U : Tables). judged (each (mapFault τ) (τ .maps) 0) (k rest (lineOfMap (τ .sas .ops) (τ .maps)) U)) (on-changed (mapRows τ) (τ .maps) 0 T)
+
+  abbrev shareRow : ℕ → List ℕ → List ℕ
+  shareRow m = rowPut (sharePlace m) (τ .share m) (τ .sas .ops)
 
   all-shares : (f c h rest : List ℕ) (k : Rest)
-      → shareLines (sharesText ++ rest) (8 + τ .sas .ops + τ .maps) (made (τ .sas .vars) (τ .sas .ops) (τ .maps) f c h) k
-      ≡ judged (each (sharesFault τ) (τ .maps) 0) (k rest (8 + τ .sas .ops + τ .maps + τ .maps) (made (τ .sas .vars) (τ .sas .ops) (τ .maps) f c (sharesDone h)))
+      → shareLines (sharesText ++ rest) (lineOfShares (τ .sas .ops) (τ .maps) 0) (made (τ .sas .vars) (τ .sas .ops) (τ .maps) f c h) k
+      ≡ judged (each (sharesFault τ) (τ .maps) 0) (k rest (lineOfShares (τ .sas .ops) (τ .maps) (τ .maps)) (made (τ .sas .vars) (τ .sas .ops) (τ .maps) f c (sharesDone h)))
   unfolding shareLines ask
   all-shares f c h rest k =
       let T = made (τ .sas .vars) (τ .sas .ops) (τ .maps) f c h in
-      let z : 8 + τ .sas .ops + τ .maps ≡ 8 + τ .sas .ops + τ .maps + 0 = omega arith in
-      let p : ℕ → Part = λ m. line "share=" (amounts m (τ .sas .ops)) in
-      let g : ℕ → List ℕ → List ℕ = λ m. rowPut (sharePlace m) (τ .share m) (τ .sas .ops) in
-      ap (λ (l : ℕ). lines p (τ .maps) 0 (sharesText ++ rest) l T k) z
-      ∙ lines-told p (λ m. keyed "share=" (shareText (τ .share m) (τ .sas .ops))) (sharesFault τ) (λ m. onShares (g m)) (λ U. Unit {0}) (τ .maps) (8 + τ .sas .ops + τ .maps)
-      (λ m U l u. tt) (λ m U u l v. share-told τ m U u) (τ .maps) 0 (omega arith) rest T tt k
-      ∙ ap (λ (l : ℕ). judged (each (sharesFault τ) (τ .maps) 0) (k rest (l + τ .maps) (changed (λ m. onShares (g m)) (τ .maps) 0 T))) (sym z)
-      ∙ ap (λ (U : Tables). judged (each (sharesFault τ) (τ .maps) 0) (k rest (8 + τ .sas .ops + τ .maps + τ .maps) U)) (shares-changed g (τ .maps) 0 T)
+      lines-told (λ m. textLine "share=" (amounts m (τ .sas .ops))) (λ m. keyed "share=" (shareText (τ .share m) (τ .sas .ops))) (sharesFault τ) (λ m. onShares (shareRow m)) (λ U. Unit {0}) (τ .maps)
+      (lineOfShares (τ .sas .ops) (τ .maps)) (λ m. omega arith) (λ m U l u. tt) (λ m U u l v. share-told τ m U u) rest T tt k
+      ∙ ap (λ (U : Tables). judged (each (sharesFault τ) (τ .maps) 0) (k rest (lineOfShares (τ .sas .ops) (τ .maps) (τ .maps)) U)) (shares-changed shareRow (τ .maps) 0 T)
+
+  abbrev pub linesText : List ℕ
+  linesText =
+      keyed "edition=" (digits edition)
+      ++ (keyed "vars=" (digits (τ .sas .vars))
+      ++ (keyed "dom=" (numbers (τ .sas .dom) (τ .sas .vars))
+      ++ (keyed "init=" (numbers (τ .sas .init) (τ .sas .vars))
+      ++ (keyed "goal=" (someFacts (τ .sas .goal) (τ .sas .vars) 0)
+      ++ (keyed "ops=" (digits (τ .sas .ops)) ++ (opsText ++ (keyed "maps=" (digits (τ .maps)) ++ (mapsText ++ (sharesText ++ [])))))))))
+
+  pub spelled-lines : spelled edition τ ≡ linesText
+  unfolding spelled
+  spelled-lines = simp (append-assoc, append-nil)
 
 -- ---- the whole text
 
-and-second : (a b : Bool) → (a && b) ≡ true → b ≡ true
-and-second true b p = p
-and-second false b p = clash p refl
+at-most : (least most x : ℕ) (r : Refusal) → unless (scanWithin least most x) r ≡ Clean → x ≤ most
+at-most least most x r q = within-says least most x (rule-held (scanWithin least most x) r q) .1
 
-pub at-most : (least most x : ℕ) (r : Refusal) → unless (scanWithin least most x) r ≡ Clean → x ≤ most
-at-most least most x r q = leb-true x most (and-second (leb least x) (leb x most) (rule-held (scanWithin least most x) r q))
+-- from tables of this length, whatever stands in them
+module _ (τ : Task) (f c h : List ℕ) (lf : length f ≡ factsRoom) (lc : length c ≡ costsRoom) (lh : length h ≡ sharesRoom) where
+  abbrev headDone : List ℕ
+  headDone = headRows τ f
 
-module _ (τ : Task) (f c h : List ℕ) (lf : length f ≡ 1624) (zf : (p : ℕ) → getD f p 0 ≡ 0) (lc : length c ≡ 64) (zc : (p : ℕ) → getD c p 0 ≡ 0)
-    (lh : length h ≡ 512) (zh : (p : ℕ) → getD h p 0 ≡ 0) where
-  abbrev mapsFrom : List ℕ
-  mapsFrom = mapsText τ ++ (sharesText τ ++ [])
+  abbrev allDone : Tables
+  allDone = made (τ .sas .vars) (τ .sas .ops) (τ .maps) (mapsDone τ (opsDone τ headDone)) (costsDone τ c) (sharesDone τ h)
 
-  abbrev opsFrom : List ℕ
-  opsFrom = opsText τ ++ (keyed "maps=" (digits (τ .maps)) ++ mapsFrom)
+  split-same : (o : ℕ) → Small τ → o < τ .sas .ops → splitFault (taskOf allDone) o ≡ splitFault τ o
+  unfolding splitFault
+  split-same o s a =
+      ap₂ (λ (x y : ℕ). unless (leb x y) (SharesAboveCost (lineOfOp o)))
+      (sum-same (λ m. shareAt (sharesDone τ h) m o) (λ m. τ .share m o) (τ .maps) (λ m b. shares-own τ s h lh m o b a)) (costs-own τ s c lc o a)
 
-  abbrev finished : List ℕ → Tables
-  finished g = made (τ .sas .vars) (τ .sas .ops) (τ .maps) (mapsDone τ g) (costsDone τ c) (sharesDone τ h)
-
-  abbrev tailRules : Found
-  tailRules = each (mapFault τ) (τ .maps) 0 then each (sharesFault τ) (τ .maps) 0 then each (splitFault τ) (τ .sas .ops) 0
-
-  end-told : (g : List ℕ) (l : ℕ) → Small τ → theEnd [] l (finished g) ≡ judged (each (splitFault τ) (τ .sas .ops) 0) (accepted (finished g))
+  end-told : (l : ℕ) → Small τ → theEnd [] l allDone ≡ judged (each (splitFault τ) (τ .sas .ops) 0) (accepted allDone)
   unfolding theEnd
-  end-told g l s =
-      over-told τ (finished g) (costAt (costsDone τ c)) (shareAt (sharesDone τ h)) (costs-own τ s c lc zc) (shares-own τ s h lh zh) (τ .sas .ops) 0 (omega arith)
+  end-told l s =
+      settled-judged (each (splitFault (taskOf allDone)) (τ .sas .ops) 0) allDone
+      ∙ ap (λ (f : Found). judged f (accepted allDone)) (each-same (splitFault (taskOf allDone)) (splitFault τ) (τ .sas .ops) 0 (λ o a b. split-same o s (omega arith)))
 
-  tail-told : (g : List ℕ) → Small τ → Known τ (made (τ .sas .vars) (τ .sas .ops) (τ .maps) g (costsDone τ c) h)
-      → (mapLines ▸ shareLines) mapsFrom (8 + τ .sas .ops) (made (τ .sas .vars) (τ .sas .ops) (τ .maps) g (costsDone τ c) h) theEnd ≡ judged tailRules (accepted (finished g))
-  unfolding _▸_
-  tail-told g s w =
-      next (each (mapFault τ) (τ .maps) 0) (each (sharesFault τ) (τ .maps) 0 then each (splitFault τ) (τ .sas .ops) 0) _
-      (all-maps τ g (costsDone τ c) h (sharesText τ ++ []) _ (s .doms) w)
-      (λ q. next (each (sharesFault τ) (τ .maps) 0) (each (splitFault τ) (τ .sas .ops) 0) _
-      (all-shares τ (mapsDone τ g) (costsDone τ c) h [] theEnd)
-      (λ r. end-told g _ s))
-
-  maps-from : (g : List ℕ) (m : ℕ) → τ .sas .vars ≤ 8 → ((v : ℕ) → v < τ .sas .vars → τ .sas .dom v ≤ 8) → τ .sas .ops ≤ 64 → Known τ (made (τ .sas .vars) (τ .sas .ops) m g (costsDone τ c) h)
-      → (mapsLine ▸ mapLines ▸ shareLines) (keyed "maps=" (digits (τ .maps)) ++ mapsFrom) (lineOfMaps (τ .sas .ops)) (made (τ .sas .vars) (τ .sas .ops) m g (costsDone τ c) h) theEnd
-      ≡ judged (unless (scanWithin 1 8 (τ .maps)) (OutOfRange (lineOfMaps (τ .sas .ops))) then tailRules) (accepted (finished g))
-  unfolding _▸_
-  maps-from g m a d b w =
-      let z : 7 + τ .sas .ops + 1 ≡ 8 + τ .sas .ops = omega arith in
-      next (unless (scanWithin 1 8 (τ .maps)) (OutOfRange (lineOfMaps (τ .sas .ops)))) tailRules _
-      (maps-told mapsFrom (lineOfMaps (τ .sas .ops)) (made (τ .sas .vars) (τ .sas .ops) m g (costsDone τ c) h) (τ .maps) _)
-      (λ q.
-      ap (λ (l : ℕ). (mapLines ▸ shareLines) mapsFrom l (made (τ .sas .vars) (τ .sas .ops) (τ .maps) g (costsDone τ c) h) theEnd) z
-      ∙ tail-told g (record { vars = a; doms = d; ops = b; maps = at-most 1 8 (τ .maps) (OutOfRange (lineOfMaps (τ .sas .ops))) q }) (record { vars = refl; few = w .few; doms = w .doms }))
-
-  abbrev opsRules : Found
-  opsRules = each (operatorFault τ) (τ .sas .ops) 0 then unless (scanWithin 1 8 (τ .maps)) (OutOfRange (lineOfMaps (τ .sas .ops))) then tailRules
-
-  ops-from : (g : List ℕ) (m o : ℕ) → τ .sas .vars ≤ 8 → ((v : ℕ) → v < τ .sas .vars → τ .sas .dom v ≤ 8) → Known τ (made (τ .sas .vars) o m g c h)
-      → (opsLine ▸ opLines ▸ mapsLine ▸ mapLines ▸ shareLines) (keyed "ops=" (digits (τ .sas .ops)) ++ opsFrom) 6 (made (τ .sas .vars) o m g c h) theEnd
-      ≡ judged (unless (leb (τ .sas .ops) 64) (OutOfRange 6) then opsRules) (accepted (finished (opsDone τ g)))
-  unfolding _▸_
-  ops-from g m o a d w =
-      next (unless (leb (τ .sas .ops) 64) (OutOfRange 6)) opsRules _
-      (ops-told opsFrom 6 (made (τ .sas .vars) o m g c h) (τ .sas .ops) _)
-      (λ q. next (each (operatorFault τ) (τ .sas .ops) 0) (unless (scanWithin 1 8 (τ .maps)) (OutOfRange (lineOfMaps (τ .sas .ops))) then tailRules) _
-      (all-ops τ m g c h (keyed "maps=" (digits (τ .maps)) ++ mapsFrom) _ (record { vars = refl; few = w .few; doms = w .doms }))
-      (λ r. maps-from (opsDone τ g) m a d (leb-true (τ .sas .ops) 64 (rule-held (leb (τ .sas .ops) 64) (OutOfRange 6) q))
-      (known g m w)))
-    where
-      known : (g : List ℕ) (m : ℕ) → Known τ (made (τ .sas .vars) o m g c h) → Known τ (made (τ .sas .vars) (τ .sas .ops) m (opsDone τ g) (costsDone τ c) h)
-      known g m w =
-          knows-changed (opRows τ) (knows-rows τ) (τ .sas .ops) 0 (made (τ .sas .vars) (τ .sas .ops) m g (costsDone τ c) h) (record { vars = refl; few = w .few; doms = w .doms })
-
-  -- the facts once dom= is read
-  abbrev domDone : List ℕ
-  domDone = rowPut domPlace (τ .sas .dom) (τ .sas .vars) f
-
-  abbrev initDone : List ℕ
-  initDone = rowPut initPlace (τ .sas .init) (τ .sas .vars) domDone
-
-  abbrev goalFrom : List ℕ
-  goalFrom = keyed "goal=" (someFacts (τ .sas .goal) (τ .sas .vars) 0) ++ (keyed "ops=" (digits (τ .sas .ops)) ++ opsFrom)
-
-  abbrev goalRules : Found
-  goalRules = factsFault τ (τ .sas .goal) 5 then unless (leb (τ .sas .ops) 64) (OutOfRange 6) then opsRules
-
-  goal-from : (m o : ℕ) → τ .sas .vars ≤ 8 → ((v : ℕ) → v < τ .sas .vars → τ .sas .dom v ≤ 8) → Known τ (made (τ .sas .vars) o m initDone c h)
-      → (goalLine ▸ opsLine ▸ opLines ▸ mapsLine ▸ mapLines ▸ shareLines) goalFrom 5 (made (τ .sas .vars) o m initDone c h) theEnd
-      ≡ judged goalRules (accepted (finished (opsDone τ (headRows τ f))))
-  unfolding _▸_ headRows
-  goal-from m o a d w =
-      next (factsFault τ (τ .sas .goal) 5) (unless (leb (τ .sas .ops) 64) (OutOfRange 6) then opsRules) _
-      (goal-told τ (keyed "ops=" (digits (τ .sas .ops)) ++ opsFrom) 5 (made (τ .sas .vars) o m initDone c h) w _)
-      (λ q. ops-from (headRows τ f) m o a d (knows-facts goalPlace (τ .sas .goal) (λ v. omega arith) (τ .sas .vars) (made (τ .sas .vars) o m initDone c h) w))
-
-  known-doms : (m o : ℕ) → τ .sas .vars ≤ 8 → Known τ (made (τ .sas .vars) o m domDone c h)
+  -- what is known once dom=, init=, goal= and the operators are read
+  known-doms : (m o : ℕ) → τ .sas .vars ≤ mostVars → Known τ (made (τ .sas .vars) o m (rowPut domPlace (τ .sas .dom) (τ .sas .vars) f) c h)
   known-doms m o a =
       record {
         vars = refl;
         few = a;
-        doms = λ v b. writes-row domPlace (τ .sas .dom) (τ .sas .vars) v b (λ k e. omega arith) f (omega arith) (zf (domPlace v));
+        doms = λ v b. writes-row domPlace (τ .sas .dom) (τ .sas .vars) v b (λ k e. omega arith) f (omega arith);
       }
 
-  init-from : (m o : ℕ) → τ .sas .vars ≤ 8 → ((v : ℕ) → v < τ .sas .vars → τ .sas .dom v ≤ 8)
-      → (initLine ▸ goalLine ▸ opsLine ▸ opLines ▸ mapsLine ▸ mapLines ▸ shareLines) (keyed "init=" (numbers (τ .sas .init) (τ .sas .vars)) ++ goalFrom) 4 (made (τ .sas .vars) o m domDone c h) theEnd
-      ≡ judged (each (λ v. unless (ltb (τ .sas .init v) (τ .sas .dom v)) (OutOfRange 4)) (τ .sas .vars) 0 then goalRules) (accepted (finished (opsDone τ (headRows τ f))))
-  unfolding _▸_
-  init-from m o a d =
-      let T = made (τ .sas .vars) o m domDone c h in
-      next (each (λ v. unless (ltb (τ .sas .init v) (τ .sas .dom v)) (OutOfRange 4)) (τ .sas .vars) 0) goalRules _
-      (init-told τ goalFrom 4 T (known-doms m o a) _)
-      (λ q. goal-from m o a d (knows-row initPlace (τ .sas .init) (λ v. omega arith) (τ .sas .vars) T (known-doms m o a)))
+  known-init : (m o : ℕ) → τ .sas .vars ≤ mostVars
+      → Known τ (made (τ .sas .vars) o m (rowPut initPlace (τ .sas .init) (τ .sas .vars) (rowPut domPlace (τ .sas .dom) (τ .sas .vars) f)) c h)
+  known-init m o a = knows-row initPlace (τ .sas .init) (λ v. omega arith) (τ .sas .vars) _ (known-doms m o a)
 
-  abbrev linesText : List ℕ
-  linesText =
-      keyed "edition=" (digits 1)
-      ++ (keyed "vars=" (digits (τ .sas .vars))
-      ++ (keyed "dom=" (numbers (τ .sas .dom) (τ .sas .vars)) ++ (keyed "init=" (numbers (τ .sas .init) (τ .sas .vars)) ++ goalFrom)))
+  known-head : (m o : ℕ) → τ .sas .vars ≤ mostVars → Known τ (made (τ .sas .vars) o m headDone c h)
+  unfolding headRows
+  known-head m o a = knows-facts goalPlace (τ .sas .goal) (λ v. omega arith) (τ .sas .vars) _ (known-init m o a)
 
-  spelled-lines : spelled τ ≡ linesText
-  unfolding spelled
-  spelled-lines = simp (append-assoc, append-nil)
+  ready-maps : τ .sas .vars ≤ mostVars → Ready τ (made (τ .sas .vars) (τ .sas .ops) (τ .maps) (opsDone τ headDone) (costsDone τ c) h)
+  ready-maps a =
+      let w = known-head (τ .maps) (τ .sas .ops) a in (
+        knows-changed (opRows τ) (knows-rows τ) (τ .sas .ops) 0 (made (τ .sas .vars) (τ .sas .ops) (τ .maps) headDone (costsDone τ c) h) (record { vars = refl; few = a; doms = w .doms }),
+        long-changed (opRows τ) (long-op τ) (τ .sas .ops) 0 headDone ∙ long-head τ f ∙ lf,
+      )
 
-  lines-from : (v o m : ℕ) → taskLines (spelled τ) 1 (made v o m f c h) theEnd ≡ judged (taskFault τ) (accepted (finished (opsDone τ (headRows τ f))))
-  unfolding taskLines taskFault _▸_
-  lines-from v o m =
-      let doms : ℕ → Found = λ u. unless (scanWithin 1 8 (τ .sas .dom u)) (OutOfRange 3) in
-      let inits : ℕ → Found = λ u. unless (ltb (τ .sas .init u) (τ .sas .dom u)) (OutOfRange 4) in
-      ap (λ (t : List ℕ). taskLines t 1 (made v o m f c h) theEnd) spelled-lines
-      ∙ edition-told _ 1 (made v o m f c h) _
-      ∙ next (unless (scanWithin 1 8 (τ .sas .vars)) (OutOfRange 2)) (each doms (τ .sas .vars) 0 then each inits (τ .sas .vars) 0 then goalRules) _
-      (vars-told _ 2 (made v o m f c h) (τ .sas .vars) _)
-      (λ q.
-      let a = at-most 1 8 (τ .sas .vars) (OutOfRange 2) q in
-      next (each doms (τ .sas .vars) 0) (each inits (τ .sas .vars) 0 then goalRules) _
-      (dom-told τ _ 3 (made (τ .sas .vars) o m f c h) refl _)
-      (λ r. init-from m o a (λ u b. at-most 1 8 (τ .sas .dom u) (OutOfRange 3) (walk-clean doms (τ .sas .vars) u r b))))
+  -- line by line: what the scan says of it, and if that is clean what follows
+  lines-judged : (v o m : ℕ) → taskLines (linesText τ) 1 (made v o m f c h) theEnd ≡ judged (taskFault τ) (accepted allDone)
+  unfolding taskLines taskFault headRows _▸_
+  lines-judged v o m =
+      let N = τ .sas .vars in
+      let O = τ .sas .ops in
+      let M = τ .maps in
+      let doms : ℕ → Found = λ u. unless (scanWithin 1 mostValues (τ .sas .dom u)) (OutOfRange lineOfDom) in
+      let inits : ℕ → Found = λ u. unless (ltb (τ .sas .init u) (τ .sas .dom u)) (OutOfRange lineOfInit) in
+      let toMaps : lineOfMaps O + 1 ≡ lineOfMap O 0 = omega arith in
+      let toShares : lineOfMap O M ≡ lineOfShares O M 0 = omega arith in
+      edition-told _ 1 (made v o m f c h) _
+      ∙ next (unless (scanWithin 1 mostVars N) (OutOfRange lineOfVars)) _ _ (vars-told _ lineOfVars (made v o m f c h) N _)
+      (λ q. let a = at-most 1 mostVars N (OutOfRange lineOfVars) q in
+      next (each doms N 0) _ _ (dom-told τ _ lineOfDom (made N o m f c h) refl _)
+      (λ d. next (each inits N 0) _ _ (init-told τ _ lineOfInit _ (known-doms m o a) _)
+      (λ i. next (factsFault τ (τ .sas .goal) lineOfGoal) _ _ (goal-told τ _ lineOfGoal _ (known-init m o a) _)
+      (λ g. next (unless (leb O mostOps) (OutOfRange lineOfOps)) _ _ (ops-told _ lineOfOps (made N o m headDone c h) O _)
+      (λ p. next (each (operatorFault τ) O 0) _ _ (all-ops τ m headDone c h _ _ (known-head m O a))
+      (λ r. next (unless (scanWithin 1 mostMaps M) (OutOfRange (lineOfMaps O))) _ _ (maps-told _ (lineOfMaps O) (made N O m (opsDone τ headDone) (costsDone τ c) h) M _)
+      (λ x. let s : Small τ = record {
+        vars = a;
+        doms = λ u b. at-most 1 mostValues (τ .sas .dom u) (OutOfRange lineOfDom) (walk-clean doms N u d b);
+        ops = leb-true O mostOps (rule-held (leb O mostOps) (OutOfRange lineOfOps) p);
+        maps = at-most 1 mostMaps M (OutOfRange (lineOfMaps O)) x;
+      } in
+      rw toMaps (next (each (mapFault τ) M 0) _ _ (all-maps τ (opsDone τ headDone) (costsDone τ c) h _ _ s (ready-maps a))
+      (λ y. rw toShares (next (each (sharesFault τ) M 0) _ _ (all-shares τ (mapsDone τ (opsDone τ headDone)) (costsDone τ c) h [] theEnd)
+      (λ z. end-told _ s)))))))))))
 
 -- THE SCAN IS THE GRAMMAR, for a task
-pub spelled-judged : (τ : Task) → verdict (spelled τ) ≡ judged (taskFault τ) (accepted (tablesOf τ))
+pub spelled-judged : (τ : Task) → verdict (spelled edition τ) ≡ judged (taskFault τ) (accepted (tablesOf τ))
 unfolding verdict noTask tablesOf
 spelled-judged τ =
-    lines-from τ (replicate factsRoom 0) (replicate costsRoom 0) (replicate sharesRoom 0) (length-replicate {A = ℕ} factsRoom 0) (zeros factsRoom) (length-replicate {A = ℕ} costsRoom 0) (zeros costsRoom)
-    (length-replicate {A = ℕ} sharesRoom 0) (zeros sharesRoom) 0 0 0
+    ap verdict (spelled-lines τ)
+    ∙ lines-judged τ (replicate factsRoom 0) (replicate costsRoom 0) (replicate sharesRoom 0) (length-replicate {A = ℕ} factsRoom 0) (length-replicate {A = ℕ} costsRoom 0)
+    (length-replicate {A = ℕ} sharesRoom 0) 0 0 0
 
 -- and for tables with any content: they get the line that the same task's text would have
-pub scan-is-grammar : (t : Tables) → verdict (textOf t) ≡ judged (taskFault (taskOf t)) (accepted (canon t))
+pub scan-is-grammar : (t : Tables) → verdict (textOf edition t) ≡ judged (taskFault (taskOf t)) (accepted (canon t))
 scan-is-grammar t = spelled-judged (taskOf t)
 
-pub fault-refused : (t : Tables) (r : Refusal) → taskFault (taskOf t) ≡ Fault r → verdict (textOf t) ≡ refused r
-fault-refused t r p = scan-is-grammar t ∙ ap (λ (f : Found). judged f (accepted (canon t))) p
-
-pub clean-accepted : (t : Tables) → taskFault (taskOf t) ≡ Clean → verdict (textOf t) ≡ accepted (canon t)
+pub clean-accepted : (t : Tables) → taskFault (taskOf t) ≡ Clean → verdict (textOf edition t) ≡ accepted (canon t)
 clean-accepted t p = scan-is-grammar t ∙ ap (λ (f : Found). judged f (accepted (canon t))) p
 
 -- with room for a task the whole judgement of handed-in tables is that of the text
-pub tables-judged : (t : Tables) → roomy t ≡ true → verdict (textOf t) ≡ judged (tablesFault t) (accepted (canon t))
+pub tables-judged : (t : Tables) → roomy t ≡ true → verdict (textOf edition t) ≡ judged (tablesFault t) (accepted (canon t))
 unfolding tablesFault
 tables-judged t r = scan-is-grammar t ∙ sym (rw r refl)

@@ -1,4 +1,4 @@
--- What the grammar of the task text and the machine that reads it share: bytes, keywords, limits, and what a reading leaves behind.
+-- What the grammar of the task text and the spelling share: the edition and the bytes; and what a reading leaves behind.
 use Prim.Native.Nat.{ℕ, zero, suc, _+_, _-_}
 use Prim.Native.Char.{code}
 use Prim.Native.String.{String, [] as []ˢ, _∷_ as _∷ˢ_}
@@ -12,14 +12,24 @@ use Rattle.tables.specs.Layout.{factsRoom, costsRoom, sharesRoom}
 use Rattle.grammar.specs.declared.Reading.{Reading}
 use Rattle.grammar.specs.declared.Reading.the-variants.{Refused}
 
+-- the edition of the text
+abbrev pub edition : ℕ
+edition = 1
+
 -- the bytes 0 to 9
+abbrev pub zeroDigit : ℕ
+zeroDigit = code "0"
+
+abbrev pub nineDigit : ℕ
+nineDigit = code "9"
+
 unfoldable pub isDigit : ℕ → Bool
-isDigit b = cond (leb 48 b) (leb b 57) false
+isDigit b = cond (leb zeroDigit b) (leb b nineDigit) false
 
 -- the bytes of a text that is written out
-abbrev pub bytes : String → List ℕ
-bytes []ˢ = []
-bytes (c ∷ˢ s) = code c ∷ bytes s
+abbrev pub bytesOf : String → List ℕ
+bytesOf []ˢ = []
+bytesOf (c ∷ˢ s) = code c ∷ bytesOf s
 
 -- the marks between numbers
 abbrev pub lineEnd : ℕ

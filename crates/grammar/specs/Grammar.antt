@@ -11,7 +11,6 @@ use Rattle.refusals.specs.declared.Refusal.the-variants.{
   OutOfRange,
   NotRising,
   ClassMissing,
-  SharesAboveCost,
   TooManyStates,
 }
 use Rattle.tables.specs.Layout.{
@@ -27,12 +26,18 @@ use Rattle.tables.specs.Layout.{
   classPlace,
   sharePlace,
   domAt,
-  costAt,
-  shareAt,
+  classAt,
 }
 use Rattle.grammar.specs.declared.Reading.the-variants.{Accepted, Refused}
-use Rattle.grammar.specs.Fields.{isDigit, bytes, lineEnd, comma, dash, slash, colon, semicolon, overLine, Outcome, leaves, filled, admitted}
+use Rattle.grammar.specs.Fields.{edition, zeroDigit, isDigit, bytesOf, lineEnd, comma, dash, slash, colon, semicolon, Outcome, leaves, filled, admitted}
 use Rattle.meaning.specs.Limits.{mostVars, mostValues, mostOps, mostCost, mostMaps, mostStates}
+use Rattle.meaning.specs.Views.{abstractStates}
+use Rattle.meaning.specs.Split.{view}
+use Rattle.tables.specs.Task.{sasOf, taskOf}
+use Rattle.tables.specs.Classes.{noneMissing}
+use Rattle.scan.specs.declared.Found.{Found}
+use Rattle.scan.specs.declared.Found.the-variants.{Clean, Fault}
+use Rattle.scan.specs.Scan.{each, splitFault}
 
 -- accepted with the task's tables, or refused
 pub data Verdict : Type 0 where
@@ -84,13 +89,13 @@ unfoldable pub runLen : List ℕ → ℕ
 runLen [] = 0
 runLen (b ∷ t) = cond (isDigit b) (suc (runLen t)) 0
 
-unfoldable pub value : ℕ → List ℕ → ℕ
-value v [] = v
-value v (b ∷ t) = value (10 * v + (b - 48)) t
+unfoldable pub decimal : ℕ → List ℕ → ℕ
+decimal v [] = v
+decimal v (b ∷ t) = decimal (10 * v + (b - zeroDigit)) t
 
 -- not empty, and without a needless leading zero
 unfoldable pub formed : List ℕ → Bool
-formed t = cond (eqb (runLen t) 0) false (cond (eqb (getD t 0 0) 48) (eqb (runLen t) 1) true)
+formed t = cond (eqb (runLen t) 0) false (cond (eqb (getD t 0 0) zeroDigit) (eqb (runLen t) 1) true)
 
 unfoldable pub fits : ℕ → ℕ → ℕ → Bool
 fits v least limit = cond (leb least v) (ltb v limit) false
@@ -99,8 +104,8 @@ fits v least limit = cond (leb least v) (ltb v limit) false
 unfoldable pub numeral : ℕ → ℕ → (ℕ → Part) → Part
 numeral least limit p t l T k =
     (demand (formed t) OffForm
-    ▸ demand (fits (value 0 (take (runLen t) t)) least limit) OutOfRange
-    ▸ p (value 0 (take (runLen t) t)))
+    ▸ demand (fits (decimal 0 (take (runLen t) t)) least limit) OutOfRange
+    ▸ p (decimal 0 (take (runLen t) t)))
     (drop (runLen t) t)
     l
     T
@@ -112,21 +117,21 @@ parted zero mark t l T k = k t l T
 parted (suc n) mark t l T k = lit (mark ∷ []) t l T k
 
 -- n numbers parted by commas, from the i-th on, each in its range and kept in its place
-unfoldable pub row : ℕ → (ℕ → Tables → ℕ) → (ℕ → ℕ → Tables → Tables) → ℕ → ℕ → Part
-row least limit put zero i t l T k = k t l T
-row least limit put (suc n) i t l T k =
-    numeral least (limit i T) (λ v. keep (put i v) ▸ parted n comma ▸ row least limit put n (i + 1)) t l T k
+unfoldable pub numberRow : ℕ → (ℕ → Tables → ℕ) → (ℕ → ℕ → Tables → Tables) → ℕ → ℕ → Part
+numberRow least limit put zero i t l T k = k t l T
+numberRow least limit put (suc n) i t l T k =
+    numeral least (limit i T) (λ v. keep (put i v) ▸ parted n comma ▸ numberRow least limit put n (i + 1)) t l T k
 
 unfoldable pub endOfLine : Part
 endOfLine = lit (lineEnd ∷ []) ▸ (λ t l T k. k t (l + 1) T)
 
-unfoldable pub line : String → Part → Part
-line key p = lit (bytes key) ▸ p ▸ endOfLine
+unfoldable pub textLine : String → Part → Part
+textLine key p = lit (bytesOf key) ▸ p ▸ endOfLine
 
 -- n lines, from the i-th on
-unfoldable pub lines : (ℕ → Part) → ℕ → ℕ → Part
-lines p zero i t l T k = k t l T
-lines p (suc n) i t l T k = (p i ▸ lines p n (i + 1)) t l T k
+unfoldable pub textLines : (ℕ → Part) → ℕ → ℕ → Part
+textLines p zero i t l T k = k t l T
+textLines p (suc n) i t l T k = (p i ▸ textLines p n (i + 1)) t l T k
 
 -- the tables with one number more
 abbrev pub withCounts : ℕ → ℕ → ℕ → Tables → Tables
@@ -141,32 +146,32 @@ putCost o v T = record { counts = T .counts; facts = T .facts; costs = set (T .c
 abbrev pub putShare : ℕ → ℕ → Tables → Tables
 putShare i v T = record { counts = T .counts; facts = T .facts; costs = T .costs; shares = set (T .shares) i v }
 
--- edition=1
+-- edition=
 unfoldable pub editionLine : Part
-editionLine = line "edition=" (numeral 1 2 (λ e. nothing))
+editionLine = textLine "edition=" (numeral edition (edition + 1) (λ e. nothing))
 
 -- vars=, dom= and init=
 unfoldable pub varsLine : Part
-varsLine = line "vars=" (numeral 1 (mostVars + 1) (λ n. keep (λ T. withCounts n (T .counts .ops) (T .counts .maps) T)))
+varsLine = textLine "vars=" (numeral 1 (mostVars + 1) (λ n. keep (λ T. withCounts n (T .counts .ops) (T .counts .maps) T)))
 
 unfoldable pub domLine : Part
-domLine = line "dom=" (ask (λ T. row 1 (λ v U. mostValues + 1) (λ v n. putFact (domPlace v) n) (T .counts .vars) 0))
+domLine = textLine "dom=" (ask (λ T. numberRow 1 (λ v U. mostValues + 1) (λ v n. putFact (domPlace v) n) (T .counts .vars) 0))
 
 unfoldable pub initLine : Part
-initLine = line "init=" (ask (λ T. row 0 (λ v U. domAt (U .facts) v) (λ v x. putFact (initPlace v) x) (T .counts .vars) 0))
+initLine = textLine "init=" (ask (λ T. numberRow 0 (λ v U. domAt (U .facts) v) (λ v x. putFact (initPlace v) x) (T .counts .vars) 0))
 
 -- facts from the variable `least` on, of which at most n can still come: the variable's range and order before its colon, then the value's range;
 -- a comma means one more, anything else ends the list
-unfoldable pub facts : (ℕ → ℕ) → ℕ → ℕ → Part
-facts place zero least t l T k = numeral 0 (T .counts .vars) (λ v. demand false NotRising) t l T k
-facts place (suc n) least t l T k =
+unfoldable pub factsFrom : (ℕ → ℕ) → ℕ → ℕ → Part
+factsFrom place zero least t l T k = numeral 0 (T .counts .vars) (λ v. demand false NotRising) t l T k
+factsFrom place (suc n) least t l T k =
     numeral
     0
     (T .counts .vars)
     (λ v.
     demand (leb least v) NotRising
     ▸ lit (colon ∷ [])
-    ▸ numeral 0 (domAt (T .facts) v) (λ x. keep (putFact (place v) (x + 1)) ▸ choice comma (facts place n (v + 1)) nothing))
+    ▸ numeral 0 (domAt (T .facts) v) (λ x. keep (putFact (place v) (x + 1)) ▸ choice comma (factsFrom place n (v + 1)) nothing))
     t
     l
     T
@@ -174,17 +179,17 @@ facts place (suc n) least t l T k =
 
 -- a list of facts: - if it is empty
 unfoldable pub factList : (ℕ → ℕ) → Part
-factList place = choice dash nothing (ask (λ T. facts place (T .counts .vars) 0))
+factList place = choice dash nothing (ask (λ T. factsFrom place (T .counts .vars) 0))
 
 unfoldable pub goalLine : Part
-goalLine = line "goal=" (factList goalPlace)
+goalLine = textLine "goal=" (factList goalPlace)
 
 -- ops=, and one op=cost;preconditions;effects for each
 unfoldable pub opsLine : Part
-opsLine = line "ops=" (numeral 0 (mostOps + 1) (λ n. keep (λ T. withCounts (T .counts .vars) n (T .counts .maps) T)))
+opsLine = textLine "ops=" (numeral 0 (mostOps + 1) (λ n. keep (λ T. withCounts (T .counts .vars) n (T .counts .maps) T)))
 
-unfoldable pub operator : ℕ → Part
-operator o =
+unfoldable pub operatorFields : ℕ → Part
+operatorFields o =
     numeral 0 (mostCost + 1) (λ c. keep (putCost o c))
     ▸ lit (semicolon ∷ [])
     ▸ factList (prePlace o)
@@ -192,62 +197,39 @@ operator o =
     ▸ factList (effPlace o)
 
 unfoldable pub opLines : Part
-opLines = ask (λ T. lines (λ o. line "op=" (operator o)) (T .counts .ops) 0)
+opLines = ask (λ T. textLines (λ o. textLine "op=" (operatorFields o)) (T .counts .ops) 0)
 
--- a class is among these
-unfoldable pub has : List ℕ → ℕ → Bool
-has [] d = false
-has (c ∷ cs) d = cond (eqb d c) true (has cs d)
+-- in map m the classes of variable v, one for each of its values; at their end none is missing
+unfoldable pub classList : ℕ → ℕ → Part
+classList m v =
+    ask (λ T. numberRow 0 (λ x U. domAt (U .facts) v) (λ x c. putFact (classPlace m v x) c) (domAt (T .facts) v) 0)
+    ▸ ask (λ T. demand (noneMissing (classAt (T .facts) m v) (domAt (T .facts) v)) ClassMissing)
 
--- the largest number below n that passes the test, and one; whether all below n pass it
-unfoldable pub topOf : ℕ → (ℕ → Bool) → ℕ
-topOf zero f = 0
-topOf (suc n) f = cond (f n) (suc n) (topOf n f)
+-- those of the last n variables, from v on, parted by /
+unfoldable pub classLists : ℕ → ℕ → ℕ → Part
+classLists m zero v = nothing
+classLists m (suc n) v = classList m v ▸ parted n slash ▸ classLists m n (v + 1)
 
-unfoldable pub allOf : ℕ → (ℕ → Bool) → Bool
-allOf zero f = true
-allOf (suc n) f = cond (f n) (allOf n f) false
-
--- a list of classes: the k of '0 to k-1', and that none of these is missing
-unfoldable pub classCount : List ℕ → ℕ
-classCount cs = topOf mostValues (has cs)
-
-unfoldable pub noneMissing : List ℕ → Bool
-noneMissing cs = allOf (classCount cs) (has cs)
-
--- in map m the classes of variable v's last n values, from value x on, after the classes cs of those before; a missing class is told at their end
-unfoldable pub classes : ℕ → ℕ → (List ℕ → Part) → ℕ → ℕ → List ℕ → Part
-classes m v p zero x cs t l T k = (demand (noneMissing cs) ClassMissing ▸ p cs) t l T k
-classes m v p (suc n) x cs t l T k =
-    numeral
-    0
-    (domAt (T .facts) v)
-    (λ c. keep (putFact (classPlace m v x) c) ▸ parted n comma ▸ classes m v p n (x + 1) (c ∷ cs))
-    t
-    l
-    T
-    k
-
--- in map m the classes of the last n variables, from v on, with the abstract states of those before; too many states are told at the end
-unfoldable pub variables : ℕ → ℕ → ℕ → ℕ → Part
-variables m zero v states t l T k = demand (leb states mostStates) TooManyStates t l T k
-variables m (suc n) v states t l T k =
-    classes m v (λ cs. parted n slash ▸ variables m n (v + 1) (states * classCount cs)) (domAt (T .facts) v) 0 [] t l T k
+-- a map: its variables' classes; at their end not too many abstract states
+unfoldable pub mapClasses : ℕ → Part
+mapClasses m =
+    ask (λ T. classLists m (T .counts .vars) 0)
+    ▸ ask (λ T. demand (leb (abstractStates (sasOf T) (view (taskOf T) m)) mostStates) TooManyStates)
 
 -- maps=, and one map= for each
 unfoldable pub mapsLine : Part
-mapsLine = line "maps=" (numeral 1 (mostMaps + 1) (λ n. keep (λ T. withCounts (T .counts .vars) (T .counts .ops) n T)))
+mapsLine = textLine "maps=" (numeral 1 (mostMaps + 1) (λ n. keep (λ T. withCounts (T .counts .vars) (T .counts .ops) n T)))
 
 unfoldable pub mapLines : Part
-mapLines = ask (λ T. lines (λ m. line "map=" (variables m (T .counts .vars) 0 1)) (T .counts .maps) 0)
+mapLines = ask (λ T. textLines (λ m. textLine "map=" (mapClasses m)) (T .counts .maps) 0)
 
 -- a map's shares, one number an operator; - exactly if there are no operators
 unfoldable pub amounts : ℕ → ℕ → Part
 amounts m zero t l T k = lit (dash ∷ []) t l T k
-amounts m (suc n) t l T k = row 0 (λ o U. mostCost + 1) (λ o v. putShare (sharePlace m o) v) (suc n) 0 t l T k
+amounts m (suc n) t l T k = numberRow 0 (λ o U. mostCost + 1) (λ o v. putShare (sharePlace m o) v) (suc n) 0 t l T k
 
 unfoldable pub shareLines : Part
-shareLines = ask (λ T. lines (λ m. line "share=" (amounts m (T .counts .ops))) (T .counts .maps) 0)
+shareLines = ask (λ T. textLines (λ m. textLine "share=" (amounts m (T .counts .ops))) (T .counts .maps) 0)
 
 -- the lines of a text, in this order
 unfoldable pub taskLines : Part
@@ -263,14 +245,14 @@ taskLines =
     ▸ mapLines
     ▸ shareLines
 
--- after all else: an operator's shares total at most its cost
-unfoldable pub settled : ℕ → Tables → Verdict
-settled zero T = accepted T
-settled (suc l) T = refused (SharesAboveCost (suc l))
+-- after all else: no operator's shares total more than its cost
+unfoldable pub settled : Found → Tables → Verdict
+settled Clean T = accepted T
+settled (Fault r) T = refused r
 
 -- after the last line nothing stands
 unfoldable pub theEnd : Rest
-theEnd [] l T = settled (overLine (costAt (T .costs)) (shareAt (T .shares)) (T .counts .maps) (T .counts .ops) 0) T
+theEnd [] l T = settled (each (splitFault (taskOf T)) (T .counts .ops) 0) T
 theEnd (b ∷ t) l T = refused (OffForm l)
 
 -- tables with nothing in them yet

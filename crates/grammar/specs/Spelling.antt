@@ -21,14 +21,14 @@ use Rattle.tables.specs.Layout.{
   sharePlace,
 }
 use Rattle.tables.specs.Task.{taskOf}
-use Rattle.grammar.specs.Fields.{bytes, lineEnd, comma, dash, slash, colon, semicolon}
+use Rattle.grammar.specs.Fields.{zeroDigit, bytesOf, lineEnd, comma, dash, slash, colon, semicolon}
 
 -- ---- THE TEXT
 
 -- the last digits of v, at most n of them
 unfoldable pub lastDigits : ℕ → ℕ → List ℕ
 lastDigits zero v = []
-lastDigits (suc n) v = cond (ltb v 10) ((48 + v) ∷ []) (lastDigits n (v / 10) ++ ((48 + v % 10) ∷ []))
+lastDigits (suc n) v = cond (ltb v 10) ((zeroDigit + v) ∷ []) (lastDigits n (v / 10) ++ ((zeroDigit + v % 10) ∷ []))
 
 -- a number in decimal, without a leading zero
 unfoldable pub digits : ℕ → List ℕ
@@ -53,27 +53,27 @@ unfoldable pub fact : ℕ → ℕ → List ℕ
 fact v x = digits v ++ colon ∷ digits x
 
 -- the facts about n variables from v on, each after a comma; a place that holds 0 is no fact, k + 1 is the value k
-unfoldable pub another : ℕ → ℕ → List ℕ
-another zero v = []
-another (suc k) v = comma ∷ fact v k
+unfoldable pub anotherFact : ℕ → ℕ → List ℕ
+anotherFact zero v = []
+anotherFact (suc k) v = comma ∷ fact v k
 
 unfoldable pub moreFacts : Facts → ℕ → ℕ → List ℕ
 moreFacts F zero v = []
-moreFacts F (suc n) v = another (F v) v ++ moreFacts F n (suc v)
+moreFacts F (suc n) v = anotherFact (F v) v ++ moreFacts F n (suc v)
 
 -- the first fact about v, with those that follow it; or the list without it
-unfoldable pub first : ℕ → ℕ → List ℕ → List ℕ → List ℕ
-first zero v more without = without
-first (suc k) v more without = fact v k ++ more
+unfoldable pub firstFact : ℕ → ℕ → List ℕ → List ℕ → List ℕ
+firstFact zero v more without = without
+firstFact (suc k) v more without = fact v k ++ more
 
 -- a list of facts about n variables from v on, in rising order of variable: - if it is empty
 unfoldable pub someFacts : Facts → ℕ → ℕ → List ℕ
 someFacts F zero v = dash ∷ []
-someFacts F (suc n) v = first (F v) v (moreFacts F n (suc v)) (someFacts F n (suc v))
+someFacts F (suc n) v = firstFact (F v) v (moreFacts F n (suc v)) (someFacts F n (suc v))
 
 -- a line
 unfoldable pub keyed : String → List ℕ → List ℕ
-keyed key xs = bytes key ++ xs ++ lineEnd ∷ []
+keyed key xs = bytesOf key ++ xs ++ lineEnd ∷ []
 
 -- n lines, from the i-th on
 unfoldable pub stacked : (ℕ → List ℕ) → ℕ → ℕ → List ℕ
@@ -96,10 +96,10 @@ unfoldable pub shareText : (ℕ → ℕ) → ℕ → List ℕ
 shareText share zero = dash ∷ []
 shareText share (suc n) = numbers share (suc n)
 
--- the lines in their order
-unfoldable pub spelled : Task → List ℕ
-spelled T =
-    keyed "edition=" (digits 1)
+-- the lines in their order, with e as the edition
+unfoldable pub spelled : ℕ → Task → List ℕ
+spelled e T =
+    keyed "edition=" (digits e)
     ++ keyed "vars=" (digits (T .sas .vars))
     ++ keyed "dom=" (numbers (T .sas .dom) (T .sas .vars))
     ++ keyed "init=" (numbers (T .sas .init) (T .sas .vars))
@@ -111,8 +111,8 @@ spelled T =
     ++ stacked (λ m. keyed "share=" (shareText (T .share m) (T .sas .ops))) (T .maps) 0
 
 -- the text that spells a task's tables, whatever stands in them
-abbrev pub textOf : Tables → List ℕ
-textOf t = spelled (taskOf t)
+abbrev pub textOf : ℕ → Tables → List ℕ
+textOf e t = spelled e (taskOf t)
 
 -- ---- THE TABLES
 

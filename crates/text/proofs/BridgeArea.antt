@@ -1,17 +1,23 @@
 -- The work area against the grammar's tables: a fact, a cost and a share stored in the area are stored in the tables that it stands for. Assumes nothing.
 use Prim.Native.Nat.{ℕ, zero, suc, _+_, _*_, _/_, _%_, _≤_, _<_, min}
 use native.Mathlib.Omega.{arith}
-use mathlib.Core.Path.{_≡_, refl, sym, ap, _∙_}
+use mathlib.Core.Path.{_≡_, refl, sym, ap, ap₂, _∙_}
 use native.Mathlib.Nat.{zero-add}
 use mathlib.Core.List.{List}
 use lib.ListN.{length, getD, set, take, length-set}
 use lib.Seq.{getD-set-same, getD-set-other, take-set-le, take-set-lt, getD-take}
 use Rattle.tables.specs.declared.Counts.{Counts}
-use Rattle.tables.specs.Layout.{factsRoom, sharePlace, costAt, shareAt, domAt}
+use Rattle.tables.specs.Layout.{factsRoom, costsRoom, sharesRoom, sharePlace, domAt}
 use Rattle.text.specs.declared.Ctrl.{Ctrl}
-use Rattle.grammar.specs.Fields.{shareTotal, overLine}
+use Rattle.refusals.specs.declared.Refusal.the-variants.{SharesAboveCost}
+use Rattle.meaning.specs.Limits.{mostOps, mostMaps}
+use Rattle.tables.specs.Lines.{lineOfOp}
+use Rattle.tables.specs.Task.{taskOf}
+use Rattle.scan.specs.Scan.{unless, each, splitFault}
+use Rattle.grammar.proofs.SpellClasses.{sum-same, each-same}
+use lib.Dec.{leb}
 use Rattle.grammar.specs.Grammar.{putFact, putCost, putShare}
-use Rattle.text.specs.Inside.Area.{putByte, wordIn, putWord, threes, costByte, shareByte, costIn, shareIn, domIn}
+use Rattle.text.specs.Inside.Area.{costsByte, sharesByte, putByte, wordIn, putWord, threes, costByte, shareByte, costIn, shareIn, domIn}
 use Rattle.text.specs.Inside.Control.{mk}
 use Rattle.text.specs.Inside.End.{over}
 use Rattle.text.proofs.BridgeReading.{tablesOf}
@@ -135,25 +141,16 @@ pub dom-of : (n : Counts) (w : List ℕ) (v : ℕ) → v < 1624 → domAt (table
 unfolding tablesOf
 dom-of n w v h = ap (λ (i : ℕ). getD (take 1624 w) i 0) (zero-add v) ∙ getD-take 1624 w v 0 h
 
--- ---- shares above costs, in the area and in its tables
-module _ (cost cost′ : ℕ → ℕ) (share share′ : ℕ → ℕ → ℕ) (most : ℕ) (same : (o : ℕ) → o < most → cost o ≡ cost′ o) where
-  total-same : (m o : ℕ) → ((i : ℕ) → i < m → share i o ≡ share′ i o) → shareTotal share m o ≡ shareTotal share′ m o
-  unfolding shareTotal
-  total-same zero o e = refl
-  total-same (suc m) o e = rw (total-same m o (λ i h. e i (omega arith)), e m (omega arith))
-
-  over-same : (m k o : ℕ) → o + k ≤ most → ((i j : ℕ) → i < m → j < most → share i j ≡ share′ i j) → overLine cost share m k o ≡ overLine cost′ share′ m k o
-  unfolding overLine
-  over-same m zero o h e = refl
-  over-same m (suc k) o h e = rw (total-same m o (λ i g. e i o g (omega arith)), same o (omega arith), over-same m k (o + 1) (omega arith) e)
-
-pub over-of : (c : Ctrl) (w : List ℕ) (n : Counts) → c .counts .ops ≤ 64 → c .counts .maps ≤ 8
-    → over (mk c w) ≡ overLine (costAt (tablesOf n w .costs)) (shareAt (tablesOf n w .shares)) (c .counts .maps) (c .counts .ops) 0
-unfolding over tablesOf
-over-of c w n h g =
-    let e : min (c .counts .maps) 8 ≡ c .counts .maps = omega arith in
-    let q : min (c .counts .ops) 64 ≡ c .counts .ops = omega arith in
-    rw (e, q)
-    (over-same (costIn w) (costAt (threes 64 1624 w)) (shareIn w) (shareAt (threes 512 1816 w)) 64
-    (λ o a. sym (threes-get 64 1624 w o (costByte o) refl a)) (c .counts .maps) (c .counts .ops) 0 (omega arith)
-    (λ i j a b. sym (threes-get 512 1816 w (sharePlace i j) (shareByte i j) refl (omega arith))))
+-- shares above costs, in the area and in its tables
+pub over-of : (c : Ctrl) (w : List ℕ) (n : Counts) → c .counts ≡ n → n .ops ≤ mostOps → n .maps ≤ mostMaps
+    → over (mk c w) ≡ each (splitFault (taskOf (tablesOf n w))) (n .ops) 0
+unfolding over tablesOf splitFault
+over-of c w n same h g =
+    let e : min (n .maps) mostMaps ≡ n .maps = omega arith in
+    let q : min (n .ops) mostOps ≡ n .ops = omega arith in
+    rw (same, e, q)
+    (each-same _ _ (n .ops) 0
+    (λ o a b.
+    ap₂ (λ (x y : ℕ). unless (leb x y) (SharesAboveCost (lineOfOp o)))
+    (sum-same _ _ (n .maps) (λ i l. sym (threes-get sharesRoom sharesByte w (sharePlace i o) (shareByte i o) refl (omega arith))))
+    (sym (threes-get costsRoom costsByte w o (costByte o) refl (omega arith)))))

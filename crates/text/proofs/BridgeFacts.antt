@@ -13,7 +13,7 @@ use Rattle.tables.specs.Layout.{Tables, domAt}
 use Rattle.text.specs.declared.Ctrl.{Ctrl}
 use Rattle.text.specs.declared.Halt.the-variants.{Going, Order}
 use Rattle.grammar.specs.Fields.{isDigit, comma, dash, colon}
-use Rattle.grammar.specs.Grammar.{Verdict, refused, Rest, Part, _▸_, nothing, ask, keep, demand, lit, choice, fits, numeral, putFact, facts, factList}
+use Rattle.grammar.specs.Grammar.{Verdict, refused, Rest, Part, _▸_, nothing, ask, keep, demand, lit, choice, fits, numeral, putFact, factsFrom, factList}
 use Rattle.text.specs.Inside.Area.{putByte, domIn}
 use Rattle.text.specs.Inside.Control.{mk, up, partBegun, withDigit, dashed}
 use Rattle.text.specs.Inside.Fields.{leasts, limit, countsWith, seenWith, noted, fault, stored}
@@ -75,10 +75,10 @@ module _ (l f g r : ℕ) (n : Counts) (place : ℕ → ℕ) (x : ℕ) (d : Ctrl)
       faulty (num l f 0 m 0 r 0 1 n) w z v Order (NotRising l) (L .var15) y o (fault-plain (num l f 0 m 0 r 0 1 n) w z v y (L .var13) s ∙ rw (lt-leb m v h)) refl refl
 
   module _ (N v : ℕ) (hv : v < n .vars)
-      (rest : (w : List ℕ) → Known (n .vars) w → (t : List ℕ) → Bytes t → reading (num l f 0 (v + 1) 0 r 0 1 n) w t ≡ facts place N (v + 1) t l (tablesOf n w) ends) where
+      (rest : (w : List ℕ) → Known (n .vars) w → (t : List ℕ) → Bytes t → reading (num l f 0 (v + 1) 0 r 0 1 n) w t ≡ factsFrom place N (v + 1) t l (tablesOf n w) ends) where
     -- after a value: a comma means one more fact, anything else ends the list
     more-or-end : (z y : ℕ) (w u : List ℕ) → Known (n .vars) w → (z ≡ 0 → ⊥) → Stop u → Bytes u → y < 8 → fault (withDigit (num l g v 0 0 r 0 1 n) z y) w ≡ Going
-        → reading (withDigit (num l g v 0 0 r 0 1 n) z y) w u ≡ choice comma (facts place N (v + 1)) nothing u l (tablesOf n (putByte w (place v) (up y))) ends
+        → reading (withDigit (num l g v 0 0 r 0 1 n) z y) w u ≡ choice comma (factsFrom place N (v + 1)) nothing u l (tablesOf n (putByte w (place v) (up y))) ends
     unfolding choice nothing lit ends noted withDigit seenWith countsWith
     more-or-end z y w u p q nil a h e = sound-end (num l g v 0 0 r 0 1 n) w z y (L .val15) e
     more-or-end z y w u p q (other {b = b} {t = t} o) (byte b₁ a) h e = move ∙ split (eqb b comma) refl
@@ -98,7 +98,7 @@ module _ (l f g r : ℕ) (n : Counts) (place : ℕ → ℕ) (x : ℕ) (d : Ctrl)
 
         split : (s : Bool) → eqb b comma ≡ s
             → reading (cond (eqb b comma) (num l f 0 (up v) 0 r 0 1 n) (mark (noted (withDigit (num l g v 0 0 r 0 1 n) z y)) b x d)) w₁ t
-            ≡ cond {A = List ℕ → Verdict} (eqb b comma) (λ u₁. facts place N (v + 1) u₁ l (tablesOf n w₁) ends) (λ u₁. lit (x ∷ []) (b ∷ u₁) l (tablesOf n w₁) k) t
+            ≡ cond {A = List ℕ → Verdict} (eqb b comma) (λ u₁. factsFrom place N (v + 1) u₁ l (tablesOf n w₁) ends) (λ u₁. lit (x ∷ []) (b ∷ u₁) l (tablesOf n w₁) k) t
         split true j =
             rw j
             (ap (λ (m : ℕ). reading (num l f 0 m 0 r 0 1 n) w₁ t) (let i = sized .high in let e₁ : up v ≡ v + 1 = omega arith in e₁) ∙ rest w₁ known t a)
@@ -106,7 +106,7 @@ module _ (l f g r : ℕ) (n : Counts) (place : ℕ → ℕ) (x : ℕ) (d : Ctrl)
 
     value-ok : (w : List ℕ) → Known (n .vars) w → (t : List ℕ) → Bytes t
         → reading (num l g v 0 0 r 0 1 n) w t
-        ≡ numeral 0 (domAt (tablesOf n w .facts) v) (λ y. keep (putFact (place v) (y + 1)) ▸ choice comma (facts place N (v + 1)) nothing) t l (tablesOf n w) ends
+        ≡ numeral 0 (domAt (tablesOf n w .facts) v) (λ y. keep (putFact (place v) (y + 1)) ▸ choice comma (factsFrom place N (v + 1)) nothing) t l (tablesOf n w) ends
     unfolding keep _▸_ withDigit
     value-ok w p t a =
         let j = sized .high in
@@ -118,17 +118,17 @@ module _ (l f g r : ℕ) (n : Counts) (place : ℕ → ℕ) (x : ℕ) (d : Ctrl)
         let e₁ : up y ≡ y + 1 = omega arith in
         let m = L .room v (omega arith) in
         more-or-end z y w u p q o b h (no-fault (num l g v 0 0 r 0 1 n) w z y q (L .val13) s zero-le)
-        ∙ ap (λ (T : Tables). choice comma (facts place N (v + 1)) nothing u l T ends)
+        ∙ ap (λ (T : Tables). choice comma (factsFrom place N (v + 1)) nothing u l T ends)
         (ap (λ (i₁ : ℕ). tablesOf n (putByte w (place v) i₁)) e₁ ∙ fact-kept n w (p .long) (place v) (y + 1) (m .1) (omega arith)))
         t a (L .val-bare v t)
 
   -- a variable: its order, its colon, its value
   variable-ok : (N m : ℕ) (w : List ℕ) → Known (n .vars) w
-      → ((v : ℕ) → m ≤ v → (w₁ : List ℕ) → Known (n .vars) w₁ → (t : List ℕ) → Bytes t → reading (num l f 0 (v + 1) 0 r 0 1 n) w₁ t ≡ facts place N (v + 1) t l (tablesOf n w₁) ends)
+      → ((v : ℕ) → m ≤ v → (w₁ : List ℕ) → Known (n .vars) w₁ → (t : List ℕ) → Bytes t → reading (num l f 0 (v + 1) 0 r 0 1 n) w₁ t ≡ factsFrom place N (v + 1) t l (tablesOf n w₁) ends)
       → (z v : ℕ) (u : List ℕ) → (z ≡ 0 → ⊥) → Stop u → Bytes u → fits v (getD leasts f 0) (limit (num l f 0 m 0 r 0 1 n) w) ≡ true → v < n .vars
       → (j : Bool) → leb m v ≡ j
       → reading (withDigit (num l f 0 m 0 r 0 1 n) z v) w u
-      ≡ demand (leb m v) NotRising u l (tablesOf n w) (λ u₁ l₁ T. lit (colon ∷ []) u₁ l₁ T (λ u₂ l₂ T₂. numeral 0 (domAt (tablesOf n w .facts) v) (λ y. keep (putFact (place v) (y + 1)) ▸ choice comma (facts place N (v + 1)) nothing) u₂ l₂ T₂ ends))
+      ≡ demand (leb m v) NotRising u l (tablesOf n w) (λ u₁ l₁ T. lit (colon ∷ []) u₁ l₁ T (λ u₂ l₂ T₂. numeral 0 (domAt (tablesOf n w .facts) v) (λ y. keep (putFact (place v) (y + 1)) ▸ choice comma (factsFrom place N (v + 1)) nothing) u₂ l₂ T₂ ends))
   unfolding demand
   variable-ok N m w p again z v u y o b s i true j =
       rw j
@@ -138,8 +138,8 @@ module _ (l f g r : ℕ) (n : Counts) (place : ℕ → ℕ) (x : ℕ) (d : Ctrl)
   variable-ok N m w p again z v u y o b s i false j = rw j (rising m z v w u y o s (leb-false m v j))
 
   facts-ok : (N m : ℕ) → n .vars ≤ N + m → (w : List ℕ) → Known (n .vars) w → (t : List ℕ) → Bytes t → beginsDash (num l f 0 m 0 r 0 1 n) t ≡ false
-      → reading (num l f 0 m 0 r 0 1 n) w t ≡ facts place N m t l (tablesOf n w) ends
-  unfolding facts demand tablesOf withDigit _▸_
+      → reading (num l f 0 m 0 r 0 1 n) w t ≡ factsFrom place N m t l (tablesOf n w) ends
+  unfolding factsFrom demand tablesOf withDigit _▸_
   facts-ok zero m h w p t a e =
       number-at (num l f 0 m 0 r 0 1 n) w 0 (n .vars) (L .var-least) (L .var-limit m w) (L .var15) (omega arith) (let y = sized .high in omega arith) _ (tablesOf n w) ends
       (λ z v u y o b s q. let j = within-both v 0 (n .vars) q in rising m z v w u y o s (omega arith)) t a e
@@ -170,7 +170,7 @@ module _ (l f g r : ℕ) (n : Counts) (place : ℕ → ℕ) (x : ℕ) (d : Ctrl)
     where
       split : (q : Bool) → eqb b dash ≡ q
           → reading (num l f 0 0 0 r 0 1 n) w (b ∷ t)
-          ≡ cond {A = List ℕ → Verdict} (eqb b dash) (λ u. ends u l (tablesOf n w)) (λ u. facts place (n .vars) 0 (b ∷ u) l (tablesOf n w) ends) t
+          ≡ cond {A = List ℕ → Verdict} (eqb b dash) (λ u. ends u l (tablesOf n w)) (λ u. factsFrom place (n .vars) 0 (b ∷ u) l (tablesOf n w) ends) t
       split true q =
           rw (eqb-true b dash q) (moves (num l f 0 0 0 r 0 1 n) (dashed (num l f 0 0 0 r 0 1 n)) w w dash t (dash-step w) ∙ dash-ok w t p a)
       split false q = rw q (facts-ok (n .vars) 0 (omega arith) w p (b ∷ t) (byte h a) (L .var-dash b ∙ q))

@@ -11,7 +11,7 @@ use borrow.Author.Tests.{eq-eqb, ne-eqb}
 use Rattle.tables.specs.declared.Counts.{Counts}
 use Rattle.tables.specs.Layout.{Tables, domPlace, initPlace, domAt}
 use Rattle.text.specs.declared.Ctrl.{Ctrl}
-use Rattle.grammar.specs.Fields.{comma, lineEnd, bytes}
+use Rattle.grammar.specs.Fields.{comma, lineEnd, bytesOf}
 use Rattle.grammar.specs.Grammar.{
   Rest,
   _▸_,
@@ -21,9 +21,9 @@ use Rattle.grammar.specs.Grammar.{
   lit,
   fits,
   numeral,
-  row,
+  numberRow,
   endOfLine,
-  line,
+  textLine,
   withCounts,
   putFact,
   editionLine,
@@ -70,11 +70,11 @@ module _ (l f : ℕ) (n : Counts) (w : List ℕ) (h : f ≡ 15 → ⊥) (c : f �
 -- edition=
 pub edition-ok : (n : Counts) (w : List ℕ) (k : Rest) → ((t : List ℕ) → Bytes t → reading (kw 2 1 0 n 0) w t ≡ k t 2 (tablesOf n w))
     → (t : List ℕ) → Bytes t → reading (kw 1 0 0 n 0) w t ≡ editionLine t 1 (tablesOf n w) k
-unfolding editionLine line endOfLine _▸_ nothing keep opened partBegun limit stored withDigit noted afterNumber kind nextLine toLine spelled keyByte seenWith countsWith
+unfolding editionLine textLine endOfLine _▸_ nothing keep opened partBegun limit stored withDigit noted afterNumber kind nextLine toLine spelled keyByte seenWith countsWith
 edition-ok n w k ok =
     key-ok 1 0 0 n w (λ z. omega arith) (tablesOf n w) _
     (single-ok 1 0 n w (λ z. omega arith) (λ z. omega arith) (omega arith) (omega arith) refl (λ v T. T) k (λ v. kw 2 1 0 n 0) (λ z v. refl) (λ z v b. refl) (λ v q. ok))
-    0 (bytes "edition=") refl
+    0 (bytesOf "edition=") refl
 
 -- vars=
 abbrev pub withVars : ℕ → Counts → Counts
@@ -83,13 +83,13 @@ withVars v n = record { vars = v; ops = n .ops; maps = n .maps }
 pub vars-ok : (n : Counts) (w : List ℕ) (k : Rest)
     → ((v : ℕ) → 1 ≤ v → v ≤ 8 → (t : List ℕ) → Bytes t → reading (kw 3 2 0 (withVars v n) 0) w t ≡ k t 3 (tablesOf (withVars v n) w))
     → (t : List ℕ) → Bytes t → reading (kw 2 1 0 n 0) w t ≡ varsLine t 2 (tablesOf n w) k
-unfolding varsLine line endOfLine _▸_ keep opened partBegun limit stored withDigit noted afterNumber kind nextLine toLine spelled keyByte tablesOf seenWith countsWith
+unfolding varsLine textLine endOfLine _▸_ keep opened partBegun limit stored withDigit noted afterNumber kind nextLine toLine spelled keyByte tablesOf seenWith countsWith
 vars-ok n w k ok =
     key-ok 2 1 0 n w (λ z. omega arith) (tablesOf n w) _
     (single-ok 2 1 n w (λ z. omega arith) (λ z. omega arith) (omega arith) (omega arith) refl
     (λ v T. withCounts v (T .counts .ops) (T .counts .maps) T) k (λ v. kw 3 2 0 (withVars v n) 0) (λ z v. refl) (λ z v b. refl)
     (λ v q. let g = within-both v 1 9 q in ok v (g .0) (omega arith)))
-    0 (bytes "vars=") refl
+    0 (bytesOf "vars=") refl
 
 -- ---- a line with a number for each variable
 data VarRow : ℕ → Type 0 where
@@ -113,7 +113,7 @@ module _ (l z v b i : ℕ) (n : Counts) (w : List ℕ) (g : n .vars ≤ 8) where
 pub dom-ok : (n : Counts) → Fits n → (w : List ℕ) → Known 0 w → (k : Rest)
     → ((u : List ℕ) → Known (n .vars) u → (t : List ℕ) → Bytes t → reading (kw 4 3 0 n 0) u t ≡ k t 4 (tablesOf n u))
     → (t : List ℕ) → Bytes t → reading (kw 3 2 0 n 0) w t ≡ domLine t 3 (tablesOf n w) k
-unfolding domLine line endOfLine _▸_ ask opened partBegun limit stored withDigit kind spelled keyByte tablesOf
+unfolding domLine textLine endOfLine _▸_ ask opened partBegun limit stored withDigit kind spelled keyByte tablesOf
 dom-ok n sized w g k ok =
     let one : suc (n .vars - 1) ≡ n .vars = let y = sized .low in omega arith in
     key-ok 3 2 0 n w (λ z. omega arith) (tablesOf n w) _
@@ -130,14 +130,14 @@ dom-ok n sized w g k ok =
     then-mark (num 3 2 i 0 0 0 0 1 n) u z v lineEnd (kw 4 3 0 n 0) _ (λ u₁ m₁ U₁. k u₁ (m₁ + 1) U₁) (λ q. omega arith) x e
     (λ b. vars-last 3 z v b i n u (sized .high) domRow y) (ok _ (rw y at p)) o a₁)
     (n .vars - 1) 0 (omega arith) w g t a
-    ∙ ap (λ (m : ℕ). row 1 (λ i U. 9) (λ i v. putFact (domPlace i) v) m 0 t 3 (tablesOf n w) (eol k)) one)
-    0 (bytes "dom=") refl
+    ∙ ap (λ (m : ℕ). numberRow 1 (λ i U. 9) (λ i v. putFact (domPlace i) v) m 0 t 3 (tablesOf n w) (eol k)) one)
+    0 (bytesOf "dom=") refl
 
 -- init=
 pub init-ok : (n : Counts) → Fits n → (w : List ℕ) → Known (n .vars) w → (k : Rest)
     → ((u : List ℕ) → Known (n .vars) u → (t : List ℕ) → Bytes t → reading (kw 5 4 0 n 0) u t ≡ k t 5 (tablesOf n u))
     → (t : List ℕ) → Bytes t → reading (kw 4 3 0 n 0) w t ≡ initLine t 4 (tablesOf n w) k
-unfolding initLine line endOfLine _▸_ ask opened partBegun limit stored withDigit kind spelled keyByte tablesOf
+unfolding initLine textLine endOfLine _▸_ ask opened partBegun limit stored withDigit kind spelled keyByte tablesOf
 init-ok n sized w g k ok =
     let one : suc (n .vars - 1) ≡ n .vars = let y = sized .low in omega arith in
     key-ok 4 3 0 n w (λ z. omega arith) (tablesOf n w) _
@@ -161,5 +161,5 @@ init-ok n sized w g k ok =
     then-mark (num 4 3 i 0 0 0 0 1 n) u z v lineEnd (kw 5 4 0 n 0) _ (λ u₁ m₁ U₁. k u₁ (m₁ + 1) U₁) (λ q. omega arith) x e
     (λ b. vars-last 4 z v b i n u (sized .high) initRow y) (ok _ p) o a₁)
     (n .vars - 1) 0 (omega arith) w g t a
-    ∙ ap (λ (m : ℕ). row 0 (λ i U. domAt (U .facts) i) (λ i v. putFact (initPlace i) v) m 0 t 4 (tablesOf n w) (eol k)) one)
-    0 (bytes "init=") refl
+    ∙ ap (λ (m : ℕ). numberRow 0 (λ i U. domAt (U .facts) i) (λ i v. putFact (initPlace i) v) m 0 t 4 (tablesOf n w) (eol k)) one)
+    0 (bytesOf "init=") refl

@@ -13,13 +13,13 @@ use Rattle.tables.specs.Layout.{Tables}
 use Rattle.text.specs.declared.Ctrl.{Ctrl}
 use Rattle.text.specs.declared.Halt.{Halt}
 use Rattle.text.specs.declared.Halt.the-variants.{Going, Form, Range}
-use Rattle.scan.specs.declared.Found.the-variants.{Clean, Fault}
+use Rattle.scan.specs.declared.Found.the-variants.{Fault}
 use Rattle.grammar.specs.Fields.{isDigit}
-use Rattle.grammar.specs.Grammar.{Verdict, refused, Rest, Part, _▸_, demand, runLen, value, formed, fits, numeral}
+use Rattle.grammar.specs.Grammar.{Verdict, refused, settled, Rest, Part, _▸_, demand, runLen, decimal, formed, fits, numeral}
 use Rattle.text.specs.Inside.Control.{mk, runZero, runOn, going, stopped, withDigit}
 use Rattle.text.specs.Inside.Fields.{leasts, limit, inRange, numberFault, noted, fault, stored}
 use Rattle.text.specs.Inside.Steps.{more, runWith, digitRead, afterNumber, closed, dashHere, atNumber, live, byteRead, feed}
-use Rattle.text.specs.Inside.End.{ended, refusalOf, endFault}
+use Rattle.text.specs.Inside.End.{ended, refusalOf, endFault, lastFault}
 use Rattle.grammar.proofs.Runs.{
   within-both,
   digit-both,
@@ -39,19 +39,19 @@ use Rattle.grammar.proofs.Runs.{
 use Rattle.text.proofs.BridgeReading.{told, reading, Bytes, byte, bytes-drop, stops, off-form, moves, cut-short}
 
 -- ---- a run's value, capped
-value-min : (t : List ℕ) (v : ℕ) → min (value (min v 4294967295) t) 4294967295 ≡ min (value v t) 4294967295
-unfolding value
+value-min : (t : List ℕ) (v : ℕ) → min (decimal (min v 4294967295) t) 4294967295 ≡ min (decimal v t) 4294967295
+unfolding decimal
 value-min [] v = omega arith
 value-min (b ∷ t) v =
     sym (value-min t (10 * min v 4294967295 + (b - 48)))
-    ∙ ap (λ (x : ℕ). min (value x t) 4294967295) (omega arith)
+    ∙ ap (λ (x : ℕ). min (decimal x t) 4294967295) (omega arith)
     ∙ value-min t (10 * v + (b - 48))
 
 more-low : (v d : ℕ) → more v d ≤ 4294967295
 unfolding more
 more-low v d = omega arith
 
-more-value : (v d : ℕ) (t : List ℕ) → min (value (more v d) t) 4294967295 ≡ min (value (10 * v + d) t) 4294967295
+more-value : (v d : ℕ) (t : List ℕ) → min (decimal (more v d) t) 4294967295 ≡ min (decimal (10 * v + d) t) 4294967295
 unfolding more
 more-value v d t = value-min t (10 * v + d)
 
@@ -97,23 +97,23 @@ module _ (lo lim : ℕ) (p : ℕ → Part) (l : ℕ) (T : Tables) (k : Rest) whe
   unfolding numeral demand _▸_
   number-off t e = simp e
 
-  number-in : (t : List ℕ) → formed t ≡ true → numeral lo lim p t l T k ≡ ranged (value 0 (take (runLen t) t)) (drop (runLen t) t)
+  number-in : (t : List ℕ) → formed t ≡ true → numeral lo lim p t l T k ≡ ranged (decimal 0 (take (runLen t) t)) (drop (runLen t) t)
   unfolding numeral demand _▸_ ranged
   number-in t e = simp e
 
-  number-run : (n : ℕ) (t : List ℕ) → formed t ≡ true → runLen t ≡ n → numeral lo lim p t l T k ≡ ranged (value 0 (take n t)) (drop n t)
-  number-run n t e r = number-in t e ∙ ap (λ (m : ℕ). ranged (value 0 (take m t)) (drop m t)) r
+  number-run : (n : ℕ) (t : List ℕ) → formed t ≡ true → runLen t ≡ n → numeral lo lim p t l T k ≡ ranged (decimal 0 (take n t)) (drop n t)
+  number-run n t e r = number-in t e ∙ ap (λ (m : ℕ). ranged (decimal 0 (take m t)) (drop m t)) r
 
   -- a lone zero, and any other run
   number-zero : (b : ℕ) (t : List ℕ) → isDigit b ≡ true → b ≡ 48 → Stop t → numeral lo lim p (b ∷ t) l T k ≡ ranged 0 t
-  unfolding value
+  unfolding decimal
   number-zero b t q z o =
       number-run 1 (b ∷ t) (formed-zero b t q z (stop-none o)) (run-hit b t q ∙ ap suc (stop-none o))
       ∙ ap (λ (v : ℕ). ranged v t) (let e : 10 * 0 + (b - 48) ≡ 0 = omega arith in e)
 
   number-other : (b : ℕ) (t : List ℕ) → isDigit b ≡ true → (b ≡ 48 → ⊥)
-      → numeral lo lim p (b ∷ t) l T k ≡ ranged (value (10 * 0 + (b - 48)) (take (runLen t) t)) (drop (runLen t) t)
-  unfolding value
+      → numeral lo lim p (b ∷ t) l T k ≡ ranged (decimal (10 * 0 + (b - 48)) (take (runLen t) t)) (drop (runLen t) t)
+  unfolding decimal
   number-other b t q z = number-run (suc (runLen t)) (b ∷ t) (formed-other b t q z) (run-hit b t q)
 
 -- ---- the machine at a number; c says which number it is
@@ -141,14 +141,14 @@ module _ (c : Ctrl) (w : List ℕ) where
 
   -- the digits of a run after one that is no leading zero
   run-on : (t : List ℕ) (v : ℕ) → v ≤ 4294967295
-      → reading (withDigit c 2 v) w t ≡ reading (withDigit c 2 (min (value v (take (runLen t) t)) 4294967295)) w (drop (runLen t) t)
-  unfolding value runLen
+      → reading (withDigit c 2 v) w t ≡ reading (withDigit c 2 (min (decimal v (take (runLen t) t)) 4294967295)) w (drop (runLen t) t)
+  unfolding decimal runLen
   run-on [] v h = ap (λ (x : ℕ). reading (withDigit c 2 x) w []) (omega arith)
   run-on (b ∷ t) v h = split (isDigit b) refl (run-on t (more v (b - 48)) (more-low v (b - 48)))
     where
       split : (q : Bool) → isDigit b ≡ q
-          → reading (withDigit c 2 (more v (b - 48))) w t ≡ reading (withDigit c 2 (min (value (more v (b - 48)) (take (runLen t) t)) 4294967295)) w (drop (runLen t) t)
-          → reading (withDigit c 2 v) w (b ∷ t) ≡ reading (withDigit c 2 (min (value v (take (runLen (b ∷ t)) (b ∷ t))) 4294967295)) w (drop (runLen (b ∷ t)) (b ∷ t))
+          → reading (withDigit c 2 (more v (b - 48))) w t ≡ reading (withDigit c 2 (min (decimal (more v (b - 48)) (take (runLen t) t)) 4294967295)) w (drop (runLen t) t)
+          → reading (withDigit c 2 v) w (b ∷ t) ≡ reading (withDigit c 2 (min (decimal v (take (runLen (b ∷ t)) (b ∷ t))) 4294967295)) w (drop (runLen (b ∷ t)) (b ∷ t))
       split true q r = rw (run-hit b t q) (moves _ _ w w b t (digit-step 2 v b q (λ z. omega arith))
           ∙ ap (λ (x : ℕ). reading (withDigit c x (more v (b - 48))) w t) (run-two 2 (b - 48) (λ z. omega arith))
           ∙ r
@@ -167,14 +167,14 @@ module _ (c : Ctrl) (w : List ℕ) where
   -- a run with a fault of its own
   pub faulty : (r v : ℕ) (k : Halt) (f : Refusal) {t : List ℕ} → (c .spot .field ≡ 15 → ⊥) → (r ≡ 0 → ⊥) → Stop t → fault (withDigit c r v) w ≡ k → going k ≡ false
       → refusalOf k (c .line) ≡ Fault f → reading (withDigit c r v) w t ≡ refused f
-  unfolding reading told feed endFault ended withDigit closed
+  unfolding reading told feed lastFault endFault ended settled withDigit closed
   faulty r v k f h z nil e n q = simp (ne-eqb (c .spot .field) 15 h, e, n, q)
   faulty r v k f h z (other {b = b} {t = t} o) e n q =
       moves (withDigit c r v) (stopped (withDigit c r v) k) w w b t (closes r v b z o ∙ simp (e, n)) ∙ stops (withDigit c r v) k f w t n q
 
   -- a run without a fault: the text must go on, and the byte is judged by `after`
   pub sound-end : (r v : ℕ) → (c .spot .field ≡ 15 → ⊥) → fault (withDigit c r v) w ≡ Going → reading (withDigit c r v) w [] ≡ refused (OffForm (c .line))
-  unfolding reading told feed endFault ended withDigit
+  unfolding reading told feed lastFault endFault ended settled withDigit
   sound-end r v h e = simp (ne-eqb (c .spot .field) 15 h, e)
 
   pub sound-byte : (r v b : ℕ) (t : List ℕ) → (r ≡ 0 → ⊥) → isDigit b ≡ false → fault (withDigit c r v) w ≡ Going
@@ -249,7 +249,7 @@ module _ (c : Ctrl) (w : List ℕ) (h : c .spot .field ≡ 15 → ⊥) (low : ge
           ∙ ap (λ (x : ℕ). reading (withDigit c x (more 0 (b - 48))) w t) (run-two 0 (b - 48) (λ o. z (omega arith)))
           ∙ run-on c w t (more 0 (b - 48)) (more-low 0 (b - 48))
           ∙ ap (λ (x : ℕ). reading (withDigit c 2 x) w (drop (runLen t) t)) (more-value 0 (b - 48) (take (runLen t) t))
-          ∙ closing 2 (value (10 * 0 + (b - 48)) (take (runLen t) t)) (drop (runLen t) t) (λ o. omega arith) (stop-run t) (bytes-drop (runLen t) a)
+          ∙ closing 2 (decimal (10 * 0 + (b - 48)) (take (runLen t) t)) (drop (runLen t) t) (λ o. omega arith) (stop-run t) (bytes-drop (runLen t) a)
           ∙ sym (number-other lo (limit c w) p (c .line) T k b t q z)
 
       split : (q : Bool) → isDigit b ≡ q → reading (withDigit c 0 0) w (b ∷ t) ≡ numeral lo (limit c w) p (b ∷ t) (c .line) T k

@@ -9,7 +9,7 @@ use borrow.Author.Tests.{eq-eqb, ne-eqb, lt-ltb, le-ltb}
 use Rattle.tables.specs.declared.Counts.{Counts}
 use Rattle.tables.specs.Layout.{Tables, goalPlace, prePlace, effPlace}
 use Rattle.text.specs.declared.Ctrl.{Ctrl}
-use Rattle.grammar.specs.Fields.{lineEnd, semicolon, bytes}
+use Rattle.grammar.specs.Fields.{lineEnd, semicolon, bytesOf}
 use Rattle.grammar.specs.Grammar.{
   Rest,
   Part,
@@ -18,13 +18,13 @@ use Rattle.grammar.specs.Grammar.{
   keep,
   lit,
   endOfLine,
-  line,
-  lines,
+  textLine,
+  textLines,
   withCounts,
   factList,
   goalLine,
   opsLine,
-  operator,
+  operatorFields,
   opLines,
 }
 use Rattle.text.specs.Inside.Area.{putWord, costByte}
@@ -117,11 +117,11 @@ eff-list l r n h =
 pub goal-ok : (n : Counts) → Fits n → (w : List ℕ) → Known (n .vars) w → (k : Rest)
     → ((u : List ℕ) → Known (n .vars) u → (t : List ℕ) → Bytes t → reading (kw 6 6 0 n 0) u t ≡ k t 6 (tablesOf n u))
     → (t : List ℕ) → Bytes t → reading (kw 5 4 0 n 0) w t ≡ goalLine t 5 (tablesOf n w) k
-unfolding goalLine line endOfLine _▸_ opened partBegun spelled keyByte
+unfolding goalLine textLine endOfLine _▸_ opened partBegun spelled keyByte
 goal-ok n sized w p k ok =
     key-ok 5 4 0 n w (λ z. omega arith) (tablesOf n w) _
     (list-ok 5 4 5 0 n goalPlace lineEnd (kw 6 6 0 n 0) (goal-list n) sized (λ u m U. k u (m + 1) U) ok w p)
-    0 (bytes "goal=") refl
+    0 (bytesOf "goal=") refl
 
 -- ops=
 abbrev pub withOps : ℕ → Counts → Counts
@@ -130,19 +130,19 @@ withOps v n = record { vars = n .vars; ops = v; maps = n .maps }
 pub ops-ok : (n : Counts) (w : List ℕ) (k : Rest)
     → ((v : ℕ) → v ≤ 64 → (t : List ℕ) → Bytes t → reading (kw 7 (cond (eqb v 0) 12 7) 0 (withOps v n) 0) w t ≡ k t 7 (tablesOf (withOps v n) w))
     → (t : List ℕ) → Bytes t → reading (kw 6 6 0 n 0) w t ≡ opsLine t 6 (tablesOf n w) k
-unfolding opsLine line endOfLine _▸_ keep opened partBegun limit stored withDigit noted afterNumber kind nextLine toLine spelled keyByte tablesOf seenWith countsWith
+unfolding opsLine textLine endOfLine _▸_ keep opened partBegun limit stored withDigit noted afterNumber kind nextLine toLine spelled keyByte tablesOf seenWith countsWith
 ops-ok n w k ok =
     key-ok 6 6 0 n w (λ z. omega arith) (tablesOf n w) _
     (single-ok 6 6 n w (λ z. omega arith) (λ z. omega arith) (omega arith) (omega arith) refl
     (λ v T. withCounts (T .counts .vars) v (T .counts .maps) T) k (λ v. kw 7 (cond (eqb v 0) 12 7) 0 (withOps v n) 0) (λ z v. refl) (λ z v b. refl)
     (λ v q. let g = within-both v 0 65 q in ok v (omega arith)))
-    0 (bytes "ops=") refl
+    0 (bytesOf "ops=") refl
 
 -- op=
 operator-ok : (l r : ℕ) (n : Counts) → Fits n → r < 64 → (w : List ℕ) → Known (n .vars) w → (k : Rest)
     → ((u : List ℕ) → Known (n .vars) u → (t : List ℕ) → Bytes t → reading (afterRow l 7 12 r (n .ops) n) u t ≡ k t (l + 1) (tablesOf n u))
-    → (t : List ℕ) → Bytes t → reading (kw l 7 r n 0) w t ≡ line "op=" (operator r) t l (tablesOf n w) k
-unfolding line operator endOfLine _▸_ keep opened partBegun limit stored withDigit noted afterNumber kind due spelled keyByte seenWith countsWith
+    → (t : List ℕ) → Bytes t → reading (kw l 7 r n 0) w t ≡ textLine "op=" (operatorFields r) t l (tablesOf n w) k
+unfolding textLine operatorFields endOfLine _▸_ keep opened partBegun limit stored withDigit noted afterNumber kind due spelled keyByte seenWith countsWith
 operator-ok l r n sized h w p k ok =
     key-ok l 7 r n w (λ z. omega arith) (tablesOf n w) _
     (λ t a.
@@ -159,7 +159,7 @@ operator-ok l r n sized h w p k ok =
     ∙ ap (λ (T : Tables). lit (semicolon ∷ []) u l T (λ u₁ m₁ U. factList (prePlace r) u₁ m₁ U (λ u₂ m₂ U₂. lit (semicolon ∷ []) u₂ m₂ U₂ (λ u₃ m₃ U₃. factList (effPlace r) u₃ m₃ U₃ (eol k)))))
     (cost-kept n w (p .long) r v h (omega (arith, within-both v 0 1000001 q))))
     t a (bare (num l 7 0 0 0 r 0 1 n) t refl))
-    0 (bytes "op=") refl
+    0 (bytesOf "op=") refl
 
 -- ---- lines of one kind: N rows of field f, each read by `one`, up to line E, where field g follows
 module _ (f g N E : ℕ) (n : Counts) (j : ℕ) (p : ℕ → Part) (k : Rest) (few : N ≤ 64) (low : E ≤ 999999)
@@ -179,34 +179,34 @@ module _ (f g N E : ℕ) (n : Counts) (j : ℕ) (p : ℕ → Part) (k : Rest) (f
       rw (x, y, lt-ltb (r + 1) N e)
 
   pub lines-ok : (m r l : ℕ) → r + suc m ≡ N → l + suc m ≡ E → (w : List ℕ) → Known j w → (t : List ℕ) → Bytes t
-      → reading (kw l f r n 0) w t ≡ lines p (suc m) r t l (tablesOf n w) k
-  unfolding lines _▸_
+      → reading (kw l f r n 0) w t ≡ textLines p (suc m) r t l (tablesOf n w) k
+  unfolding textLines _▸_
   lines-ok zero r l e q w h t a =
       let y : l + 1 ≡ E = omega arith in
       one l r (omega arith) w h k (λ u i t₁ a₁. rw (after-last l r (omega arith) y) (rw y (done u i t₁ a₁))) t a
   lines-ok (suc m) r l e q w h t a =
-      one l r (omega arith) w h (λ u₁ m₁ U. lines p (suc m) (r + 1) u₁ m₁ U k)
+      one l r (omega arith) w h (λ u₁ m₁ U. textLines p (suc m) (r + 1) u₁ m₁ U k)
       (λ u i t₁ a₁. rw (after-more l r (omega arith) (omega arith)) (lines-ok m (r + 1) (l + 1) (omega arith) (omega arith) u i t₁ a₁)) t a
 
 pub op-lines-ok : (n : Counts) → Fits n → (w : List ℕ) → Known (n .vars) w → (k : Rest)
     → ((u : List ℕ) → Known (n .vars) u → (t : List ℕ) → Bytes t → reading (kw (7 + n .ops) 12 0 n 0) u t ≡ k t (7 + n .ops) (tablesOf n u))
     → (t : List ℕ) → Bytes t → reading (kw 7 (cond (eqb (n .ops) 0) 12 7) 0 n 0) w t ≡ opLines t 7 (tablesOf n w) k
-unfolding opLines ask tablesOf lines
+unfolding opLines ask tablesOf textLines
 op-lines-ok n sized w p k ok t a = split (n .ops) refl
   where
     part : ℕ → Part
-    part r = line "op=" (operator r)
+    part r = textLine "op=" (operatorFields r)
 
-    split : (N : ℕ) → n .ops ≡ N → reading (kw 7 (cond (eqb (n .ops) 0) 12 7) 0 n 0) w t ≡ lines part (n .ops) 0 t 7 (tablesOf n w) k
+    split : (N : ℕ) → n .ops ≡ N → reading (kw 7 (cond (eqb (n .ops) 0) 12 7) 0 n 0) w t ≡ textLines part (n .ops) 0 t 7 (tablesOf n w) k
     split zero e =
         let f : _≡_ {A = ℕ} (cond (eqb (n .ops) 0) 12 7) 12 = rw (eq-eqb (n .ops) 0 e) in
         let y : 7 + n .ops ≡ 7 = omega arith in
         ap (λ (x : ℕ). reading (kw 7 x 0 n 0) w t) f
         ∙ (rw y at (ok w p t a))
-        ∙ sym (ap (λ (m : ℕ). lines part m 0 t 7 (tablesOf n w) k) e)
+        ∙ sym (ap (λ (m : ℕ). textLines part m 0 t 7 (tablesOf n w) k) e)
     split (suc m) e =
         let f : _≡_ {A = ℕ} (cond (eqb (n .ops) 0) 12 7) 7 = rw (ne-eqb (n .ops) 0 (λ z. omega arith)) in
         let y = sized .ops in
         ap (λ (x : ℕ). reading (kw 7 x 0 n 0) w t) f
         ∙ lines-ok 7 12 (n .ops) (7 + n .ops) n (n .vars) part k y (omega arith) (λ l r h. operator-ok l r n sized (omega arith)) ok m 0 7 (omega arith) (omega arith) w p t a
-        ∙ sym (ap (λ (x : ℕ). lines part x 0 t 7 (tablesOf n w) k) e)
+        ∙ sym (ap (λ (x : ℕ). textLines part x 0 t 7 (tablesOf n w) k) e)

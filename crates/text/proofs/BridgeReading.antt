@@ -14,14 +14,13 @@ use Rattle.tables.specs.Layout.{Tables, factsRoom, costsRoom, sharesRoom}
 use Rattle.text.specs.declared.Ctrl.{Ctrl}
 use Rattle.text.specs.declared.Halt.{Halt}
 use Rattle.text.specs.declared.Halt.the-variants.{Going, Form}
-use Rattle.scan.specs.declared.Found.{Found}
-use Rattle.scan.specs.declared.Found.the-variants.{Clean, Fault}
+use Rattle.scan.specs.declared.Found.the-variants.{Fault}
 use Rattle.grammar.specs.Grammar.{Verdict, refused, Rest, _▸_, demand, lit, settled}
 use Rattle.text.specs.Inside.Area.{costsByte, sharesByte, threes}
 use Rattle.text.specs.Inside.Control.{mk, partKey, going, up, spotAt, noDigits, firstTurn, noneSeen, stopped, partBegun, nextKey, opened, St}
 use Rattle.text.specs.Inside.Fields.{keyByte, fault}
 use Rattle.text.specs.Inside.Steps.{equals, inKey, mark, live, byteRead, feed}
-use Rattle.text.specs.Inside.End.{ended, refusalOf, endFault, over}
+use Rattle.text.specs.Inside.End.{ended, refusalOf, endFault, lastFault}
 use Rattle.grammar.proofs.Runs.{both-true}
 
 -- the tables that a work area stands for
@@ -29,12 +28,8 @@ unfoldable pub tablesOf : Counts → List ℕ → Tables
 tablesOf n w = record { counts = n; facts = take factsRoom w; costs = threes costsRoom costsByte w; shares = threes sharesRoom sharesByte w }
 
 -- what the end of the text says of a state
-abbrev pub verdictBy : Found → St → Verdict
-verdictBy Clean s = settled (over s) (tablesOf (s .ctrl .counts) (s .area))
-verdictBy (Fault r) s = refused r
-
 unfoldable pub told : St → Verdict
-told s = verdictBy (endFault s) s
+told s = settled (lastFault s) (tablesOf (s .ctrl .counts) (s .area))
 
 unfoldable pub reading : Ctrl → List ℕ → List ℕ → Verdict
 reading c w t = told (feed (mk c w) t)
@@ -63,7 +58,7 @@ unfolding byteRead stopped
 stay c k w b h = simp h
 
 pub stops : (c : Ctrl) (k : Halt) (r : Refusal) (w t : List ℕ) → going k ≡ false → refusalOf k (c .line) ≡ Fault r → reading (stopped c k) w t ≡ refused r
-unfolding reading told feed endFault ended stopped
+unfolding reading told feed lastFault endFault ended settled stopped
 stops c k r w [] h e = simp (h, e)
 stops c k r w (b ∷ t) h e = ap (λ (s : St). told (feed s t)) (stay c k w b h) ∙ stops c k r w t h e
 
@@ -77,7 +72,7 @@ moves c d w u b t e = ap (λ (s : St). told (feed s t)) e
 
 -- the text ends in a state that neither accepts nor has a number in hand
 pub cut-short : (c : Ctrl) (w : List ℕ) → c .halt ≡ Going → (c .spot .field ≡ 15 → ⊥) → c .digits .run ≡ 0 → reading c w [] ≡ refused (OffForm (c .line))
-unfolding reading told feed endFault ended fault
+unfolding reading told feed lastFault endFault ended settled fault
 cut-short c w e h r = simp (e, ne-eqb (c .spot .field) 15 h, eq-eqb (c .digits .run) 0 r)
 
 -- a mark that must stand here, and the first byte of a literal

@@ -13,7 +13,7 @@ use Rattle.text.specs.declared.Ctrl.{Ctrl}
 use Rattle.text.specs.declared.Halt.{Halt}
 use Rattle.text.specs.declared.Halt.the-variants.{Going, Order}
 use Rattle.grammar.specs.Fields.{comma}
-use Rattle.grammar.specs.Grammar.{Rest, _▸_, keep, lit, fits, numeral, parted, row}
+use Rattle.grammar.specs.Grammar.{Rest, _▸_, keep, lit, fits, numeral, parted, numberRow}
 use Rattle.text.specs.Inside.Area.{areaRoom, putByte, putWord, domIn}
 use Rattle.text.specs.Inside.Control.{partNumber, going, spotAt, noDigits, turnOf, seenOf, withDigit}
 use Rattle.text.specs.Inside.Fields.{leasts, limit, numberFault, countsWith, seenWith, noted, lastClass, before, fault, stored}
@@ -115,8 +115,8 @@ module _ (l f r : ℕ) (n : Counts) (vi it : ℕ → ℕ) (N : ℕ) (h : f ≡ 1
     → fault (withDigit (num l f (vi i) 0 (it i) r 0 1 n) z v) w ≡ Going
     → reading (withDigit (num l f (vi i) 0 (it i) r 0 1 n) z v) w u ≡ k u l (tablesOf n (stored (withDigit (num l f (vi i) 0 (it i) r 0 1 n) z v) w))) where
   pub row-ok : (m i : ℕ) → i + suc m ≡ N → (w : List ℕ) → P i w → (t : List ℕ) → Bytes t
-      → reading (num l f (vi i) 0 (it i) r 0 1 n) w t ≡ row (getD leasts f 0) lim keeps (suc m) i t l (tablesOf n w) k
-  unfolding row parted keep _▸_ withDigit
+      → reading (num l f (vi i) 0 (it i) r 0 1 n) w t ≡ numberRow (getD leasts f 0) lim keeps (suc m) i t l (tablesOf n w) k
+  unfolding numberRow parted keep _▸_ withDigit
   row-ok zero i e w p t a =
       let g : i < N = omega arith in
       let q = limits i w g p in
@@ -126,7 +126,7 @@ module _ (l f r : ℕ) (n : Counts) (vi it : ℕ → ℕ) (N : ℕ) (h : f ≡ 1
       let d = kept i z v w g p s₁ in
       last i z v w u (omega arith) y o b (d .1) (no-fault (num l f (vi i) 0 (it i) r 0 1 n) w z v y c s zero-le) ∙ ap (λ (T : Tables). k u l T) (d .0))
       t a (bare i t)
-      ∙ ap (λ (x : ℕ). numeral (getD leasts f 0) x (λ v. keep (keeps i v) ▸ parted zero comma ▸ row (getD leasts f 0) lim keeps zero (i + 1)) t l (tablesOf n w) k) (q .0)
+      ∙ ap (λ (x : ℕ). numeral (getD leasts f 0) x (λ v. keep (keeps i v) ▸ parted zero comma ▸ numberRow (getD leasts f 0) lim keeps zero (i + 1)) t l (tablesOf n w) k) (q .0)
   row-ok (suc m) i e w p t a =
       let g : i < N = omega arith in
       let q = limits i w g p in
@@ -134,9 +134,9 @@ module _ (l f r : ℕ) (n : Counts) (vi it : ℕ → ℕ) (N : ℕ) (h : f ≡ 1
       (λ z v u y o b s.
       let s₁ : fits v (getD leasts f 0) (lim i (tablesOf n w)) ≡ true = rw (q .0) at s in
       let d = kept i z v w g p s₁ in
-      then-mark (num l f (vi i) 0 (it i) r 0 1 n) w z v comma _ _ (λ u₁ m₁ U. row (getD leasts f 0) lim keeps (suc m) (i + 1) u₁ m₁ U k) h y
+      then-mark (num l f (vi i) 0 (it i) r 0 1 n) w z v comma _ _ (λ u₁ m₁ U. numberRow (getD leasts f 0) lim keeps (suc m) (i + 1) u₁ m₁ U k) h y
       (no-fault (num l f (vi i) 0 (it i) r 0 1 n) w z v y c s zero-le) (λ x. more i z v x w (omega arith))
       (λ u₁ b₁. row-ok m (i + 1) (omega arith) _ (d .1) u₁ b₁) o b
-      ∙ ap (λ (T : Tables). lit (comma ∷ []) u l T (λ u₁ m₁ U. row (getD leasts f 0) lim keeps (suc m) (i + 1) u₁ m₁ U k)) (d .0))
+      ∙ ap (λ (T : Tables). lit (comma ∷ []) u l T (λ u₁ m₁ U. numberRow (getD leasts f 0) lim keeps (suc m) (i + 1) u₁ m₁ U k)) (d .0))
       t a (bare i t)
-      ∙ ap (λ (x : ℕ). numeral (getD leasts f 0) x (λ v. keep (keeps i v) ▸ parted (suc m) comma ▸ row (getD leasts f 0) lim keeps (suc m) (i + 1)) t l (tablesOf n w) k) (q .0)
+      ∙ ap (λ (x : ℕ). numeral (getD leasts f 0) x (λ v. keep (keeps i v) ▸ parted (suc m) comma ▸ numberRow (getD leasts f 0) lim keeps (suc m) (i + 1)) t l (tablesOf n w) k) (q .0)

@@ -9,7 +9,7 @@ use borrow.Author.Tests.{eq-eqb, ne-eqb}
 use Rattle.tables.specs.declared.Counts.{Counts}
 use Rattle.tables.specs.Layout.{sharePlace}
 use Rattle.text.specs.declared.Ctrl.{Ctrl}
-use Rattle.grammar.specs.Fields.{dash, lineEnd, bytes}
+use Rattle.grammar.specs.Fields.{dash, lineEnd, bytesOf}
 use Rattle.grammar.specs.Grammar.{
   Rest,
   Part,
@@ -17,13 +17,13 @@ use Rattle.grammar.specs.Grammar.{
   ask,
   keep,
   lit,
-  row,
+  numberRow,
   endOfLine,
-  line,
-  lines,
+  textLine,
+  textLines,
   withCounts,
   putShare,
-  variables,
+  mapClasses,
   mapsLine,
   mapLines,
   amounts,
@@ -39,7 +39,7 @@ use Rattle.text.proofs.BridgeArea.{share-kept}
 use Rattle.text.proofs.BridgeRows.{num, then-mark, Fits, Known, known-put3, row-ok}
 use Rattle.text.proofs.BridgeLines.{eol, bare, single-ok}
 use Rattle.text.proofs.BridgeOps.{afterRow, lines-ok}
-use Rattle.text.proofs.BridgeMaps.{variables-ok}
+use Rattle.text.proofs.BridgeMaps.{map-classes-ok}
 
 -- maps=
 abbrev pub withMaps : ℕ → Counts → Counts
@@ -48,26 +48,22 @@ withMaps v n = record { vars = n .vars; ops = n .ops; maps = v }
 pub maps-ok : (l : ℕ) (n : Counts) (w : List ℕ) (k : Rest) → l ≤ 100
     → ((v : ℕ) → 1 ≤ v → v ≤ 8 → (t : List ℕ) → Bytes t → reading (kw (l + 1) 13 0 (withMaps v n) 0) w t ≡ k t (l + 1) (tablesOf (withMaps v n) w))
     → (t : List ℕ) → Bytes t → reading (kw l 12 0 n 0) w t ≡ mapsLine t l (tablesOf n w) k
-unfolding mapsLine line endOfLine _▸_ keep opened partBegun limit stored withDigit noted afterNumber kind nextLine toLine spelled keyByte tablesOf seenWith countsWith
+unfolding mapsLine textLine endOfLine _▸_ keep opened partBegun limit stored withDigit noted afterNumber kind nextLine toLine spelled keyByte tablesOf seenWith countsWith
 maps-ok l n w k h ok =
     let e : up l ≡ l + 1 = omega arith in
     key-ok l 12 0 n w (λ z. omega arith) (tablesOf n w) _
     (single-ok l 12 n w (λ z. omega arith) (λ z. omega arith) (omega arith) (omega arith) refl
     (λ v T. withCounts (T .counts .vars) (T .counts .ops) v T) k (λ v. kw (up l) 13 0 (withMaps v n) 0) (λ z v. refl) (λ z v b. refl)
     (λ v q t a. let g = within-both v 1 9 q in ap (λ (x : ℕ). reading (kw x 13 0 (withMaps v n) 0) w t) e ∙ ok v (g .0) (omega arith) t a))
-    0 (bytes "maps=") refl
+    0 (bytesOf "maps=") refl
 
 -- map=
 map-ok : (l r : ℕ) (n : Counts) → Fits n → r < 8 → (w : List ℕ) → Known (n .vars) w → (k : Rest)
     → ((u : List ℕ) → Known (n .vars) u → (t : List ℕ) → Bytes t → reading (afterRow l 13 14 r (n .maps) n) u t ≡ k t (l + 1) (tablesOf n u))
-    → (t : List ℕ) → Bytes t → reading (kw l 13 r n 0) w t ≡ line "map=" (variables r (n .vars) 0 1) t l (tablesOf n w) k
-unfolding line endOfLine _▸_ opened partBegun spelled keyByte
+    → (t : List ℕ) → Bytes t → reading (kw l 13 r n 0) w t ≡ textLine "map=" (mapClasses r) t l (tablesOf n w) k
+unfolding textLine endOfLine _▸_ opened partBegun spelled keyByte
 map-ok l r n sized h w g k ok =
-    let y = sized .low in
-    let e : suc (n .vars - 1) ≡ n .vars = omega arith in
-    key-ok l 13 r n w (λ z. omega arith) (tablesOf n w) _
-    (λ t a. variables-ok l r n sized h k ok (n .vars - 1) 0 1 (omega arith) w g t a ∙ ap (λ (m : ℕ). variables r m 0 1 t l (tablesOf n w) (eol k)) e)
-    0 (bytes "map=") refl
+    key-ok l 13 r n w (λ z. omega arith) (tablesOf n w) _ (map-classes-ok l r n sized h k ok w g) 0 (bytesOf "map=") refl
 
 -- as many lines of one kind as there are maps
 maps-many : (n : Counts) → Fits n → 1 ≤ n .maps → (f g l : ℕ) (p : ℕ → Part) (k : Rest) → l ≤ 100
@@ -75,19 +71,19 @@ maps-many : (n : Counts) → Fits n → 1 ≤ n .maps → (f g l : ℕ) (p : ℕ
     → ((u : List ℕ) → Known (n .vars) u → (t : List ℕ) → Bytes t → reading (afterRow l₁ f g r (n .maps) n) u t ≡ k₁ t (l₁ + 1) (tablesOf n u))
     → (t : List ℕ) → Bytes t → reading (kw l₁ f r n 0) w t ≡ p r t l₁ (tablesOf n w) k₁)
     → ((w : List ℕ) → Known (n .vars) w → (t : List ℕ) → Bytes t → reading (kw (l + n .maps) g 0 n 0) w t ≡ k t (l + n .maps) (tablesOf n w))
-    → (w : List ℕ) → Known (n .vars) w → (t : List ℕ) → Bytes t → reading (kw l f 0 n 0) w t ≡ lines p (n .maps) 0 t l (tablesOf n w) k
+    → (w : List ℕ) → Known (n .vars) w → (t : List ℕ) → Bytes t → reading (kw l f 0 n 0) w t ≡ textLines p (n .maps) 0 t l (tablesOf n w) k
 maps-many n sized low f g l p k h one done w q t a =
     let y = sized .maps in
     let e : suc (n .maps - 1) ≡ n .maps = omega arith in
     lines-ok f g (n .maps) (l + n .maps) n (n .vars) p k (omega arith) (omega arith) one done (n .maps - 1) 0 l (omega arith) (omega arith) w q t a
-    ∙ ap (λ (m : ℕ). lines p m 0 t l (tablesOf n w) k) e
+    ∙ ap (λ (m : ℕ). textLines p m 0 t l (tablesOf n w) k) e
 
 pub map-lines-ok : (l : ℕ) (n : Counts) → Fits n → 1 ≤ n .maps → l ≤ 100 → (w : List ℕ) → Known (n .vars) w → (k : Rest)
     → ((u : List ℕ) → Known (n .vars) u → (t : List ℕ) → Bytes t → reading (kw (l + n .maps) 14 0 n 0) u t ≡ k t (l + n .maps) (tablesOf n u))
     → (t : List ℕ) → Bytes t → reading (kw l 13 0 n 0) w t ≡ mapLines t l (tablesOf n w) k
 unfolding mapLines ask tablesOf
 map-lines-ok l n sized low h w g k ok =
-    maps-many n sized low 13 14 l (λ m. line "map=" (variables m (n .vars) 0 1)) k h (λ l₁ r q. map-ok l₁ r n sized (let y = sized .maps in omega arith)) ok w g
+    maps-many n sized low 13 14 l (λ m. textLine "map=" (mapClasses m)) k h (λ l₁ r q. map-ok l₁ r n sized (let y = sized .maps in omega arith)) ok w g
 
 -- ---- share=: a dash without operators, else one number an operator
 module _ (l r : ℕ) (n : Counts) (sized : Fits n) (hr : r < 8) (w : List ℕ) (g : Known (n .vars) w) (k : Rest)
@@ -110,7 +106,7 @@ module _ (l r : ℕ) (n : Counts) (sized : Fits n) (hr : r < 8) (w : List ℕ) (
       moves (part 3) (mark (part 3) b dash (part 2)) w w b t refl ∙ marked (part 3) (part 2) w b dash [] t (tablesOf n w) (eol k) (λ q. dash-end t a)
 
   row-due : (m : ℕ) → n .ops ≡ suc m → (t : List ℕ) → Bytes t
-      → reading (part 1) w t ≡ row 0 (λ o U. 1000001) (λ o v. putShare (sharePlace r o) v) (suc m) 0 t l (tablesOf n w) (eol k)
+      → reading (part 1) w t ≡ numberRow 0 (λ o U. 1000001) (λ o v. putShare (sharePlace r o) v) (suc m) 0 t l (tablesOf n w) (eol k)
   unfolding part partBegun limit stored withDigit noted afterNumber afterShare kind due nextLine rowOr toLine seenWith countsWith
   row-due m e t a =
       let f = sized .ops in
@@ -140,13 +136,13 @@ module _ (l r : ℕ) (n : Counts) (sized : Fits n) (hr : r < 8) (w : List ℕ) (
           let f : _≡_ {A = ℕ} (cond (eqb (n .ops) 0) 3 1) 1 = rw (ne-eqb (n .ops) 0 (λ z. omega arith)) in
           ap (λ (p : ℕ). reading (part p) w t) f ∙ row-due m e t a ∙ sym (ap (λ (x : ℕ). amounts r x t l (tablesOf n w) (eol k)) e)
 
-  share-ok : (t : List ℕ) → Bytes t → reading (kw l 14 r n 0) w t ≡ line "share=" (amounts r (n .ops)) t l (tablesOf n w) k
-  unfolding line endOfLine _▸_ spelled keyByte
-  share-ok = key-ok l 14 r n w (λ z. omega arith) (tablesOf n w) _ amounts-ok 0 (bytes "share=") refl
+  share-ok : (t : List ℕ) → Bytes t → reading (kw l 14 r n 0) w t ≡ textLine "share=" (amounts r (n .ops)) t l (tablesOf n w) k
+  unfolding textLine endOfLine _▸_ spelled keyByte
+  share-ok = key-ok l 14 r n w (λ z. omega arith) (tablesOf n w) _ amounts-ok 0 (bytesOf "share=") refl
 
 pub share-lines-ok : (l : ℕ) (n : Counts) → Fits n → 1 ≤ n .maps → l ≤ 100 → (w : List ℕ) → Known (n .vars) w → (k : Rest)
     → ((u : List ℕ) → Known (n .vars) u → (t : List ℕ) → Bytes t → reading (kw (l + n .maps) 15 0 n 0) u t ≡ k t (l + n .maps) (tablesOf n u))
     → (t : List ℕ) → Bytes t → reading (kw l 14 0 n 0) w t ≡ shareLines t l (tablesOf n w) k
 unfolding shareLines ask tablesOf
 share-lines-ok l n sized low h w g k ok =
-    maps-many n sized low 14 15 l (λ m. line "share=" (amounts m (n .ops))) k h (λ l₁ r q. share-ok l₁ r n sized (let y = sized .maps in omega arith)) ok w g
+    maps-many n sized low 14 15 l (λ m. textLine "share=" (amounts m (n .ops))) k h (λ l₁ r q. share-ok l₁ r n sized (let y = sized .maps in omega arith)) ok w g

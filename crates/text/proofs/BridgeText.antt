@@ -3,9 +3,7 @@ use Prim.Native.Nat.{ℕ, zero, suc, _+_, _≤_, _<_, zero-le}
 use native.Mathlib.Omega.{arith}
 use mathlib.Core.Path.{_≡_, refl, ap, _∙_}
 use mathlib.Core.List.{List, [], _∷_}
-use mathlib.Core.Bool.{Bool, true, false}
 use lib.ListN.{length, getD, take, replicate, length-replicate}
-use lib.Dec.{eqb}
 use borrow.Author.Tests.{ne-eqb}
 use Rattle.tables.specs.declared.Counts.{Counts}
 use Rattle.scan.specs.declared.Found.{Found}
@@ -18,8 +16,8 @@ use Rattle.text.specs.Inside.Area.{areaRoom, wordIn, threes}
 use Rattle.text.specs.Inside.Control.{mk, start, stopped, St}
 use Rattle.text.specs.Inside.Fields.{keyByte}
 use Rattle.text.specs.Inside.Steps.{inKey, live, byteRead, feed}
-use Rattle.text.specs.Inside.End.{ended, endFault, over, written, answered, machineEnd, machineRead, readAll}
-use Rattle.text.proofs.BridgeReading.{tablesOf, verdictBy, told, reading, Bytes, none, byte, off-form, moves, kw}
+use Rattle.text.specs.Inside.End.{ended, endFault, lastFault, written, answered, machineEnd, machineRead, readAll}
+use Rattle.text.proofs.BridgeReading.{tablesOf, told, reading, Bytes, none, byte, off-form, moves, kw}
 use Rattle.text.proofs.BridgeArea.{over-of}
 use Rattle.text.proofs.BridgeRows.{Fits, Known}
 use Rattle.text.proofs.BridgeLines.{edition-ok, vars-ok, dom-ok, init-ok, withVars}
@@ -32,8 +30,8 @@ unfolding byteRead live inKey keyByte
 stop-end l b n w h = rw (ne-eqb b 256 (λ q. omega arith))
 
 end-ok : (l : ℕ) (n : Counts) → Fits n → (w t : List ℕ) → Bytes t → reading (kw l 15 0 n 0) w t ≡ theEnd t l (tablesOf n w)
-unfolding reading told feed endFault ended theEnd tablesOf
-end-ok l n sized w [] a = ap (λ (o : ℕ). settled o (tablesOf n w)) (over-of (kw l 15 0 n 0) w n (sized .ops) (sized .maps))
+unfolding reading told feed lastFault endFault ended theEnd tablesOf
+end-ok l n sized w [] a = ap (λ (o : Found). settled o (tablesOf n w)) (over-of (kw l 15 0 n 0) w n refl (sized .ops) (sized .maps))
 end-ok l n sized w (b ∷ t) (byte h a) = moves (kw l 15 0 n 0) (stopped (kw l 15 0 n 0) Form) w w b t (stop-end l b n w h) ∙ off-form (kw l 15 0 n 0) w t
 
 -- ---- before the first line
@@ -104,12 +102,11 @@ verdict-is text a =
 -- ---- what is left behind
 machine-end-is : (s : St) (f c h : List ℕ) → machineEnd s f c h ≡ outcome (told s) f c h
 unfolding machineEnd told outcome settled written tablesOf
-machine-end-is s f c h = split (endFault s) (over s) refl
+machine-end-is s f c h = split (lastFault s)
   where
-    split : (d : Found) (o : ℕ) → over s ≡ o → answered d s f c h ≡ outcome (verdictBy d s) f c h
-    split (Fault r) o e = refl
-    split Clean zero e = rw e
-    split Clean (suc o) e = rw (e, ne-eqb (suc o) 0 (λ z. omega arith))
+    split : (d : Found) → answered d s f c h ≡ outcome (settled d (tablesOf (s .ctrl .counts) (s .area))) f c h
+    split (Fault r) = refl
+    split Clean = refl
 
 pub read-bytes : (text f c s : List ℕ) → Bytes text → readAll text f c s ≡ readText text f c s
 unfolding readAll machineRead readText reading

@@ -8,8 +8,6 @@ use lib.Dec.{eqb}
 use mathlib.Core.List.{List, [], _∷_}
 use lib.ListN.{length, getD, drop}
 use lib.Seq.{drop-cons}
-use borrow.Author.Tests.{le-leb, lt-leb}
-use Rattle.grammar.specs.Fields.{shareTotal, overLine}
 use Rattle.text.specs.Inside.Control.{St}
 use Rattle.text.specs.Inside.Steps.{byteRead, feed}
 
@@ -31,26 +29,3 @@ feed-next s t i h = rw (add-one, drop-cons t i 0)
 -- a test of a field that is known
 pub at-field : {f g : ℕ} (k : ℕ) → f ≡ g → eqb f k ≡ eqb g k
 at-field k h = ap (λ (x : ℕ). eqb x k) h
-
--- the total of one map more
-pub total-next : (share : ℕ → ℕ → ℕ) (m o : ℕ) → shareTotal share (m + 1) o ≡ shareTotal share m o + share m o
-unfolding shareTotal
-total-next share m o = rw add-one
-
--- the walk over the operators: one that keeps to its cost is passed, one that does not is told, and at the end there is none
-module _ (cost : ℕ → ℕ) (share : ℕ → ℕ → ℕ) (maps : ℕ) where
-  one-less : (n o : ℕ) → o < n → n - o ≡ suc (n - (o + 1))
-  one-less n o h = omega arith
-
-  pub over-passed : (n o : ℕ) → o < n → shareTotal share maps o ≤ cost o
-      → overLine cost share maps (n - o) o ≡ overLine cost share maps (n - (o + 1)) (o + 1)
-  unfolding overLine
-  over-passed n o h k = rw (one-less n o h, le-leb _ _ k)
-
-  pub over-told : (n o : ℕ) → o < n → cost o < shareTotal share maps o → overLine cost share maps (n - o) o ≡ 7 + o
-  unfolding overLine
-  over-told n o h k = rw (one-less n o h, lt-leb _ _ k)
-
-  pub over-none : (n o : ℕ) → n ≤ o → overLine cost share maps (n - o) o ≡ 0
-  unfolding overLine
-  over-none n o h = let e : n - o ≡ 0 = omega arith in rw e

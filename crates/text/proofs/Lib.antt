@@ -10,4 +10,3 @@ pub mod BridgeShares
 pub mod BridgeText
 pub mod Filling
 pub mod Laws
-pub mod Masks

@@ -4,10 +4,11 @@ ghost use Prim.Native.Nat.{_≤_, min};
 ghost use lib.ListN.{length};
 ghost use Rattle.meaning.specs.Limits.{mostMaps};
 ghost use Rattle.tables.specs.Layout.{factsRoom, costsRoom, sharesRoom};
-ghost use Rattle.grammar.specs.Fields.{shareTotal, leaves};
+ghost use Rattle.meaning.specs.Split.{sum};
+ghost use Rattle.grammar.specs.Fields.{leaves};
 ghost use Rattle.text.specs.Inside.Area.{shareIn};
 ghost use Rattle.text.specs.Inside.Control.{mk};
-ghost use Rattle.text.specs.Inside.End.{over, ended, refusalOf, endFault, machineEnd};
+ghost use Rattle.text.specs.Inside.End.{over, ended, refusalOf, endFault, lastFault, machineEnd};
 use crate::Ctrl;
 use crate::Halt;
 use crate::area::word_at;
@@ -72,7 +73,7 @@ pub fn at_most(x: u32, n: u32) -> u32
 // An operator's shares in all maps together.
 pub fn share_total(w: &[u8], maps: u32, o: u32) -> u32
     requires { ⌜ maps ≤ mostMaps ⌝ }
-    ensures { λ r. ⌜ r ≡ shareTotal (shareIn (now (w .entry))) maps o ⌝ }
+    ensures { λ r. ⌜ r ≡ sum (λ m. shareIn (now (w .entry)) m o) maps ⌝ }
 {
     let mut total = 0;
     let mut m = 0;
@@ -83,8 +84,8 @@ pub fn share_total(w: &[u8], maps: u32, o: u32) -> u32
     total
 }
 
-// The line of the lowest operator whose shares total above its cost, 0 for none.
-pub fn over_line(c: Ctrl, w: &[u8]) -> u32
+// The lowest operator whose shares total above its cost.
+pub fn over_fault(c: Ctrl, w: &[u8]) -> Found
     ensures { λ r. ⌜ r ≡ over (mk c (now (w .entry))) ⌝ }
 {
     let maps = at_most(c.counts.maps, MAPS_MOST);
@@ -92,11 +93,22 @@ pub fn over_line(c: Ctrl, w: &[u8]) -> u32
     let mut o = 0;
     while o < ops {
         if word_at(w, cost_byte(o)) < share_total(w, maps, o) {
-            return 7 + o;
+            return Found::Fault(Refusal::SharesAboveCost(7 + o));
         }
         o += 1;
     }
-    0
+    Found::Clean
+}
+
+// What the text is refused with at its end, if anything.
+pub fn last_fault(c: Ctrl, w: &[u8]) -> Found
+    ensures { λ r. ⌜ r ≡ lastFault (mk c (now (w .entry))) ⌝ }
+{
+    let found = end_fault(c, w);
+    let Found::Clean = found else {
+        return found;
+    };
+    over_fault(c, w)
 }
 
 // The end of the text: the answer, and the lent tables on acceptance only.
@@ -104,13 +116,9 @@ pub fn finish(c: Ctrl, w: &[u8], facts: &mut [u8], costs: &mut [u32], shares: &m
     requires { ⌜ (factsRoom ≤ length (now w)) × (factsRoom ≤ length (now facts)) × (costsRoom ≤ length (now costs)) × (sharesRoom ≤ length (now shares)) ⌝ }
     ensures { λ r. ⌜ leaves r (now (facts .exit)) (now (costs .exit)) (now (shares .exit)) ≡ machineEnd (mk c (now (w .entry))) (now (facts .entry)) (now (costs .entry)) (now (shares .entry)) ⌝ }
 {
-    let found = end_fault(c, w);
+    let found = last_fault(c, w);
     if let Found::Fault(r) = found {
         return Reading::Refused(r);
-    }
-    let l = over_line(c, w);
-    if l != 0 {
-        return Reading::Refused(Refusal::SharesAboveCost(l));
     }
     fill_bytes(w, FACTS_ROOM, facts);
     fill_words(w, COSTS_ROOM, COSTS_BYTE, costs);

@@ -3,7 +3,7 @@ use Prim.Native.Nat.{ℕ, min}
 use mathlib.Core.List.{List}
 use mathlib.Core.Bool.{cond}
 use lib.ListN.{take, replicate}
-use lib.Dec.{eqb}
+use lib.Dec.{eqb, leb}
 use Rattle.refusals.specs.declared.Refusal.the-variants.{
   OffForm,
   OutOfRange,
@@ -13,11 +13,14 @@ use Rattle.refusals.specs.declared.Refusal.the-variants.{
   TooManyStates,
 }
 use Rattle.meaning.specs.Limits.{mostOps, mostMaps}
+use Rattle.meaning.specs.Split.{sum}
+use Rattle.tables.specs.Lines.{lineOfOp}
+use Rattle.scan.specs.Scan.{unless, _then_, each}
 use Rattle.tables.specs.Layout.{factsRoom, costsRoom, sharesRoom}
 use Rattle.scan.specs.declared.Found.{Found}
 use Rattle.scan.specs.declared.Found.the-variants.{Clean, Fault}
 use Rattle.grammar.specs.declared.Reading.the-variants.{Accepted, Refused}
-use Rattle.grammar.specs.Fields.{overLine, Outcome, leaves, filled, admitted}
+use Rattle.grammar.specs.Fields.{Outcome, leaves, filled, admitted}
 use Rattle.text.specs.declared.Ctrl.{Ctrl}
 use Rattle.text.specs.declared.Halt.{Halt}
 use Rattle.text.specs.declared.Halt.the-variants.{Going, Form, Range, Order, Missing, States}
@@ -45,10 +48,16 @@ refusalOf States l = Fault (TooManyStates l)
 unfoldable pub endFault : St → Found
 endFault s = refusalOf (ended (s .ctrl) (s .area)) (s .ctrl .line)
 
--- the line of the lowest operator whose shares total above its cost, 0 for none; a control of a text has no more than these counts
-unfoldable pub over : St → ℕ
+-- after all else: an operator's shares total at most its cost; a control of a text has no more than these counts
+unfoldable pub over : St → Found
 over s =
-    overLine (costIn (s .area)) (shareIn (s .area)) (min (s .ctrl .counts .maps) mostMaps) (min (s .ctrl .counts .ops) mostOps) 0
+    each
+    (λ o. unless (leb (sum (λ m. shareIn (s .area) m o) (min (s .ctrl .counts .maps) mostMaps)) (costIn (s .area) o)) (SharesAboveCost (lineOfOp o)))
+    (min (s .ctrl .counts .ops) mostOps)
+    0
+
+unfoldable pub lastFault : St → Found
+lastFault s = endFault s then over s
 
 -- the lent tables of an accepted task
 unfoldable pub written : St → List ℕ → List ℕ → List ℕ → Outcome
@@ -61,11 +70,11 @@ written s f c h =
 
 -- the end of the text: the lent tables are written on acceptance only
 abbrev pub answered : Found → St → List ℕ → List ℕ → List ℕ → Outcome
-answered Clean s f c h = cond (eqb (over s) 0) (written s f c h) (leaves (Refused (SharesAboveCost (over s))) f c h)
+answered Clean s f c h = written s f c h
 answered (Fault r) s f c h = leaves (Refused r) f c h
 
 unfoldable pub machineEnd : St → List ℕ → List ℕ → List ℕ → Outcome
-machineEnd s f c h = answered (endFault s) s f c h
+machineEnd s f c h = answered (lastFault s) s f c h
 
 -- a whole text by the machine: what it leaves behind, where it is admitted
 unfoldable pub machineRead : List ℕ → List ℕ → List ℕ → List ℕ → Outcome

@@ -9,7 +9,7 @@ use lib.Count.{ones, leadingZeros}
 use Rattle.meaning.specs.Limits.{mostStates}
 use Rattle.tables.specs.declared.Counts.{Counts}
 use Rattle.tables.specs.Layout.{initPlace, goalPlace, prePlace, effPlace, classPlace}
-use Rattle.grammar.specs.Fields.{bytes}
+use Rattle.grammar.specs.Fields.{bytesOf}
 use Rattle.text.specs.declared.Ctrl.{Ctrl}
 use Rattle.text.specs.declared.Seen.{Seen}
 use Rattle.text.specs.declared.Halt.{Halt}
@@ -35,7 +35,7 @@ use Rattle.text.specs.Inside.Control.{
 
 -- the keyword of each field that begins a line, 8 bytes a field; past the last field no byte fits
 abbrev pub keys : List ℕ
-keys = bytes "edition=vars=   dom=    init=   goal=           ops=    op=                                     maps=   map=    share=  "
+keys = bytesOf "edition=vars=   dom=    init=   goal=           ops=    op=                                     maps=   map=    share=  "
 
 unfoldable pub keyByte : ℕ → ℕ → ℕ
 keyByte f k = getD keys (f * 8 + k) 256
