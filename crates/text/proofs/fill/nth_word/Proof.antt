@@ -20,8 +20,6 @@ returns-2 c =
 
 pub nth-word-spec : {M : Type 1} → statement M
 nth-word-spec = tie.close (tie.spec
-    (λ c. search needs)
-    (λ c. search needs)
-    (λ c κs. search needs)
+    (λ c. search needs) (λ c. search needs) (λ c κs. search needs)
     returns
     returns-2)

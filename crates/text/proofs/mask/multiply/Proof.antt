@@ -30,8 +30,7 @@ multiply-spec =
     tie.close
     (tie.spec
     returns
-    (λ c κs. search needs)
-    (λ c κs. search needs)
+    (λ c κs. search needs) (λ c κs. search needs)
     mul-x
     (λ c. search needs)
     returns-2
