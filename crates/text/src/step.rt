@@ -28,6 +28,8 @@ use crate::Halt;
 use crate::Seen;
 use crate::Turn;
 use crate::area::word;
+use crate::control::FIRST_TURN;
+use crate::control::NONE_SEEN;
 use crate::control::await_number;
 use crate::control::goes_on;
 use crate::control::grow;
@@ -144,16 +146,7 @@ pub fn list_end(c: Ctrl, b: u32) -> Ctrl
             c,
             b,
             SEMICOLON,
-            await_number(
-                c,
-                FIELD_EFF_VAR,
-                Turn {
-                    var: 0,
-                    least: 0,
-                    item: 0,
-                },
-                Seen { mask: 0, prod: 1 },
-            ),
+            await_number(c, FIELD_EFF_VAR, FIRST_TURN, NONE_SEEN),
         )
     } else {
         end_line(c, b)
@@ -222,7 +215,7 @@ pub fn after_var(c: Ctrl, b: u32) -> Ctrl
                     least: 0,
                     item: 0,
                 },
-                Seen { mask: 0, prod: 1 },
+                NONE_SEEN,
             ),
         )
     }
@@ -247,7 +240,7 @@ pub fn after_value(c: Ctrl, b: u32) -> Ctrl
                 least: one_more(c.turn.var),
                 item: 0,
             },
-            Seen { mask: 0, prod: 1 },
+            NONE_SEEN,
         )
     } else {
         list_end(c, b)
@@ -273,7 +266,7 @@ pub fn after_share(c: Ctrl, b: u32) -> Ctrl
                     least: 0,
                     item: i,
                 },
-                Seen { mask: 0, prod: 1 },
+                NONE_SEEN,
             ),
         )
     }
@@ -298,7 +291,7 @@ pub fn after_number(c: Ctrl, w: &[u8], b: u32) -> Ctrl
                     least: 0,
                     item: 0,
                 },
-                Seen { mask: 0, prod: 1 },
+                NONE_SEEN,
             ),
         ),
         KIND_VAL => after_value(c, b),
@@ -306,16 +299,7 @@ pub fn after_number(c: Ctrl, w: &[u8], b: u32) -> Ctrl
             c,
             b,
             SEMICOLON,
-            await_number(
-                c,
-                FIELD_PRE_VAR,
-                Turn {
-                    var: 0,
-                    least: 0,
-                    item: 0,
-                },
-                Seen { mask: 0, prod: 1 },
-            ),
+            await_number(c, FIELD_PRE_VAR, FIRST_TURN, NONE_SEEN),
         ),
         KIND_CLASS => after_class(c, w, b),
         KIND_SHARE => after_share(c, b),
