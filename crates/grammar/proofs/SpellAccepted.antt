@@ -6,16 +6,18 @@ use mathlib.Core.Path.{_≡_, refl, sym, ap, _∙_}
 use mathlib.Core.List.{List, [], _∷_, _++_}
 use mathlib.Core.Bool.{true}
 use lib.ListN.{length, getD, length-replicate}
-use Rattle.refusals.specs.declared.Refusal.the-variants.{TableTooShort}
+use Rattle.refusals.specs.declared.Refusal.the-variants.{OutOfRange, TableTooShort}
+use Rattle.meaning.specs.Limits.{mostVars, mostValues, mostOps, mostMaps}
+use Rattle.tables.specs.Lines.{lineOfVars, lineOfDom, lineOfInit, lineOfGoal, lineOfOps, lineOfMaps}
+use lib.Dec.{leb, ltb}
+use borrow.Author.Tests.{leb-true}
 use Rattle.meaning.specs.Split.{Task, Valid}
 use Rattle.scan.specs.declared.Found.{Found}
 use Rattle.scan.specs.declared.Found.the-variants.{Clean, Fault}
 use Rattle.tables.specs.Layout.{Tables, factsRoom, costsRoom, sharesRoom, domPlace, initPlace, goalPlace, prePlace, effPlace, domAt, initAt, goalAt, preAt, effAt, classAt}
 use Rattle.tables.specs.Task.{taskOf}
-use Rattle.scan.specs.Scan.{unless, _then_, each, sharesFault, splitFault, taskFault, roomy, tablesFault}
-use Rattle.scan.proofs.Walks.{clean-next, all-clean}
-use Rattle.scan.specs.Parts.{headFault, linesFault}
-use Rattle.scan.proofs.Rules.{head-clean, lines-clean, in-parts}
+use Rattle.scan.specs.Scan.{unless, _then_, each, factsFault, operatorFault, mapFault, sharesFault, splitFault, taskFault, roomy, tablesFault, within as scanWithin}
+use Rattle.scan.proofs.Walks.{clean-next, all-clean, rule-held, walk-clean}
 use Rattle.scan.proofs.Validity.{clean-valid, valid-clean}
 use Rattle.grammar.specs.Fields.{edition, comma, slash, semicolon}
 use Rattle.grammar.specs.Grammar.{accepted, verdict}
@@ -24,7 +26,7 @@ use Rattle.grammar.proofs.SpellParts.{judged}
 use Rattle.grammar.proofs.SpellTables.{zeros, long-changed, long-row}
 use Rattle.grammar.proofs.SpellOwn.{Small, long-head, long-op, long-facts-of, long-shares-of, spares-head, head-dom, head-init}
 use Rattle.grammar.proofs.SpellOwn.{head-goal, spares-ops-low, ops-pre, ops-eff, spares-maps, maps-class, costs-own, shares-own}
-use Rattle.grammar.proofs.SpellTask.{spelled-judged, scan-is-grammar, clean-accepted}
+use Rattle.grammar.proofs.SpellTask.{at-most, spelled-judged, scan-is-grammar, clean-accepted}
 use Rattle.grammar.proofs.SpellBack.{not-refused, joined-same, stacked-same}
 use Rattle.grammar.proofs.SpellBackFacts.{some-same}
 use Rattle.grammar.proofs.SpellBackTask.{accepted-task}
@@ -32,11 +34,26 @@ use Rattle.grammar.proofs.SpellBackTask.{accepted-task}
 -- ---- a clean task is small
 
 pub clean-small : (τ : Task) → taskFault τ ≡ Clean → Small τ
+unfolding taskFault
 clean-small τ p =
-    let later = each (sharesFault τ) (τ .maps) 0 then each (splitFault τ) (τ .sas .ops) 0 in
-    let q = all-clean (headFault τ) (linesFault τ ∷ later ∷ []) (sym (in-parts τ) ∙ p) in
-    let h = head-clean τ (q .0) in
-    record { vars = h .vars .1; doms = λ v l. h .doms v l .1; ops = h .ops; maps = lines-clean τ (q .1 .0) .maps .1 }
+    let N = τ .sas .vars in
+    let doms : ℕ → Found = λ v. unless (scanWithin 1 mostValues (τ .sas .dom v)) (OutOfRange lineOfDom) in
+    let q = all-clean (unless (scanWithin 1 mostVars N) (OutOfRange lineOfVars))
+    (each doms N 0
+    ∷ each (λ v. unless (ltb (τ .sas .init v) (τ .sas .dom v)) (OutOfRange lineOfInit)) N 0
+    ∷ factsFault τ (τ .sas .goal) lineOfGoal
+    ∷ unless (leb (τ .sas .ops) mostOps) (OutOfRange lineOfOps)
+    ∷ each (operatorFault τ) (τ .sas .ops) 0
+    ∷ unless (scanWithin 1 mostMaps (τ .maps)) (OutOfRange (lineOfMaps (τ .sas .ops)))
+    ∷ (each (mapFault τ) (τ .maps) 0 then each (sharesFault τ) (τ .maps) 0 then each (splitFault τ) (τ .sas .ops) 0)
+    ∷ []) p in
+    let r = q .1 .1 .1 .1 in
+    record {
+      vars = at-most 1 mostVars N (OutOfRange lineOfVars) (q .0);
+      doms = λ v h. at-most 1 mostValues (τ .sas .dom v) (OutOfRange lineOfDom) (walk-clean doms N v (q .1 .0) h);
+      ops = leb-true (τ .sas .ops) mostOps (rule-held (leb (τ .sas .ops) mostOps) (OutOfRange lineOfOps) (r .0));
+      maps = at-most 1 mostMaps (τ .maps) (OutOfRange (lineOfMaps (τ .sas .ops))) (r .1 .1 .0);
+    }
 
 -- ---- the tables of a small task spell the same text
 

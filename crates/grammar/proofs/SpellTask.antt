@@ -132,7 +132,7 @@ module _ (τ : Task) where
 
 -- ---- the whole text
 
-at-most : (least most x : ℕ) (r : Refusal) → unless (scanWithin least most x) r ≡ Clean → x ≤ most
+pub at-most : (least most x : ℕ) (r : Refusal) → unless (scanWithin least most x) r ≡ Clean → x ≤ most
 at-most least most x r q = within-says least most x (rule-held (scanWithin least most x) r q) .1
 
 -- from tables of this length, whatever stands in them
