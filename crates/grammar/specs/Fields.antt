@@ -1,5 +1,5 @@
 -- What the grammar of the task text and the spelling share: the edition and the bytes; and what a reading leaves behind.
-use Prim.Native.Nat.{ℕ, zero, suc, _+_, _-_}
+use Prim.Native.Nat.{ℕ, _-_}
 use Prim.Native.Char.{code}
 use Prim.Native.String.{String, [] as []ˢ, _∷_ as _∷ˢ_}
 use mathlib.Core.List.{List, [], _∷_, _++_}
@@ -49,20 +49,6 @@ colon = code ":"
 
 abbrev pub semicolon : ℕ
 semicolon = code ";"
-
--- what operator o has in the first n maps together
-unfoldable pub shareTotal : (ℕ → ℕ → ℕ) → ℕ → ℕ → ℕ
-shareTotal share zero o = 0
-shareTotal share (suc n) o = shareTotal share n o + share n o
-
--- the line of operator o in a text
-abbrev pub opLine : ℕ → ℕ
-opLine o = 7 + o
-
--- the line of the lowest operator, of the n from o on, whose shares in all maps total above its cost; 0 if there is none
-unfoldable pub overLine : (ℕ → ℕ) → (ℕ → ℕ → ℕ) → ℕ → ℕ → ℕ → ℕ
-overLine cost share maps zero o = 0
-overLine cost share maps (suc n) o = cond (leb (shareTotal share maps o) (cost o)) (overLine cost share maps n (o + 1)) (opLine o)
 
 -- what a reading leaves behind: the answer, and the three lent tables
 pub record Outcome : Type 0 where

@@ -161,39 +161,31 @@ pub fn after_class(c: Ctrl, w: &[u8], b: u32) -> Ctrl
             end_line(c, b)
         } else {
             let p = multiply(c.seen.prod, width_of(c.seen.mask));
-            expect(
-                c,
-                b,
-                SLASH,
-                await_number(
-                    c,
-                    FIELD_CLASS,
-                    Turn {
-                        var: one_more(c.turn.var),
-                        least: 0,
-                        item: 0,
-                    },
-                    Seen { mask: 0, prod: p },
-                ),
-            )
-        }
-    } else {
-        let s = c.seen;
-        expect(
-            c,
-            b,
-            COMMA,
-            await_number(
+            let n = await_number(
                 c,
                 FIELD_CLASS,
                 Turn {
-                    var: c.turn.var,
+                    var: one_more(c.turn.var),
                     least: 0,
-                    item: one_more(c.turn.item),
+                    item: 0,
                 },
-                s,
-            ),
-        )
+                Seen { mask: 0, prod: p },
+            );
+            expect(c, b, SLASH, n)
+        }
+    } else {
+        let s = c.seen;
+        let n = await_number(
+            c,
+            FIELD_CLASS,
+            Turn {
+                var: c.turn.var,
+                least: 0,
+                item: one_more(c.turn.item),
+            },
+            s,
+        );
+        expect(c, b, COMMA, n)
     }
 }
 
