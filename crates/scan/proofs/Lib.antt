@@ -1,5 +1,5 @@
 pub mod Walks
 pub mod RowFaults
 pub mod Rules
-pub mod Lines
+pub mod Decides
 pub mod Validity

@@ -16,7 +16,8 @@ use Rattle.scan.specs.declared.Found.{Found}
 use Rattle.scan.specs.declared.Found.the-variants.{Clean, Fault}
 use Rattle.tables.specs.Layout.{rowAt}
 use Rattle.scan.specs.Scan.{unless, _then_, each}
-use Rattle.tables.specs.Classes.{noneMissing, allBelow, classesIf, classesOf}
+use Rattle.tables.specs.Classes.{noneMissing}
+use Rattle.tables.specs.Inside.Masks.{allBelow, classesIf, classesOf}
 use Rattle.scan.proofs.Walks.{one-rule}
 use Rattle.tables.proofs.Laws.{never}
 

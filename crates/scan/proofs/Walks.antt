@@ -1,9 +1,10 @@
--- Laws of a walk over rules, one after another, that is left at the first fault: what a counting loop asks (one turn more, a fault here, the end), and that a walk is clean exactly if each of its rules is.
--- Assumes nothing.
+-- Laws of a walk over rules, one after another, that is left at the first fault: what a counting loop asks (one turn more, a fault here, the
+-- end), and that a walk is clean exactly if each of its rules is. Assumes nothing.
 use Prim.Native.Nat.{ℕ, zero, suc, _+_, _≤_, _<_}
 use mathlib.Core.Path.{_≡_, refl, ap, sym, _∙_}
-use mathlib.Core.Bool.{Bool, true, false, _&&_}
+use mathlib.Core.Bool.{Bool, true, false, _&&_, and-false}
 use mathlib.Core.List.{List, [], _∷_}
+use mathlib.Core.Logic.{_↔_}
 use native.Mathlib.Nat.{add-zero}
 use native.Mathlib.Numerals.{add-one}
 use native.Mathlib.Omega.{arith}
@@ -54,10 +55,6 @@ AllClean a (b ∷ l) = (a ≡ Clean) × AllClean b l
 pub all-clean : (a : Found) (l : List Found) → inOrder a l ≡ Clean → AllClean a l
 all-clean a [] p = p
 all-clean a (b ∷ l) p = (clean-first a (inOrder b l) p, all-clean b l (clean-next a (inOrder b l) p))
-
-pub clean-all : (a : Found) (l : List Found) → AllClean a l → inOrder a l ≡ Clean
-clean-all a [] p = p
-clean-all a (b ∷ l) p = rw (p .0) (clean-all b l (p .1))
 
 -- ---- a rule
 
@@ -130,12 +127,8 @@ module _ (test : ℕ → Bool) (r : ℕ → Refusal) where
   pub tests-here : (n i : ℕ) → each (tests test r) i 0 ≡ Clean → i < n → test i ≡ false → each (tests test r) n 0 ≡ Fault (r i)
   tests-here n i p h q = walk-here (tests test r) n i (r i) p h (broken (r i) q)
 
-  -- such a walk is clean exactly if each of its tests holds
   pub tests-held : (n i : ℕ) → each (tests test r) n 0 ≡ Clean → i < n → test i ≡ true
   tests-held n i p h = rule-held (test i) (r i) (walk-clean (tests test r) n i p h)
-
-  pub held-tests : (n : ℕ) → ((i : ℕ) → i < n → test i ≡ true) → each (tests test r) n 0 ≡ Clean
-  held-tests n h = clean-walk (tests test r) n (λ i l. kept (r i) (h i l))
 
 -- where every test has the same refusal, the walk is one rule
 both-tests : (a b : Bool) (r : Refusal) → unless a r then unless b r ≡ unless (a && b) r
@@ -145,3 +138,30 @@ both-tests false b r = refl
 pub one-rule : (test : ℕ → Bool) (r : Refusal) (n : ℕ) → each (tests test (λ x. r)) n 0 ≡ unless (every test n) r
 one-rule test r zero = walk-none (tests test (λ x. r))
 one-rule test r (suc n) = each-last (tests test (λ x. r)) n ∙ rw (one-rule test r n) (both-tests (every test n) (test n) r)
+
+-- and two walks with one refusal are one walk
+and-and : (p q r s : Bool) → (p && q) && (r && s) ≡ (p && r) && (q && s)
+and-and false q r s = refl
+and-and true true r s = refl
+and-and true false r s = sym (and-false r)
+
+every-both : (f g : ℕ → Bool) (n : ℕ) → (every f n && every g n) ≡ every (λ i. f i && g i) n
+every-both f g zero = refl
+every-both f g (suc n) = and-and (every f n) (f n) (every g n) (g n) ∙ ap (λ (b : Bool). b && (f n && g n)) (every-both f g n)
+
+pub one-walk : (f g : ℕ → Bool) (r : Refusal) (n : ℕ)
+    → each (tests f (λ i. r)) n 0 then each (tests g (λ i. r)) n 0 ≡ each (tests (λ i. f i && g i) (λ i. r)) n 0
+one-walk f g r n =
+    rw (one-rule f r n, one-rule g r n, one-rule (λ i. f i && g i) r n)
+    (both-tests (every f n) (every g n) r ∙ ap (λ (b : Bool). unless b r) (every-both f g n))
+
+-- ---- rules and what they say: a rule, one after another, a walk, each clean exactly if what is asked holds
+
+pub rule-is : {b : Bool} (r : Refusal) {P : Type 0} → (b ≡ true) ↔ P → (unless b r ≡ Clean) ↔ P
+rule-is {b} r t = (λ p. t .0 (rule-held b r p), λ h. kept r (t .1 h))
+
+pub then-is : {a b : Found} {P Q : Type 0} → (a ≡ Clean) ↔ P → (b ≡ Clean) ↔ Q → (a then b ≡ Clean) ↔ (P × Q)
+then-is {a} {b} s t = (λ p. (s .0 (clean-first a b p), t .0 (clean-next a b p)), λ h. rw (s .1 (h .0)) (t .1 (h .1)))
+
+pub walk-is : (f : ℕ → Found) (n : ℕ) {P : ℕ → Type 0} → ((i : ℕ) → (f i ≡ Clean) ↔ P i) → (each f n 0 ≡ Clean) ↔ ((i : ℕ) → i < n → P i)
+walk-is f n t = (λ p i l. t i .0 (walk-clean f n i p l), λ h. clean-walk f n (λ i l. t i .1 (h i l)))

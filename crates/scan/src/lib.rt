@@ -5,22 +5,41 @@ ghost use mathlib.Core.List.{[]};
 ghost use Prim.Native.Nat.{_≤_, _<_};
 ghost use lib.Dec.{leb, ltb};
 ghost use lib.ListN.{length};
+ghost use Rattle.meaning.specs.Limits.{mostOps, mostMaps};
 ghost use Rattle.meaning.specs.Split.{sum};
 ghost use Rattle.refusals.specs.declared.Refusal.the-variants.{OutOfRange};
 ghost use Rattle.scan.specs.declared.Found.the-variants.{Clean};
 ghost use Rattle.tables.specs.Layout.{rowAt, domAt, shareAt, factsRoom, costsRoom, sharesRoom};
 ghost use Rattle.tables.specs.Task.{tables, taskOf, lent};
-ghost use Rattle.scan.specs.Scan.{unless, each, within, mapFault, sharesFault, splitFault, tablesFault, stateFault, inputFault};
-ghost use Rattle.scan.specs.Parts.{variableHolds, headFault, linesFault};
+ghost use Rattle.scan.specs.Scan.{unless, each, within, mapFault, sharesFault, splitFault, taskFault, tablesFault, stateFault, inputFault};
+ghost use Rattle.scan.specs.Inside.Parts.{factsFit, variableHolds, opsFault, goalFault, initFault, domFault, headFault, linesFault, chargesFault, bodyFault};
 use meaning::OpNo;
+use meaning::limits::COST_MOST;
+use meaning::limits::MAPS_MOST;
+use meaning::limits::OPS_MOST;
+use meaning::limits::STATES_MOST;
+use meaning::limits::VALUES_MOST;
+use meaning::limits::VARS_MOST;
 use refusals::Refusal;
 use tables::Counts;
 use tables::classes::Classes;
 use tables::classes::classes_of;
 use tables::classes::word_of;
+use tables::lines::DOM_LINE;
+use tables::lines::GOAL_LINE;
+use tables::lines::INIT_LINE;
+use tables::lines::OPS_LINE;
+use tables::lines::VARS_LINE;
+use tables::lines::map_line;
+use tables::lines::maps_line;
+use tables::lines::op_line;
+use tables::lines::shares_line;
+use tables::readers::COSTS_ROOM;
 use tables::readers::DOM_ROW;
+use tables::readers::FACTS_ROOM;
 use tables::readers::GOAL_ROW;
 use tables::readers::INIT_ROW;
+use tables::readers::SHARES_ROOM;
 use tables::readers::byte_at;
 use tables::readers::class_row;
 use tables::readers::cost_at;
@@ -28,27 +47,6 @@ use tables::readers::eff_row;
 use tables::readers::pre_row;
 use tables::readers::row_at;
 use tables::readers::share_at;
-
-// The most variables, values of a variable, operators, maps, and abstract states of a map.
-const VARS_MOST: u32 = 8;
-
-const VALUES_MOST: u32 = 8;
-
-const OPS_MOST: u32 = 64;
-
-const MAPS_MOST: u32 = 8;
-
-const STATES_MOST: u32 = 4096;
-
-// The most that an operator costs, or costs in a map, in seconds.
-const COST_MOST: u32 = 1000000;
-
-// The room for the largest task, in places.
-const FACTS_ROOM: usize = 1624;
-
-const COSTS_ROOM: usize = 64;
-
-const SHARES_ROOM: usize = 512;
 
 // What a scan finds: nothing, or the first fault.
 pub enum Found {
@@ -61,6 +59,20 @@ fn fact_fits(facts: &[u8], row: u32, v: u32) -> bool
     ensures { λ r. ⌜ r ≡ leb (rowAt (now (facts .entry)) row v) (domAt (now (facts .entry)) v) ⌝ }
 {
     row_at(facts, row, v) <= row_at(facts, DOM_ROW, v)
+}
+
+// What an operator asks of a variable, and what it does to it, is a value of the variable, or nothing.
+fn facts_fit(facts: &[u8], o: OpNo, v: u32) -> bool
+    requires { ⌜ o .0 < mostOps ⌝ }
+    ensures { λ r. ⌜ r ≡ factsFit (now (facts .entry)) (o .0) v ⌝ }
+{
+    let pre = pre_row(o);
+    let eff = eff_row(o);
+    if fact_fits(facts, pre, v) {
+        fact_fits(facts, eff, v)
+    } else {
+        false
+    }
 }
 
 // The variable has the value x.
@@ -77,75 +89,99 @@ fn lies_within(lo: u32, hi: u32, x: u32) -> bool
     if lo <= x { x <= hi } else { false }
 }
 
-// What line 3, 4 or 5 asks of a variable: 1 to 8 values; an initial value, and a value in the goal, that are among them.
+// What the line of the values, of the initial state or of the goal asks of a variable: 1 to 8 values; an initial value, and a value in the goal, that are among them.
 fn variable_holds(facts: &[u8], line: u32, v: u32) -> bool
     ensures { λ r. ⌜ r ≡ variableHolds (now (facts .entry)) line v ⌝ }
 {
-    if line == 3 {
+    if line == DOM_LINE {
         return lies_within(1, VALUES_MOST, word_of(facts, DOM_ROW, v));
     }
-    if line == 4 {
+    if line == INIT_LINE {
         return value_fits(facts, v, row_at(facts, INIT_ROW, v));
     }
     fact_fits(facts, GOAL_ROW, v)
 }
 
-// Line 3, 4 or 5, from variable to variable.
+// One of these three lines, from variable to variable.
 fn variables_fault(vars: u32, facts: &[u8], line: u32) -> Found
     ensures { λ r. ⌜ r ≡ each (λ v. unless (variableHolds (now (facts .entry)) line v) (OutOfRange line)) vars 0 ⌝ }
 {
-    let mut v = 0;
-    while v < vars {
+    for v in 0..vars {
         if !variable_holds(facts, line, v) {
             return Found::Fault(Refusal::OutOfRange(line));
         }
-        v += 1;
     }
     Found::Clean
 }
 
-// Lines 2 to 6: the counts of variables and operators, and what is said of the variables.
+// The lines before the operators, link by link, each with what follows it: how many operators.
+fn ops_fault(ops: u32) -> Found
+    ensures { λ r. ⌜ r ≡ opsFault ops ⌝ }
+{
+    if OPS_MOST < ops {
+        return Found::Fault(Refusal::OutOfRange(OPS_LINE));
+    }
+    Found::Clean
+}
+
+// The goal.
+fn goal_fault(c: Counts, facts: &[u8]) -> Found
+    ensures { λ r. ⌜ r ≡ goalFault (taskOf (tables c (now (facts .entry)) [] [])) ⌝ }
+{
+    let goal = variables_fault(c.vars, facts, GOAL_LINE);
+    let Found::Clean = goal else {
+        return goal;
+    };
+    ops_fault(c.ops)
+}
+
+// The initial state.
+fn init_fault(c: Counts, facts: &[u8]) -> Found
+    ensures { λ r. ⌜ r ≡ initFault (taskOf (tables c (now (facts .entry)) [] [])) ⌝ }
+{
+    let init = variables_fault(c.vars, facts, INIT_LINE);
+    let Found::Clean = init else {
+        return init;
+    };
+    goal_fault(c, facts)
+}
+
+// How many values the variables have.
+fn dom_fault(c: Counts, facts: &[u8]) -> Found
+    ensures { λ r. ⌜ r ≡ domFault (taskOf (tables c (now (facts .entry)) [] [])) ⌝ }
+{
+    let doms = variables_fault(c.vars, facts, DOM_LINE);
+    let Found::Clean = doms else {
+        return doms;
+    };
+    init_fault(c, facts)
+}
+
+// How many variables.
 fn head_fault(c: Counts, facts: &[u8]) -> Found
     ensures { λ r. ⌜ r ≡ headFault (taskOf (tables c (now (facts .entry)) [] [])) ⌝ }
 {
     if !lies_within(1, VARS_MOST, c.vars) {
-        return Found::Fault(Refusal::OutOfRange(2));
+        return Found::Fault(Refusal::OutOfRange(VARS_LINE));
     }
-    let doms = variables_fault(c.vars, facts, 3);
-    let Found::Clean = doms else {
-        return doms;
-    };
-    let init = variables_fault(c.vars, facts, 4);
-    let Found::Clean = init else {
-        return init;
-    };
-    let goal = variables_fault(c.vars, facts, 5);
-    let Found::Clean = goal else {
-        return goal;
-    };
-    if OPS_MOST < c.ops {
-        return Found::Fault(Refusal::OutOfRange(6));
-    }
-    Found::Clean
+    dom_fault(c, facts)
 }
 
 // The line of a map: its variables' classes, and at its end not too many abstract states.
 fn map_fault(c: Counts, facts: &[u8], m: u32) -> Found
-    requires { ⌜ (headFault (taskOf (tables c (now facts) [] [])) ≡ Clean) × (m < 8) ⌝ }
+    requires { ⌜ (headFault (taskOf (tables c (now facts) [] [])) ≡ Clean) × (m < mostMaps) ⌝ }
     ensures { λ r. ⌜ r ≡ mapFault (taskOf (tables c (now (facts .entry)) [] [])) m ⌝ }
 {
-    let line = 8 + c.ops + m;
+    let line = map_line(c.ops, m);
     let vars = c.vars;
     let mut states = 1u32;
-    let mut v = 0;
-    while v < vars {
+    for v in 0..vars {
         let found = classes_of(facts, word_of(facts, DOM_ROW, v), class_row(m, v));
         match found {
             Classes::Count(k) => states = states * k,
             Classes::Missing => return Found::Fault(Refusal::ClassMissing(line)),
             Classes::Outside => return Found::Fault(Refusal::OutOfRange(line)),
         }
-        v += 1;
     }
     if STATES_MOST < states {
         return Found::Fault(Refusal::TooManyStates(line));
@@ -153,7 +189,7 @@ fn map_fault(c: Counts, facts: &[u8], m: u32) -> Found
     Found::Clean
 }
 
-// Line 7 to the line of the last map: the walks over operators, facts and maps are left at once with the first fault.
+// From the first operator's line to the last map's: the walks over operators, facts and maps are left at once with the first fault.
 fn lines_fault(c: Counts, facts: &[u8], costs: &[u32]) -> Found
     requires { ⌜ headFault (taskOf (tables c (now facts) [] [])) ≡ Clean ⌝ }
     ensures { λ r. ⌜ r ≡ linesFault (taskOf (tables c (now (facts .entry)) (now (costs .entry)) [])) ⌝ }
@@ -162,37 +198,26 @@ fn lines_fault(c: Counts, facts: &[u8], costs: &[u32]) -> Found
     let ops = c.ops;
     let maps = c.maps;
     let found = 'scan: loop {
-        let mut o = 0;
-        while o < ops {
+        for o in 0..ops {
+            let line = op_line(OpNo(o));
             if COST_MOST < cost_at(costs, OpNo(o)) {
-                break 'scan Found::Fault(Refusal::OutOfRange(7 + o));
+                break 'scan Found::Fault(Refusal::OutOfRange(line));
             }
-            let mut p = 0;
-            while p < vars {
-                if !fact_fits(facts, pre_row(OpNo(o)), p) {
-                    break 'scan Found::Fault(Refusal::OutOfRange(7 + o));
+            // both lists in one walk: whichever fact is outside, it is the same number at the same line
+            for v in 0..vars {
+                if !facts_fit(facts, OpNo(o), v) {
+                    break 'scan Found::Fault(Refusal::OutOfRange(line));
                 }
-                p += 1;
             }
-            let mut e = 0;
-            while e < vars {
-                if !fact_fits(facts, eff_row(OpNo(o)), e) {
-                    break 'scan Found::Fault(Refusal::OutOfRange(7 + o));
-                }
-                e += 1;
-            }
-            o += 1;
         }
         if !lies_within(1, MAPS_MOST, maps) {
-            break Found::Fault(Refusal::OutOfRange(7 + ops));
+            break Found::Fault(Refusal::OutOfRange(maps_line(ops)));
         }
-        let mut m = 0;
-        while m < maps {
-            let line = map_fault(c, facts, m);
-            let Found::Clean = line else {
-                break 'scan line;
+        for m in 0..maps {
+            let map = map_fault(c, facts, m);
+            let Found::Clean = map else {
+                break 'scan map;
             };
-            m += 1;
         }
         break Found::Clean;
     };
@@ -201,21 +226,17 @@ fn lines_fault(c: Counts, facts: &[u8], costs: &[u32]) -> Found
 
 // The lines of the shares: the walk over maps and operators is left at once with the first fault.
 fn shares_fault(c: Counts, shares: &[u32]) -> Found
-    requires { ⌜ (c .ops ≤ 64) × (c .maps ≤ 8) ⌝ }
+    requires { ⌜ (c .ops ≤ mostOps) × (c .maps ≤ mostMaps) ⌝ }
     ensures { λ r. ⌜ r ≡ each (sharesFault (taskOf (tables c [] [] (now (shares .entry))))) (c .maps) 0 ⌝ }
 {
     let ops = c.ops;
     let maps = c.maps;
-    let mut m = 0;
-    while m < maps {
-        let mut o = 0;
-        while o < ops {
+    for m in 0..maps {
+        for o in 0..ops {
             if COST_MOST < share_at(shares, m, OpNo(o)) {
-                return Found::Fault(Refusal::OutOfRange(8 + ops + maps + m));
+                return Found::Fault(Refusal::OutOfRange(shares_line(ops, maps, m)));
             }
-            o += 1;
         }
-        m += 1;
     }
     Found::Clean
 }
@@ -225,28 +246,24 @@ fn share_total(maps: u32, shares: &[u32], o: OpNo) -> u64
     ensures { λ r. ⌜ r ≡ sum (λ m. shareAt (now (shares .entry)) m (o .0)) maps ⌝ }
 {
     let mut total = 0u64;
-    let mut m = 0;
-    while m < maps {
+    for m in 0..maps {
         total = total + share_at(shares, m, o) as u64;
-        m += 1;
     }
     total
 }
 
 // The split, after all else: an operator's shares total at most its cost.
 fn split_fault(c: Counts, costs: &[u32], shares: &[u32]) -> Found
-    requires { ⌜ c .ops ≤ 64 ⌝ }
+    requires { ⌜ c .ops ≤ mostOps ⌝ }
     ensures { λ r. ⌜ r ≡ each (splitFault (taskOf (tables c [] (now (costs .entry)) (now (shares .entry))))) (c .ops) 0 ⌝ }
 {
     let ops = c.ops;
     let maps = c.maps;
-    let mut o = 0;
-    while o < ops {
+    for o in 0..ops {
         let cost = cost_at(costs, OpNo(o)) as u64;
         if cost < share_total(maps, shares, OpNo(o)) {
-            return Found::Fault(Refusal::SharesAboveCost(7 + o));
+            return Found::Fault(Refusal::SharesAboveCost(op_line(OpNo(o))));
         }
-        o += 1;
     }
     Found::Clean
 }
@@ -264,6 +281,41 @@ fn has_room(facts: &[u8], costs: &[u32], shares: &[u32]) -> bool
     SHARES_ROOM <= shares.len()
 }
 
+// What the maps charge: the lines of the shares, then the split.
+fn charges_fault(c: Counts, costs: &[u32], shares: &[u32]) -> Found
+    requires { ⌜ (c .ops ≤ mostOps) × (c .maps ≤ mostMaps) ⌝ }
+    ensures { λ r. ⌜ r ≡ chargesFault (taskOf (tables c [] (now (costs .entry)) (now (shares .entry)))) ⌝ }
+{
+    let charged = shares_fault(c, shares);
+    let Found::Clean = charged else {
+        return charged;
+    };
+    split_fault(c, costs, shares)
+}
+
+// The lines of operators and maps, then what the maps charge.
+fn body_fault(c: Counts, facts: &[u8], costs: &[u32], shares: &[u32]) -> Found
+    requires { ⌜ headFault (taskOf (tables c (now facts) [] [])) ≡ Clean ⌝ }
+    ensures { λ r. ⌜ r ≡ bodyFault (taskOf (lent c (facts .entry) (costs .entry) (shares .entry))) ⌝ }
+{
+    let lines = lines_fault(c, facts, costs);
+    let Found::Clean = lines else {
+        return lines;
+    };
+    charges_fault(c, costs, shares)
+}
+
+// The whole task: the lines before the operators, then all others.
+fn task_fault(c: Counts, facts: &[u8], costs: &[u32], shares: &[u32]) -> Found
+    ensures { λ r. ⌜ r ≡ taskFault (taskOf (lent c (facts .entry) (costs .entry) (shares .entry))) ⌝ }
+{
+    let head = head_fault(c, facts);
+    let Found::Clean = head else {
+        return head;
+    };
+    body_fault(c, facts, costs, shares)
+}
+
 // The first fault of handed-in tables, with the line that the same task's text would have.
 pub fn tables_fault(c: Counts, facts: &[u8], costs: &[u32], shares: &[u32]) -> Found
     ensures { λ r. ⌜ r ≡ tablesFault (lent c (facts .entry) (costs .entry) (shares .entry)) ⌝ }
@@ -271,19 +323,7 @@ pub fn tables_fault(c: Counts, facts: &[u8], costs: &[u32], shares: &[u32]) -> F
     if !has_room(facts, costs, shares) {
         return Found::Fault(Refusal::TableTooShort);
     }
-    let head = head_fault(c, facts);
-    let Found::Clean = head else {
-        return head;
-    };
-    let lines = lines_fault(c, facts, costs);
-    let Found::Clean = lines else {
-        return lines;
-    };
-    let charged = shares_fault(c, shares);
-    let Found::Clean = charged else {
-        return charged;
-    };
-    split_fault(c, costs, shares)
+    task_fault(c, facts, costs, shares)
 }
 
 // The first fault of a handed-in state: too short (8), or the lowest variable whose value is outside (9).
@@ -294,12 +334,10 @@ pub fn state_fault(c: Counts, facts: &[u8], s: &[u8]) -> Found
     if s.len() < vars as usize {
         return Found::Fault(Refusal::TableTooShort);
     }
-    let mut v = 0;
-    while v < vars {
+    for v in 0..vars {
         if !value_fits(facts, v, byte_at(s, v as usize)) {
             return Found::Fault(Refusal::ValueOutside(v));
         }
-        v += 1;
     }
     Found::Clean
 }

@@ -10,7 +10,8 @@ use Rattle.meaning.specs.Split.{countOf}
 use Rattle.meaning.proofs.Facts.{every-true, true-every}
 use Rattle.tables.specs.declared.classes.Mask.the-variants.{Bits, Beyond}
 use Rattle.tables.specs.declared.classes.Classes.the-variants.{Count, Missing, Outside}
-use Rattle.tables.specs.Classes.{noneMissing, maskOf, allBelow, masked, maskFound, classesOf}
+use Rattle.tables.specs.Classes.{noneMissing}
+use Rattle.tables.specs.Inside.Masks.{maskOf, allBelow, masked, maskFound, classesOf}
 use Rattle.tables.proofs.Masks.{mask-width, mask-whole}
 use Rattle.tables.proofs.Laws.{never}
 

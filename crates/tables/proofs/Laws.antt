@@ -1,7 +1,7 @@
 -- Laws of tests at every number below n, of lists filled place by place, and of facts: what a counting loop asks, one turn more and the end.
 -- Assumes nothing.
 use Prim.Native.Nat.{ℕ, zero, suc, _+_, _-_, _≤_, _<_}
-use mathlib.Core.Path.{_≡_, refl, ap, sym, _∙_, subst}
+use mathlib.Core.Path.{_≡_, refl, ap, sym, _∙_}
 use mathlib.Core.List.{List}
 use mathlib.Core.Bool.{Bool, true, false, and-false}
 use native.Mathlib.Numerals.{add-one}
@@ -88,9 +88,3 @@ holds-said (suc k) x h = let q : suc k - 1 ≡ k = omega arith in ap (eqb x) q
 pub put-said : (f x : ℕ) → (f ≡ 0 → ⊥) → f - 1 ≡ put f x
 put-said zero x h = absurd (h refl)
 put-said (suc k) x h = omega arith
-
-pub put-none : (f x : ℕ) → f ≡ 0 → x ≡ put f x
-put-none f x h = subst (λ (g : ℕ). x ≡ put g x) (sym h) refl
-
-pub holds-none : (f x : ℕ) → f ≡ 0 → true ≡ holds f x
-holds-none f x h = subst (λ (g : ℕ). true ≡ holds g x) (sym h) refl

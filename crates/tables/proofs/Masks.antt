@@ -1,5 +1,5 @@
--- The laws of a mask, for any width and any test: its width by leading zeros is its largest class and one, its count of ones is how many classes it has, and the two are equal exactly if none below the largest is missing.
--- Assumes nothing.
+-- The laws of a mask, for any width and any test: its width by leading zeros is its largest class and one, its count of ones is how many classes
+-- it has, and the two are equal exactly if none below the largest is missing. Assumes nothing.
 use mathlib.Core.Path.{_≡_, refl, sym, ap, _∙_}
 use mathlib.Core.Bool.{Bool, true, false, _&&_, _||_, or-true, or-false, and-true, and-false}
 use mathlib.Core.Logic.{_⊎_, inl, inr}
@@ -14,7 +14,8 @@ use lib.Bits.{bitOr, or-block, or-zero-r}
 use lib.Count.{ones, onesIn, leadingZeros, ones-cat, leading-unique}
 use Rattle.meaning.specs.Views.{every}
 use Rattle.meaning.specs.Split.{countOf}
-use Rattle.tables.specs.Classes.{someHas, noneMissing, maskOf}
+use Rattle.tables.specs.Classes.{someHas, noneMissing}
+use Rattle.tables.specs.Inside.Masks.{maskOf}
 
 -- ---- the number whose bit c is set exactly if f c, for each c below n
 

@@ -3,3 +3,4 @@ pub mod Lines
 pub mod Task
 pub mod Steps
 pub mod Classes
+pub mod Inside

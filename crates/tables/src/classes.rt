@@ -2,9 +2,10 @@
 ghost use mathlib.Core.Path.{_≡_};
 ghost use Prim.Native.Nat.{ℕ, _-_, _<_, _≤_};
 ghost use lib.Count.{leadingZeros};
+ghost use Rattle.meaning.specs.Limits.{mostValues};
 ghost use Rattle.meaning.specs.Split.{countOf};
 ghost use Rattle.tables.specs.Layout.{rowAt};
-ghost use Rattle.tables.specs.Classes.{maskFound, classesOf};
+ghost use Rattle.tables.specs.Inside.Masks.{maskFound, classesOf};
 use crate::readers::row_at;
 
 // The classes of a row as a mask, or a class beyond them all.
@@ -29,7 +30,7 @@ pub fn word_of(facts: &[u8], row: u32, x: u32) -> u32
 
 // The mask of the classes of a variable with so many values.
 fn mask_of(facts: &[u8], dom: u32, row: u32) -> Mask
-    requires { ⌜ dom ≤ 8 ⌝ }
+    requires { ⌜ dom ≤ mostValues ⌝ }
     ensures { λ r. ⌜ r ≡ maskFound (rowAt (now (facts .entry)) row) dom ⌝ }
 {
     let mut mask = 0u32;
@@ -54,7 +55,7 @@ fn width(mask: u32) -> u32
 
 // The classes of a variable with so many values.
 pub fn classes_of(facts: &[u8], dom: u32, row: u32) -> Classes
-    requires { ⌜ dom ≤ 8 ⌝ }
+    requires { ⌜ dom ≤ mostValues ⌝ }
     ensures { λ r. ⌜ r ≡ classesOf (rowAt (now (facts .entry)) row) dom ⌝ }
 {
     let found = mask_of(facts, dom, row);
@@ -71,7 +72,7 @@ pub fn classes_of(facts: &[u8], dom: u32, row: u32) -> Classes
 
 // How many classes a variable has whose classes are all below its number of values.
 pub fn count_of(facts: &[u8], dom: u32, row: u32) -> u32
-    requires { ⌜ (dom ≤ 8) × ((x : ℕ) → x < dom → rowAt (now facts) row x < dom) ⌝ }
+    requires { ⌜ (dom ≤ mostValues) × ((x : ℕ) → x < dom → rowAt (now facts) row x < dom) ⌝ }
     ensures { λ r. ⌜ r ≡ countOf (rowAt (now (facts .entry)) row) dom ⌝ }
 {
     let found = mask_of(facts, dom, row);

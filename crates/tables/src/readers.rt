@@ -2,6 +2,7 @@
 ghost use mathlib.Core.Path.{_≡_};
 ghost use Prim.Native.Nat.{_<_};
 ghost use lib.ListN.{getD};
+ghost use Rattle.meaning.specs.Limits.{mostVars, mostOps, mostMaps};
 ghost use Rattle.tables.specs.Layout.{rowAt, preRow, effRow, classRow, costAt, shareAt};
 use meaning::OpNo;
 
@@ -12,9 +13,16 @@ pub const INIT_ROW: u32 = 1;
 
 pub const GOAL_ROW: u32 = 2;
 
+// The room for the largest task, in places.
+pub const FACTS_ROOM: usize = 1624;
+
+pub const COSTS_ROOM: usize = 64;
+
+pub const SHARES_ROOM: usize = 512;
+
 // The row of an operator's preconditions.
 pub fn pre_row(o: OpNo) -> u32
-    requires { ⌜ o .0 < 64 ⌝ }
+    requires { ⌜ o .0 < mostOps ⌝ }
     ensures { λ r. ⌜ r ≡ preRow (o .0) ⌝ }
 {
     3 + o.0
@@ -22,7 +30,7 @@ pub fn pre_row(o: OpNo) -> u32
 
 // The row of an operator's effects.
 pub fn eff_row(o: OpNo) -> u32
-    requires { ⌜ o .0 < 64 ⌝ }
+    requires { ⌜ o .0 < mostOps ⌝ }
     ensures { λ r. ⌜ r ≡ effRow (o .0) ⌝ }
 {
     67 + o.0
@@ -30,7 +38,7 @@ pub fn eff_row(o: OpNo) -> u32
 
 // The row of a variable's classes in a map.
 pub fn class_row(m: u32, v: u32) -> u32
-    requires { ⌜ (m < 8) × (v < 8) ⌝ }
+    requires { ⌜ (m < mostMaps) × (v < mostVars) ⌝ }
     ensures { λ r. ⌜ r ≡ classRow m v ⌝ }
 {
     131 + (m * 8 + v)

@@ -1,6 +1,7 @@
 // Whether an operator may run in a state, whether a state meets the goal, and the state after a step.
 ghost use mathlib.Core.Path.{_≡_};
 ghost use Prim.Native.Nat.{_≤_, _<_};
+ghost use Rattle.meaning.specs.Limits.{mostVars, mostOps};
 ghost use Rattle.meaning.specs.Sas.{put};
 ghost use Rattle.meaning.specs.Views.{holds};
 ghost use Rattle.tables.specs.Steps.{rowHolds, mayRun, meetsGoal, stepped};
@@ -42,7 +43,7 @@ pub fn row_holds(vars: u32, facts: &[u8], row: u32, s: &[u8]) -> bool
 
 // Each precondition of the operator holds in the state.
 pub fn may_run(c: Counts, facts: &[u8], s: &[u8], o: OpNo) -> bool
-    requires { ⌜ o .0 < 64 ⌝ }
+    requires { ⌜ o .0 < mostOps ⌝ }
     ensures { λ r. ⌜ r ≡ mayRun c (now (facts .entry)) (now (s .entry)) (o .0) ⌝ }
 {
     row_holds(c.vars, facts, pre_row(o), s)
@@ -57,7 +58,7 @@ pub fn meets_goal(c: Counts, facts: &[u8], s: &[u8]) -> bool
 
 // The state after the operator: each effect holds and all else stays.
 pub fn state_after(c: Counts, facts: &[u8], s: [u8; 8], o: OpNo) -> [u8; 8]
-    requires { ⌜ (c .vars ≤ 8) × (o .0 < 64) ⌝ }
+    requires { ⌜ (c .vars ≤ mostVars) × (o .0 < mostOps) ⌝ }
     ensures { λ r. ⌜ r ≡ stepped c (now (facts .entry)) s (o .0) ⌝ }
 {
     let vars = c.vars as usize;

@@ -1,156 +1,131 @@
--- `scan::map_fault` meets its contract: the variables passed so far are clean, and their counts multiply to the states so far. Assumes nothing.
+-- `map_fault` meets its contract: the variables passed so far are clean, and their counts multiply to the states so far. Assumes nothing.
 use Prim.Native.Nat.{ℕ, _*_, _^_, _≤_, _-_}
-use mathlib.Core.Path.{_≡_, refl, sym, ap, ap₂, _∙_}
+use mathlib.Core.Path.{_≡_, refl, ap, ap₂, _∙_}
 use mathlib.Core.List.{List, []}
 use native.Mathlib.Numerals.{add-one}
 use native.Mathlib.Omega.{arith}
+use lib.Dec.{leb}
 use borrow.Author.Needs.{needs}
 use borrow.Author.Tests.{lt-leb, le-leb}
-use Rattle.refusals.specs.declared.Refusal.the-variants.{OutOfRange, ClassMissing}
+use Rattle.refusals.specs.declared.Refusal.{Refusal}
+use Rattle.refusals.specs.declared.Refusal.the-variants.{OutOfRange, ClassMissing, TooManyStates}
+use Rattle.meaning.specs.Limits.{mostValues, mostStates}
 use Rattle.meaning.specs.Numbering.{size}
 use Rattle.meaning.specs.Split.{Task, countOf}
-use Rattle.tables.specs.declared.Counts.{Counts}
-use Rattle.scan.specs.declared.Found.{Found}
-use Rattle.scan.specs.declared.Found.the-variants.{Clean}
+use Rattle.tables.specs.declared.classes.Classes.{Classes}
 use Rattle.tables.specs.Layout.{domAt, classAt}
 use Rattle.tables.specs.Task.{tables, taskOf}
-use Rattle.scan.specs.Scan.{each, classesFault, mapFault}
+use Rattle.scan.specs.declared.Found.{Found}
+use Rattle.scan.specs.declared.Found.the-variants.{Clean, Fault}
+use Rattle.scan.specs.Scan.{unless, each, classesFault, mapFault}
+use Rattle.scan.specs.Inside.Parts.{headFault}
 use Rattle.scan.proofs.Walks.{walk-none, walk-more, walk-here, walk-end}
-use Rattle.scan.proofs.Rules.{head-clean}
-use Rattle.scan.proofs.RowFaults.{rowFault, found-fault, found-count, product-more, product-fits}
+use Rattle.scan.proofs.Rules.{few-vars, few-values, few-ops}
+use Rattle.scan.proofs.Decides.{classes-decide, states-decide}
+use Rattle.scan.proofs.RowFaults.{faultIn, rowFault, found-fault, found-count, product-more, product-fits}
 use Rattle.scan.proofs.map_fault.Statement.{statement}
 use Rattle.scan.proofs.map_fault.Tie as tie
-use Rattle.tables.specs.Lines.{lineOfMap}
 
-abbrev headed : Counts → List ℕ → Task
-headed c facts = taskOf (tables c facts [] [])
-
-abbrev rule : List ℕ → ℕ → ℕ → ℕ → Found
-rule facts m line v = rowFault (classAt facts m v) (domAt facts v) line
+abbrev ruleOf : List ℕ → ℕ → ℕ → ℕ → Found
+ruleOf facts m line v = rowFault (classAt facts m v) (domAt facts v) line
 
 abbrev counts : List ℕ → ℕ → ℕ → ℕ
 counts facts m v = countOf (classAt facts m v) (domAt facts v)
 
 abbrev Inv-loop : tie.InvT-loop
-Inv-loop facts m line vars states₀ v₀ states v = (v ≤ vars) × (each (rule facts m line) v 0 ≡ Clean) × (states ≡ size (counts facts m) v) × (states ≤ 8 ^ v)
+Inv-loop facts m line vars states₀ v₀ states v = (v ≤ vars) × (each (ruleOf facts m line) v 0 ≡ Clean) × (states ≡ size (counts facts m) v) × (states ≤ 8 ^ v)
 
 abbrev μ-loop : tie.MeasureT-loop
 μ-loop facts m line vars states₀ v₀ states v = vars - v
 
-add-line : tie.Need-add-line Inv-loop μ-loop
-add-line c =
-    let args = c .before .before .args in
-    let pre = c .before .before .pre in
-    omega (arith, head-clean (headed (args .c) (args .facts .now)) (pre .0) .ops)
+-- ---- what is handed in, at the loop
 
-add-line-2 : tie.Need-add-line-2 Inv-loop μ-loop
-add-line-2 c =
-    let args = c .before .before .args in
-    let pre = c .before .before .pre in
-    omega (arith, head-clean (headed (args .c) (args .facts .now)) (pre .0) .ops)
+abbrev At : Type 0
+At = tie.At-loop Inv-loop μ-loop
 
-loop-holds : tie.Need-loop-holds Inv-loop μ-loop
-loop-holds c =
-    let args = c .before .before .args in
-    (omega arith, walk-none (rule (args .facts .now) (args .m) (lineOfMap (args .c .ops) (args .m))), refl, omega arith)
+abbrev facts : At → List ℕ
+facts l = l .before .before .before .args .facts .now
 
-class-row-requires : tie.Need-class-row-requires Inv-loop μ-loop
-class-row-requires c κs =
-    let args = c .before .before .before .before .before .args in
-    let pre = c .before .before .before .before .before .pre in
-    (omega arith, omega (arith, head-clean (headed (args .c) (args .facts .now)) (pre .0) .vars))
+abbrev map : At → ℕ
+map l = l .before .before .before .args .m
+
+abbrev task : At → Task
+task l = taskOf (tables (l .before .before .before .args .c) (facts l) [] [])
+
+abbrev rule : At → ℕ → Found
+rule l = ruleOf (facts l) (map l) (l .before .map-line .result)
+
+head : (l : At) → headFault (task l) ≡ Clean
+head l = l .before .before .before .pre .0
+
+-- ---- what is found in a variable's row, and that a fault of it is the map's
+
+abbrev at : tie.After-classes-of Inv-loop μ-loop → At
+at x = x .before .before .before .before
+
+told : (x : tie.After-classes-of Inv-loop μ-loop) {k : Classes} → x .classes-of .result ≡ k → rule (at x) (at x .loop .v) ≡ faultIn k (at x .before .map-line .result)
+told x p = found-fault (facts (at x)) (x .classes-of .ensures) (x .before .class-row .ensures) (x .before .before .word-of .ensures) (at x .before .map-line .result) p
+
+stops : (x : tie.After-classes-of Inv-loop μ-loop) (r : Refusal) → rule (at x) (at x .loop .v) ≡ Fault r → Fault r ≡ mapFault (task (at x)) (map (at x))
+unfolding classesFault
+stops x r p =
+    let l = at x in
+    classes-decide (task l) (map l) (l .before .map-line .ensures) r
+    (walk-here (rule l) (task l .sas .vars) (l .loop .v) r (l .loop .inv .1) (x .before .before .before .loop-test .taken) p)
+
+count : (c : tie.After-known-told Inv-loop μ-loop)
+    → let l = at (c .before .before .before) in
+    let k = c .before .found .given .0 .0 in
+    (k ≡ counts (facts l) (map l) (l .loop .v)) × (k ≤ mostValues)
+count c =
+    let x = c .before .before .before in
+    let l = at x in
+    let q = found-count (facts l) (x .classes-of .ensures) (x .before .class-row .ensures) (x .before .before .word-of .ensures) (c .before .found .given .0 .0) (c .before .found .given .1) in
+    (q .0, omega (arith, q .1, few-values (task l) (head l) (l .loop .v) (x .before .before .before .loop-test .taken)))
+
+-- where the walk has ended, all variables are clean and their counts multiply to the map's states
+ended : (c : tie.After-loop Inv-loop μ-loop)
+    → unless (leb (c .before .loop .states) mostStates) (TooManyStates (c .before .before .map-line .result)) ≡ mapFault (task (c .before)) (map (c .before))
+unfolding classesFault
+ended c =
+    let l = c .before in
+    let all : l .loop .v ≡ task l .sas .vars = omega arith in
+    states-decide (task l) (map l) (l .before .map-line .ensures) (walk-end (rule l) (task l .sas .vars) (l .loop .v) (l .loop .inv .1) (omega arith) (omega arith))
+    (l .loop .inv .2 ∙ ap (size (counts (facts l) (map l))) all)
+
+-- ---- the needs
 
 classes-of-requires : tie.Need-classes-of-requires Inv-loop μ-loop
 classes-of-requires c κs =
-    let word-of = c .before .word-of in
-    let args = c .before .before .before .before .before .before .args in
-    let pre = c .before .before .before .before .before .before .pre in
-    let run = c .before .before .before .loop in
-    let loop-test = c .before .before .loop-test in
-    omega (arith, word-of .ensures, head-clean (headed (args .c) (args .facts .now)) (pre .0) .doms (run .v) (loop-test .taken))
+    let l = c .before .before .before in
+    omega (arith, c .before .word-of .ensures, few-values (task l) (head l) (l .loop .v) (c .before .before .loop-test .taken))
 
 mul-states : tie.Need-mul-states Inv-loop μ-loop
 mul-states c =
-    let args = c .before .before .before .before .before .before .before .before .before .before .args in
-    let pre = c .before .before .before .before .before .before .before .before .before .before .pre in
-    let classes-of = c .before .before .before .classes-of in
-    let class-row = c .before .before .before .before .class-row in
-    let word-of = c .before .before .before .before .before .word-of in
-    let found = c .before .found in
-    let run = c .before .before .before .before .before .before .before .loop in
-    let loop-test = c .before .before .before .before .before .before .loop-test in
-    let head = head-clean (headed (args .c) (args .facts .now)) (pre .0) in
-    let count = found-count (args .facts .now) (classes-of .ensures) (class-row .ensures) (word-of .ensures) (found .given .0 .0) (found .given .1) in
-    let small : found .given .0 .0 ≤ 8 = omega (arith, count .1, head .doms (run .v) (loop-test .taken)) in
-    omega (arith, product-fits (run .states) (found .given .0 .0) (run .v) (run .inv .3) small (omega (arith, head .vars)))
-
-enum-told : tie.Need-enum-told Inv-loop μ-loop
-enum-told c = search needs
+    let l = at (c .before .before .before) in
+    omega (arith, product-fits (l .loop .states) (c .before .found .given .0 .0) (l .loop .v) (l .loop .inv .3) (count c .1) (omega (arith, few-vars (task l) (head l))))
 
 returns : tie.Need-returns Inv-loop μ-loop
-unfolding mapFault classesFault
-returns c =
-    let args = c .before .before .before .before .before .before .before .before .before .args in
-    let classes-of = c .before .before .classes-of in
-    let class-row = c .before .before .before .class-row in
-    let word-of = c .before .before .before .before .word-of in
-    let enum-told = c .enum-told in
-    let run = c .before .before .before .before .before .before .loop in
-    let loop-test = c .before .before .before .before .before .loop-test in
-    let line : ℕ = lineOfMap (args .c .ops) (args .m) in
-    let here = found-fault (args .facts .now) (classes-of .ensures) (class-row .ensures) (word-of .ensures) line (enum-told .given .1) in
-    sym (rw (walk-here (rule (args .facts .now) (args .m) line) (args .c .vars) (run .v) (ClassMissing line) (run .inv .1) (loop-test .taken) here))
+returns c = let x = c .before .before in stops x (ClassMissing (at x .before .map-line .result)) (told x (c .enum-told .given .1))
 
 returns-2 : tie.Need-returns-2 Inv-loop μ-loop
-unfolding mapFault classesFault
-returns-2 c =
-    let args = c .before .before .before .before .before .before .before .before .before .args in
-    let classes-of = c .before .before .classes-of in
-    let class-row = c .before .before .before .class-row in
-    let word-of = c .before .before .before .before .word-of in
-    let enum-told2 = c .enum-told2 in
-    let run = c .before .before .before .before .before .before .loop in
-    let loop-test = c .before .before .before .before .before .loop-test in
-    let line : ℕ = lineOfMap (args .c .ops) (args .m) in
-    let here = found-fault (args .facts .now) (classes-of .ensures) (class-row .ensures) (word-of .ensures) line (enum-told2 .given .1) in
-    sym (rw (walk-here (rule (args .facts .now) (args .m) line) (args .c .vars) (run .v) (OutOfRange line) (run .inv .1) (loop-test .taken) here))
+returns-2 c = let x = c .before .before in stops x (OutOfRange (at x .before .map-line .result)) (told x (c .enum-told2 .given .1))
 
 loop-again : tie.Need-loop-again Inv-loop μ-loop
 loop-again c =
-    let args = c .before .before .before .before .before .before .before .before .before .before .args in
-    let pre = c .before .before .before .before .before .before .before .before .before .before .pre in
-    let classes-of = c .before .before .before .classes-of in
-    let class-row = c .before .before .before .before .class-row in
-    let word-of = c .before .before .before .before .before .word-of in
-    let found = c .before .found in
-    let run = c .before .before .before .before .before .before .before .loop in
-    let loop-test = c .before .before .before .before .before .before .loop-test in
-    let head = head-clean (headed (args .c) (args .facts .now)) (pre .0) in
-    let count = found-count (args .facts .now) (classes-of .ensures) (class-row .ensures) (word-of .ensures) (found .given .0 .0) (found .given .1) in
-    let small : found .given .0 .0 ≤ 8 = omega (arith, count .1, head .doms (run .v) (loop-test .taken)) in
-    let line : ℕ = lineOfMap (args .c .ops) (args .m) in
-    let here = found-fault (args .facts .now) (classes-of .ensures) (class-row .ensures) (word-of .ensures) line (found .given .1) in
-    (omega arith, walk-more (rule (args .facts .now) (args .m) line) (run .v) (run .inv .1) here, rw add-one (ap₂ _*_ (run .inv .2) (count .0)), product-more (run .states) (found .given .0 .0) (run .v) (run .inv .3) small)
+    let x = c .before .before .before in
+    let run = at x .loop in (
+      omega arith,
+      walk-more (rule (at x)) (run .v) (run .inv .1) (told x (c .before .found .given .1)),
+      rw add-one (ap₂ _*_ (run .inv .2) (count c .0)),
+      product-more (run .states) (c .before .found .given .0 .0) (run .v) (run .inv .3) (count c .1),
+    )
 
 returns-3 : tie.Need-returns-3 Inv-loop μ-loop
-unfolding mapFault classesFault
-returns-3 c =
-    let run = c .before .before .loop in
-    let args = c .before .before .before .before .before .args in
-    let if1 = c .if1 in
-    let all : run .v ≡ args .c .vars = omega arith in
-    let total : run .states ≡ size (counts (args .facts .now) (args .m)) (args .c .vars) = run .inv .2 ∙ ap (size (counts (args .facts .now) (args .m))) all in
-    sym (rw (walk-end (rule (args .facts .now) (args .m) (lineOfMap (args .c .ops) (args .m))) (args .c .vars) (run .v) (run .inv .1) (omega arith) (omega arith), ← total, lt-leb (run .states) 4096 (if1 .taken)))
+returns-3 c = rw (lt-leb (c .before .before .loop .states) mostStates (c .if1 .taken)) at (ended (c .before))
 
 returns-4 : tie.Need-returns-4 Inv-loop μ-loop
-unfolding mapFault classesFault
-returns-4 c =
-    let run = c .before .before .loop in
-    let args = c .before .before .before .before .before .args in
-    let if1 = c .if1 in
-    let all : run .v ≡ args .c .vars = omega arith in
-    let total : run .states ≡ size (counts (args .facts .now) (args .m)) (args .c .vars) = run .inv .2 ∙ ap (size (counts (args .facts .now) (args .m))) all in
-    sym (rw (walk-end (rule (args .facts .now) (args .m) (lineOfMap (args .c .ops) (args .m))) (args .c .vars) (run .v) (run .inv .1) (omega arith) (omega arith), ← total, le-leb (run .states) 4096 (if1 .left)))
+returns-4 c = rw (le-leb (c .before .before .loop .states) mostStates (c .if1 .left)) at (ended (c .before))
 
 pub map-fault-spec : {M : Type 1} → statement M
 map-fault-spec =
@@ -158,15 +133,14 @@ map-fault-spec =
     (tie.spec
     Inv-loop
     μ-loop
-    add-line
-    add-line-2
-    loop-holds
+    (λ c κs. (few-ops (taskOf (tables (c .before .args .c) (c .before .args .facts .now) [] [])) (c .before .pre .0), omega arith))
+    (λ c. (omega arith, walk-none (ruleOf (c .before .before .args .facts .now) (c .before .before .args .m) (c .map-line .result)), refl, omega arith))
     (λ c κs. search needs)
-    class-row-requires
+    (λ c κs. (omega arith, omega (arith, few-vars (task (c .before .before)) (head (c .before .before)))))
     classes-of-requires
     (λ c. search needs)
     mul-states
-    enum-told
+    (λ c. search needs)
     returns
     (λ c. search needs)
     returns-2

@@ -1,4 +1,4 @@
--- `scan::share_total` meets its contract: the total is the sum over the maps passed so far, each at most the largest word. Assumes nothing.
+-- `share_total` meets its contract: the total is the sum over the maps passed so far, each at most the largest word. Assumes nothing.
 use Prim.Native.Nat.{ℕ, _+_, _*_, _≤_, _-_}
 use mathlib.Core.Path.{_≡_, refl, ap, ap₂, _∙_}
 use mathlib.Core.List.{List}

@@ -1,10 +1,10 @@
--- `scan::state_fault` meets its contract: the state is long enough, and the values passed so far are inside. Assumes nothing.
+-- `state_fault` meets its contract: the state is long enough, and the values passed so far are inside. Assumes nothing.
 use Prim.Native.Nat.{ℕ, _≤_, _-_}
-use mathlib.Core.Path.{_≡_, sym}
-use mathlib.Core.Bool.{Bool, true, false}
+use mathlib.Core.Path.{_≡_, sym, _∙_}
+use mathlib.Core.Bool.{Bool, true}
 use mathlib.Core.List.{List}
 use native.Mathlib.Omega.{arith}
-use lib.Dec.{ltb}
+use lib.Dec.{leb, ltb}
 use lib.ListN.{length, getD}
 use borrow.Author.Needs.{needs}
 use borrow.Author.Tests.{lt-leb, le-leb, not-true, not-false}
@@ -25,47 +25,40 @@ Inv-loop facts s vars v₀ v = (v ≤ vars) × (each (tests (inside facts s) Val
 abbrev μ-loop : tie.MeasureT-loop
 μ-loop facts s vars v₀ v = vars - v
 
+-- at the loop: the test of a value, and that there is a place a variable; and what a turn is told
+abbrev At : Type 0
+At = tie.At-loop Inv-loop μ-loop
+
+abbrev test : At → ℕ → Bool
+test l = let a = l .before .before .before .before .args in inside (a .facts .now) (a .s .now)
+
+long : (l : At) → let a = l .before .before .before .before .args in leb (a .c .vars) (length (a .s .now)) ≡ true
+long l = let a = l .before .before .before .before .args in le-leb (a .c .vars) (length (a .s .now)) (l .before .if1 .left)
+
+told : (x : tie.After-value-fits Inv-loop μ-loop) → let l = x .before .before .before in test l (l .loop .v) ≡ x .value-fits .result
+told x = cc (x .value-fits .ensures, x .before .byte-at .ensures)
+
 returns : tie.Need-returns Inv-loop μ-loop
 unfolding stateFault
-returns c =
-    let args = c .before .before .before .args in
-    let if1 = c .if1 in
-    sym (rw (lt-leb (args .c .vars) (length (args .s .now)) (if1 .taken)))
-
-loop-holds : tie.Need-loop-holds Inv-loop μ-loop
-loop-holds c =
-    let args = c .before .before .before .args in
-    (omega arith, walk-none (tests (inside (args .facts .now) (args .s .now)) ValueOutside))
+returns c = let a = c .before .before .before .args in sym (rw (lt-leb (a .c .vars) (length (a .s .now)) (c .if1 .taken)))
 
 returns-2 : tie.Need-returns-2 Inv-loop μ-loop
 unfolding stateFault
 returns-2 c =
-    let args = c .before .before .before .before .before .before .before .before .args in
-    let run = c .before .before .before .before .loop in
-    let value-fits = c .before .value-fits in
-    let byte-at = c .before .before .byte-at in
-    let if2 = c .if2 in
-    let if1 = c .before .before .before .before .before .if1 in
-    let out : inside (args .facts .now) (args .s .now) (run .v) ≡ false = cc (value-fits .ensures, byte-at .ensures, not-true (value-fits .result) (if2 .taken)) in
-    sym (rw (le-leb (args .c .vars) (length (args .s .now)) (if1 .left), tests-here (inside (args .facts .now) (args .s .now)) ValueOutside (args .c .vars) (run .v) (run .inv .1) (omega arith) out))
+    let l = c .before .before .before .before in
+    let out = told (c .before) ∙ not-true (c .before .value-fits .result) (c .if2 .taken) in
+    sym (rw (long l, tests-here (test l) ValueOutside (l .before .before .before .before .args .c .vars) (l .loop .v) (l .loop .inv .1) (omega arith) out))
 
 loop-again : tie.Need-loop-again Inv-loop μ-loop
 loop-again c =
-    let args = c .before .before .before .before .before .before .before .before .args in
-    let run = c .before .before .before .before .loop in
-    let value-fits = c .before .value-fits in
-    let byte-at = c .before .before .byte-at in
-    let if2 = c .if2 in
-    let held : inside (args .facts .now) (args .s .now) (run .v) ≡ true = cc (value-fits .ensures, byte-at .ensures, not-false (value-fits .result) (if2 .left)) in
-    (omega arith, tests-more (inside (args .facts .now) (args .s .now)) ValueOutside (run .v) (run .inv .1) held)
+    let l = c .before .before .before .before in
+    (omega arith, tests-more (test l) ValueOutside (l .loop .v) (l .loop .inv .1) (told (c .before) ∙ not-false (c .before .value-fits .result) (c .if2 .left)))
 
 returns-3 : tie.Need-returns-3 Inv-loop μ-loop
 unfolding stateFault
 returns-3 c =
-    let args = c .before .before .before .before .before .args in
-    let if1 = c .before .before .if1 in
-    let run = c .before .loop in
-    sym (rw (le-leb (args .c .vars) (length (args .s .now)) (if1 .left), walk-end (tests (inside (args .facts .now) (args .s .now)) ValueOutside) (args .c .vars) (run .v) (run .inv .1) (omega arith) (omega arith)))
+    let l = c .before in
+    sym (rw (long l, walk-end (tests (test l) ValueOutside) (l .before .before .before .before .args .c .vars) (l .loop .v) (l .loop .inv .1) (omega arith) (omega arith)))
 
 pub state-fault-spec : {M : Type 1} → statement M
 state-fault-spec =
@@ -75,7 +68,7 @@ state-fault-spec =
     μ-loop
     (λ c. search needs)
     returns
-    loop-holds
+    (λ c. let a = c .before .before .before .args in (omega arith, walk-none (tests (inside (a .facts .now) (a .s .now)) ValueOutside)))
     (λ c. search needs)
     (λ c κs. search needs)
     (λ c κs. search needs)

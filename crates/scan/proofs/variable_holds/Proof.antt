@@ -1,38 +1,31 @@
--- `scan::variable_holds` meets its contract. Assumes nothing.
+-- `variable_holds` meets its contract: which line it is decides what is tested. Assumes nothing.
 use mathlib.Core.Path.{ap, _∙_}
 use Prim.Native.Nat.{ℕ}
 use lib.Dec.{ltb}
 use borrow.Author.Needs.{needs}
 use borrow.Author.Tests.{eq-eqb, ne-eqb}
+use Rattle.meaning.specs.Limits.{mostValues}
 use Rattle.tables.specs.Layout.{domAt}
+use Rattle.tables.specs.Lines.{lineOfDom, lineOfInit}
 use Rattle.scan.specs.Scan.{within}
 use Rattle.scan.proofs.variable_holds.Statement.{statement}
 use Rattle.scan.proofs.variable_holds.Tie as tie
 
 returns : tie.Need-returns
 returns c =
-    let args = c .before .before .before .before .args in
-    let if1 = c .before .before .if1 in
-    let lies-within = c .lies-within in
-    let word-of = c .before .word-of in
-    rw (eq-eqb (args .line) 3 (if1 .taken)) (lies-within .ensures ∙ ap (within 1 8) (word-of .ensures))
+    let line = c .before .before .before .before .args .line in
+    rw (eq-eqb line lineOfDom (c .before .before .if1 .taken)) (c .lies-within .ensures ∙ ap (within 1 mostValues) (c .before .word-of .ensures))
 
 returns-2 : tie.Need-returns-2
 returns-2 c =
-    let args = c .before .before .before .before .before .args in
-    let if1 = c .before .before .before .if1 in
-    let if2 = c .before .before .if2 in
-    let value-fits = c .value-fits in
-    let row-at = c .before .row-at in
-    rw (ne-eqb (args .line) 3 (if1 .left), eq-eqb (args .line) 4 (if2 .taken)) (value-fits .ensures ∙ ap (λ (x : ℕ). ltb x (domAt (args .facts .now) (args .v))) (row-at .ensures))
+    let a = c .before .before .before .before .before .args in
+    rw (ne-eqb (a .line) lineOfDom (c .before .before .before .if1 .left), eq-eqb (a .line) lineOfInit (c .before .before .if2 .taken))
+    (c .value-fits .ensures ∙ ap (λ (x : ℕ). ltb x (domAt (a .facts .now) (a .v))) (c .before .row-at .ensures))
 
 returns-3 : tie.Need-returns-3
 returns-3 c =
-    let args = c .before .before .before .before .args in
-    let if1 = c .before .before .if1 in
-    let if2 = c .before .if2 in
-    let fact-fits = c .fact-fits in
-    rw (ne-eqb (args .line) 3 (if1 .left), ne-eqb (args .line) 4 (if2 .left)) (fact-fits .ensures)
+    let line = c .before .before .before .before .args .line in
+    rw (ne-eqb line lineOfDom (c .before .before .if1 .left), ne-eqb line lineOfInit (c .before .if2 .left)) (c .fact-fits .ensures)
 
 pub variable-holds-spec : {M : Type 1} → statement M
 variable-holds-spec =

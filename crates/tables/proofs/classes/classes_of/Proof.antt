@@ -1,4 +1,5 @@
--- `classes::classes_of` meets its contract. Assumes nothing.
+-- `classes::classes_of` meets its contract: what the mask says of the classes, by `width-counts` and `width-misses`. Assumes nothing.
+use Prim.Native.Nat.{ℕ}
 use mathlib.Core.Path.{sym, ap, _∙_}
 use native.Mathlib.Omega.{arith}
 use borrow.Author.Needs.{needs}
@@ -8,33 +9,29 @@ use Rattle.tables.proofs.ClassRows.{beyond-outside, width-counts, width
 use Rattle.tables.proofs.classes.classes_of.Statement.{statement}
 use Rattle.tables.proofs.classes.classes_of.Tie as tie
 
-enum-told : tie.Need-enum-told
-enum-told c = search needs
+-- the row's classes; and what the mask of them is found to be
+abbrev class : tie.After-mask-of → ℕ → ℕ
+class x = let a = x .before .before .args in rowAt (a .facts .now) (a .row)
 
 returns : tie.Need-returns
 returns c =
-    let args = c .before .before .before .before .args in
-    let mask-of = c .before .before .mask-of in
-    let enum-told = c .enum-told in
-    beyond-outside (rowAt (args .facts .now) (args .row)) (args .dom) (sym (mask-of .ensures) ∙ enum-told .given .1)
+    let x = c .before .before in
+    beyond-outside (class x) (x .before .before .args .dom) (sym (x .mask-of .ensures) ∙ c .enum-told .given .1)
 
 returns-2 : tie.Need-returns-2
 returns-2 c =
+    let y = c .before .before .before in
+    let x = y .before .before in
     let width = c .before .width in
-    let args = c .before .before .before .before .before .before .before .args in
-    let found = c .before .before .before .found in
-    let mask-of = c .before .before .before .before .before .mask-of in
-    let if1 = c .if1 in
-    ap Count (width .ensures) ∙ width-counts (rowAt (args .facts .now) (args .row)) (args .dom) 32 (found .given .0 .0) (omega arith) (sym (mask-of .ensures) ∙ found .given .1) (sym (width .ensures) ∙ if1 .taken)
+    let bits = sym (x .mask-of .ensures) ∙ y .found .given .1 in
+    ap Count (width .ensures) ∙ width-counts (class x) (x .before .before .args .dom) 32 (y .found .given .0 .0) (omega arith) bits (sym (width .ensures) ∙ c .if1 .taken)
 
 returns-3 : tie.Need-returns-3
 returns-3 c =
-    let args = c .before .before .before .before .before .before .before .args in
-    let found = c .before .before .before .found in
-    let mask-of = c .before .before .before .before .before .mask-of in
-    let if1 = c .if1 in
-    let width = c .before .width in
-    width-misses (rowAt (args .facts .now) (args .row)) (args .dom) 32 (found .given .0 .0) (omega arith) (sym (mask-of .ensures) ∙ found .given .1) (λ e. if1 .left (width .ensures ∙ e))
+    let y = c .before .before .before in
+    let x = y .before .before in
+    let bits = sym (x .mask-of .ensures) ∙ y .found .given .1 in
+    width-misses (class x) (x .before .before .args .dom) 32 (y .found .given .0 .0) (omega arith) bits (λ e. c .if1 .left (c .before .width .ensures ∙ e))
 
 pub classes-of-spec : {M : Type 1} → statement M
 classes-of-spec =
@@ -42,7 +39,7 @@ classes-of-spec =
     (tie.spec
     (λ c κs. search needs)
     (λ c. search needs)
-    enum-told
+    (λ c. search needs)
     returns
     (λ c κs. search needs)
     returns-2

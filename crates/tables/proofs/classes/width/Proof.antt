@@ -1,15 +1,10 @@
--- `classes::width` meets its contract. Assumes nothing.
+-- `classes::width` meets its contract: there are at most 32 leading zeros. Assumes nothing.
 use lib.Count.{leading-le}
 use borrow.Author.Needs.{needs}
 use Rattle.tables.proofs.classes.width.Statement.{statement}
 use Rattle.tables.proofs.classes.width.Tie as tie
 
-sub-result : tie.Need-sub-result
-sub-result c =
-    let args = c .args in
-    leading-le 32 (args .mask)
-
 pub width-spec : {M : Type 1} → statement M
 width-spec = tie.close (tie.spec
-    sub-result
+    (λ c. leading-le 32 (c .args .mask))
     (λ c. search needs))

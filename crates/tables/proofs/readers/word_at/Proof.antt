@@ -1,4 +1,4 @@
--- `readers::word_at` meets its contract. Assumes nothing.
+-- `readers::word_at` meets its contract: past the end the default is read. Assumes nothing.
 use mathlib.Core.Path.{sym}
 use lib.ListN.{List·getD-eq-default}
 use borrow.Author.Needs.{needs}

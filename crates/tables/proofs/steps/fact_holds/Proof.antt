@@ -1,4 +1,4 @@
--- `steps::fact_holds` meets its contract. Assumes nothing.
+-- `steps::fact_holds` meets its contract: a fact that says something is one more than its value. Assumes nothing.
 use Rattle.tables.proofs.Laws.{holds-said}
 use borrow.Author.Needs.{needs}
 use Rattle.tables.proofs.steps.fact_holds.Statement.{statement}

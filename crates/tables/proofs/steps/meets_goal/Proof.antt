@@ -1,4 +1,4 @@
--- `steps::meets_goal` meets its contract. Assumes nothing.
+-- `steps::meets_goal` meets its contract: the row of the goal holds. Assumes nothing.
 use Rattle.tables.specs.Steps.{meetsGoal}
 use borrow.Author.Needs.{needs}
 use Rattle.tables.proofs.steps.meets_goal.Statement.{statement}

@@ -1,4 +1,4 @@
--- `steps::state_after` meets its contract. Assumes nothing.
+-- `steps::state_after` meets its contract: the variables passed so far have their values after the effects, the others as before. Assumes nothing.
 use Prim.Native.Nat.{ℕ, _≤_, _-_}
 use mathlib.Core.Path.{_≡_, refl, _∙_, ap, ap₂}
 use native.Mathlib.Omega.{arith}
@@ -19,12 +19,25 @@ loop-holds : tie.Need-loop-holds Inv-loop μ-loop
 unfolding overwritten
 loop-holds c = (omega arith, refl)
 
+-- what each variable is after the effects, at the loop
+abbrev effect : tie.At-loop Inv-loop μ-loop → ℕ → ℕ
+effect l = let a = l .before .before .before .before .args in valueAfter (a .facts .now) (l .before .eff-row .result) (a .s)
+
 loop-again : tie.Need-loop-again Inv-loop μ-loop
-loop-again c = (omega arith, filled-next (valueAfter (c .before .before .before .before .before .before .before .args .facts .now) (c .before .before .before .before .eff-row .result) (c .before .before .before .before .before .before .before .args .s)) (c .before .before .before .before .before .before .before .args .s) (c .before .before .before .loop .t) (c .before .before .before .loop .v) (c .value-after .result) (c .before .before .before .loop .inv .1) (c .value-after .ensures ∙ ap₂ put (c .before .row-at .ensures) (filled-still (valueAfter (c .before .before .before .before .before .before .before .args .facts .now) (c .before .before .before .before .eff-row .result) (c .before .before .before .before .before .before .before .args .s)) (c .before .before .before .before .before .before .before .args .s) (c .before .before .before .loop .t) (c .before .before .before .loop .v) (c .before .before .before .loop .inv .1))))
+loop-again c =
+    let l = c .before .before .before in
+    let s = l .before .before .before .before .args .s in
+    let run = l .loop in
+    let still = filled-still (effect l) s (run .t) (run .v) (run .inv .1) in
+    (omega arith, filled-next (effect l) s (run .t) (run .v) (c .value-after .result) (run .inv .1) (c .value-after .ensures ∙ ap₂ put (c .before .row-at .ensures) still))
 
 returns : tie.Need-returns Inv-loop μ-loop
 unfolding stepped
-returns c = filled-end (valueAfter (c .before .before .before .before .before .args .facts .now) (c .before .before .eff-row .result) (c .before .before .before .before .before .args .s)) (c .before .before .before .before .before .args .s) (c .before .loop .t) (c .before .before .before .before .before .args .c .vars) (c .before .loop .v) (c .before .loop .inv .1) (omega arith) (omega arith) ∙ ap (λ (r : ℕ). overwritten (valueAfter (c .before .before .before .before .before .args .facts .now) r (c .before .before .before .before .before .args .s)) (c .before .before .before .before .before .args .s) (c .before .before .before .before .before .args .c .vars)) (c .before .before .eff-row .ensures)
+returns c =
+    let l = c .before in
+    let a = l .before .before .before .before .args in
+    filled-end (effect l) (a .s) (l .loop .t) (a .c .vars) (l .loop .v) (l .loop .inv .1) (omega arith) (omega arith)
+    ∙ ap (λ (r : ℕ). overwritten (valueAfter (a .facts .now) r (a .s)) (a .s) (a .c .vars)) (l .before .eff-row .ensures)
 
 pub state-after-spec : {M : Type 1} → statement M
 state-after-spec =

@@ -1,4 +1,4 @@
--- `steps::value_after` meets its contract. Assumes nothing.
+-- `steps::value_after` meets its contract: a fact that says something is one more than its value. Assumes nothing.
 use Rattle.tables.proofs.Laws.{put-said}
 use borrow.Author.Needs.{needs}
 use Rattle.tables.proofs.steps.value_after.Statement.{statement}

@@ -1,0 +1,60 @@
+-- The first fault of an operator's line, and of the lines of operators and maps: which part decides. Assumes nothing.
+use Prim.Native.Nat.{ℕ, _≤_, _<_}
+use mathlib.Core.Path.{_≡_, sym, _∙_}
+use mathlib.Core.Bool.{true, false, _&&_}
+use lib.Dec.{leb}
+use borrow.Author.Tests.{lt-leb, le-leb}
+use Rattle.refusals.specs.declared.Refusal.{Refusal}
+use Rattle.refusals.specs.declared.Refusal.the-variants.{OutOfRange, TooManyStates}
+use Rattle.meaning.specs.Limits.{mostCost, mostMaps, mostStates}
+use Rattle.meaning.specs.Views.{abstractStates}
+use Rattle.meaning.specs.Split.{Task, view}
+use Rattle.scan.specs.declared.Found.{Found}
+use Rattle.scan.specs.declared.Found.the-variants.{Clean, Fault}
+use Rattle.scan.specs.Scan.{unless, each, within, factsFault, operatorFault, classesFault, mapFault}
+use Rattle.scan.specs.Inside.Parts.{linesFault}
+use Rattle.scan.proofs.Walks.{tests, one-walk, walk-here}
+use Rattle.tables.specs.Lines.{lineOfOp, lineOfMaps, lineOfMap}
+
+module _ (T : Task) where
+  -- ---- an operator's line: its cost, then its facts
+
+  pub cost-decides : (o : ℕ) → mostCost < T .sas .cost o → operatorFault T o ≡ Fault (OutOfRange (lineOfOp o))
+  unfolding operatorFault
+  cost-decides o h = rw (lt-leb (T .sas .cost o) mostCost h)
+
+  pub facts-decide : (o : ℕ) (r : Found) → T .sas .cost o ≤ mostCost
+      → each (tests (λ v. leb (T .sas .pre o v) (T .sas .dom v) && leb (T .sas .eff o v) (T .sas .dom v)) (λ v. OutOfRange (lineOfOp o))) (T .sas .vars) 0 ≡ r
+      → operatorFault T o ≡ r
+  unfolding operatorFault factsFault
+  facts-decide o r h p =
+      rw (le-leb (T .sas .cost o) mostCost h)
+      (one-walk (λ v. leb (T .sas .pre o v) (T .sas .dom v)) (λ v. leb (T .sas .eff o v) (T .sas .dom v)) (OutOfRange (lineOfOp o)) (T .sas .vars) ∙ p)
+
+  -- ---- a map's line: its variables, then how many abstract states
+
+  module _ (m : ℕ) {line : ℕ} (at : line ≡ lineOfMap (T .sas .ops) m) where
+    pub classes-decide : (r : Refusal) → each (classesFault T m line) (T .sas .vars) 0 ≡ Fault r → Fault r ≡ mapFault T m
+    unfolding mapFault
+    classes-decide r p = sym (rw (← at, p))
+
+    pub states-decide : {n : ℕ} → each (classesFault T m line) (T .sas .vars) 0 ≡ Clean → n ≡ abstractStates (T .sas) (view T m)
+        → unless (leb n mostStates) (TooManyStates line) ≡ mapFault T m
+    unfolding mapFault
+    states-decide p q = sym (rw (← at, p, ← q))
+
+  -- ---- the lines: the operators, how many maps, the maps
+
+  -- the first faulty operator
+  pub operator-decides : (o : ℕ) (r : Refusal) → each (operatorFault T) o 0 ≡ Clean → o < T .sas .ops → operatorFault T o ≡ Fault r → linesFault T ≡ Fault r
+  unfolding linesFault
+  operator-decides o r p l h = rw (walk-here (operatorFault T) (T .sas .ops) o r p l h)
+
+  module _ (operators : each (operatorFault T) (T .sas .ops) 0 ≡ Clean) where
+    pub count-decides : within 1 mostMaps (T .maps) ≡ false → linesFault T ≡ Fault (OutOfRange (lineOfMaps (T .sas .ops)))
+    unfolding linesFault
+    count-decides q = rw (operators, q)
+
+    pub maps-decide : (r : Found) → within 1 mostMaps (T .maps) ≡ true → each (mapFault T) (T .maps) 0 ≡ r → linesFault T ≡ r
+    unfolding linesFault
+    maps-decide r q s = rw (operators, q, s)
