@@ -18,7 +18,8 @@ use Rattle.meaning.specs.Limits.{mostStates}
 use Rattle.tables.specs.declared.Counts.{Counts}
 use Rattle.tables.specs.Layout.{Tables, factsRoom, classPlace, domPlace, domAt, classAt}
 use Rattle.tables.specs.Task.{sasOf, taskOf}
-use Rattle.tables.specs.Classes.{maskOf, noneMissing}
+use Rattle.tables.specs.Classes.{noneMissing}
+use Rattle.tables.specs.Inside.Masks.{maskOf}
 use Rattle.tables.proofs.Masks.{mask-width, mask-whole}
 use Rattle.text.specs.declared.Ctrl.{Ctrl}
 use Rattle.text.specs.declared.Halt.the-variants.{Going, Missing, States}
