@@ -128,7 +128,8 @@ module _ (l f g r : ℕ) (n : Counts) (place : ℕ → ℕ) (x : ℕ) (d : Ctrl)
       → (z v : ℕ) (u : List ℕ) → (z ≡ 0 → ⊥) → Stop u → Bytes u → fits v (getD leasts f 0) (limit (num l f 0 m 0 r 0 1 n) w) ≡ true → v < n .vars
       → (j : Bool) → leb m v ≡ j
       → reading (withDigit (num l f 0 m 0 r 0 1 n) z v) w u
-      ≡ demand (leb m v) NotRising u l (tablesOf n w) (λ u₁ l₁ T. lit (colon ∷ []) u₁ l₁ T (λ u₂ l₂ T₂. numeral 0 (domAt (tablesOf n w .facts) v) (λ y. keep (putFact (place v) (y + 1)) ▸ choice comma (factsFrom place N (v + 1)) nothing) u₂ l₂ T₂ ends))
+      ≡ demand (leb m v) NotRising u l (tablesOf n w) (λ u₁ l₁ T. lit (colon ∷ []) u₁ l₁ T
+      (λ u₂ l₂ T₂. numeral 0 (domAt (tablesOf n w .facts) v) (λ y. keep (putFact (place v) (y + 1)) ▸ choice comma (factsFrom place N (v + 1)) nothing) u₂ l₂ T₂ ends))
   unfolding demand
   variable-ok N m w p again z v u y o b s i true j =
       rw j

@@ -227,8 +227,10 @@ module _ (l r v : ℕ) (n : Counts) (sized : Fits n) (hr : r < 8) (hv : v < n .v
       then-mark (num l 13 v 0 i r (maskOf (cls n w r v) i) p n) w z x comma (num l 13 v 0 (i + 1) r (maskOf (cls n w₁ r v) (i + 1)) p n) (tablesOf n w₁) rest (λ f. omega arith) y
       (none-yet l v i r (maskOf (cls n w r v) i) p n z x w y s (omega arith) (omega arith))
       (λ c. class-more l v i r (maskOf (cls n w r v) i) p n z x c w (omega arith) (omega arith)
-      ∙ ap (λ (c₁ : ℕ). mark (noted (withDigit (num l 13 v 0 i r (maskOf (cls n w r v) i) p n) z x)) c comma (num l 13 v 0 (i + 1) r c₁ p n)) (mask-goes n sized r v i x p hr hv w g (omega arith) (j .1)))
-      (classes-ok m (i + 1) w₁ (next-at n sized r v i x p hr hv w g (omega arith) (j .1)) (let f : domIn w₁ v ≡ domIn w v = dom-same n sized r v i x p hr hv w g (omega arith) (j .1) in omega arith)) o b
+      ∙ ap (λ (c₁ : ℕ). mark (noted (withDigit (num l 13 v 0 i r (maskOf (cls n w r v) i) p n) z x)) c comma (num l 13 v 0 (i + 1) r c₁ p n))
+      (mask-goes n sized r v i x p hr hv w g (omega arith) (j .1)))
+      (classes-ok m (i + 1) w₁ (next-at n sized r v i x p hr hv w g (omega arith) (j .1))
+      (let f : domIn w₁ v ≡ domIn w v = dom-same n sized r v i x p hr hv w g (omega arith) (j .1) in omega arith)) o b
       ∙ ap (λ (T : Tables). lit (comma ∷ []) u l T rest) (fact-kept n w (g .known .long) (classPlace r v i) x (omega arith) (omega arith)))
       t a (bare (num l 13 v 0 i r (maskOf (cls n w r v) i) p n) t refl)
 
@@ -350,7 +352,8 @@ module _ (l r : ℕ) (n : Counts) (sized : Fits n) (hr : r < 8) (k : Rest)
   list-of : (v p : ℕ) (hv : v < n .vars) (w : List ℕ) → At n r v 0 p w → (K : Rest)
       → ((i z x : ℕ) (w₁ u : List ℕ) → At n r v i p w₁ → i + 1 ≡ domIn w₁ v → (z ≡ 0 → ⊥) → fits x 0 (domIn w₁ v) ≡ true → Stop u → Bytes u
       → reading (withDigit (num l 13 v 0 i r (maskOf (cls n w₁ r v) i) p n) z x) w₁ u
-      ≡ demand (noneMissing (cls n (putByte w₁ (classPlace r v i) x) r v) (domAt (tablesOf n (putByte w₁ (classPlace r v i) x) .facts) v)) ClassMissing u l (tablesOf n (putByte w₁ (classPlace r v i) x)) K)
+      ≡ demand (noneMissing (cls n (putByte w₁ (classPlace r v i) x) r v) (domAt (tablesOf n (putByte w₁ (classPlace r v i) x) .facts) v)) ClassMissing u l
+      (tablesOf n (putByte w₁ (classPlace r v i) x)) K)
       → (t : List ℕ) → Bytes t → reading (num l 13 v 0 0 r 0 p n) w t ≡ classList r v t l (tablesOf n w) K
   unfolding classList ask _▸_
   list-of v p hv w g K last t a =
@@ -370,7 +373,8 @@ module _ (l r : ℕ) (n : Counts) (sized : Fits n) (hr : r < 8) (k : Rest)
       (λ i z x w₁ u g₁ e₁ y q o b.
       gaps-first v p (omega arith) i z x w₁ u g₁ e₁ y q o b few-states _ refl
       (λ j. last-end v p (omega arith) i z x w₁ u g₁ e₁ y q o b (omega arith) j _ refl
-      ∙ ap (λ (N : ℕ). demand (leb (size (counted n (putByte w₁ (classPlace r v i) x) r) N) mostStates) TooManyStates u l (tablesOf n (putByte w₁ (classPlace r v i) x)) (eol k)) (let f : v + 1 ≡ n .vars = omega arith in f)))
+      ∙ ap (λ (N : ℕ). demand (leb (size (counted n (putByte w₁ (classPlace r v i) x) r) N) mostStates) TooManyStates u l (tablesOf n (putByte w₁ (classPlace r v i) x)) (eol k))
+      (let f : v + 1 ≡ n .vars = omega arith in f)))
   variables-ok (suc m) v p e w g =
       list-of v p (omega arith) w g _
       (λ i z x w₁ u g₁ e₁ y q o b.

@@ -43,6 +43,20 @@ use crate::names::PART_NUMBER;
 use crate::names::RUN_NONE;
 use tables::Counts;
 
+// Before the first digit; the first of a row or a list; before the first class.
+pub const NO_DIGITS: Digits = Digits {
+    run: RUN_NONE,
+    val: 0,
+};
+
+pub const FIRST_TURN: Turn = Turn {
+    var: 0,
+    least: 0,
+    item: 0,
+};
+
+pub const NONE_SEEN: Seen = Seen { mask: 0, prod: 1 };
+
 pub fn goes_on(k: Halt) -> bool
     ensures { λ r. ⌜ r ≡ going k ⌝ }
 {
@@ -76,16 +90,9 @@ pub fn start_of_text() -> Ctrl
             key: 0,
             row: 0,
         },
-        digits: Digits {
-            run: RUN_NONE,
-            val: 0,
-        },
-        turn: Turn {
-            var: 0,
-            least: 0,
-            item: 0,
-        },
-        seen: Seen { mask: 0, prod: 1 },
+        digits: NO_DIGITS,
+        turn: FIRST_TURN,
+        seen: NONE_SEEN,
         counts: Counts {
             vars: 0,
             ops: 0,
@@ -126,16 +133,9 @@ pub fn begin_part(c: Ctrl, l: u32, p: u32, f: u32, r: u32) -> Ctrl
             key: 0,
             row: r,
         },
-        digits: Digits {
-            run: RUN_NONE,
-            val: 0,
-        },
-        turn: Turn {
-            var: 0,
-            least: 0,
-            item: 0,
-        },
-        seen: Seen { mask: 0, prod: 1 },
+        digits: NO_DIGITS,
+        turn: FIRST_TURN,
+        seen: NONE_SEEN,
         counts: counts,
     }
 }
@@ -153,10 +153,7 @@ pub fn await_number(c: Ctrl, f: u32, t: Turn, s: Seen) -> Ctrl
             key: 0,
             row: c.spot.row,
         },
-        digits: Digits {
-            run: RUN_NONE,
-            val: 0,
-        },
+        digits: NO_DIGITS,
         turn: t,
         seen: s,
         counts: counts,
@@ -176,16 +173,9 @@ pub fn next_key(c: Ctrl) -> Ctrl
             key: one_more(c.spot.key),
             row: c.spot.row,
         },
-        digits: Digits {
-            run: RUN_NONE,
-            val: 0,
-        },
-        turn: Turn {
-            var: 0,
-            least: 0,
-            item: 0,
-        },
-        seen: Seen { mask: 0, prod: 1 },
+        digits: NO_DIGITS,
+        turn: FIRST_TURN,
+        seen: NONE_SEEN,
         counts: counts,
     }
 }

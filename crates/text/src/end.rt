@@ -17,18 +17,20 @@ use crate::fields::fault_of;
 use crate::fill::fill_bytes;
 use crate::fill::fill_words;
 use crate::names::COSTS_BYTE;
-use crate::names::COSTS_ROOM;
-use crate::names::FACTS_ROOM;
 use crate::names::FIELD_END;
 use crate::names::SHARES_BYTE;
-use crate::names::SHARES_ROOM;
 use crate::places::cost_byte;
 use crate::places::share_byte;
 use grammar::Reading;
+use meaning::OpNo;
 use meaning::limits::MAPS_MOST;
 use meaning::limits::OPS_MOST;
 use refusals::Refusal;
 use scan::Found;
+use tables::lines::op_line;
+use tables::readers::COSTS_ROOM;
+use tables::readers::FACTS_ROOM;
+use tables::readers::SHARES_ROOM;
 
 pub fn end_code(c: Ctrl, w: &[u8]) -> Halt
     ensures { λ r. ⌜ r ≡ ended c (now (w .entry)) ⌝ }
@@ -93,7 +95,7 @@ pub fn over_fault(c: Ctrl, w: &[u8]) -> Found
     let mut o = 0;
     while o < ops {
         if word_at(w, cost_byte(o)) < share_total(w, maps, o) {
-            return Found::Fault(Refusal::SharesAboveCost(7 + o));
+            return Found::Fault(Refusal::SharesAboveCost(op_line(OpNo(o))));
         }
         o += 1;
     }

@@ -54,7 +54,12 @@ use crate::places::goal_place;
 use crate::places::init_place;
 use crate::places::pre_place;
 use crate::places::share_byte;
+use meaning::limits::COST_MOST;
+use meaning::limits::MAPS_MOST;
+use meaning::limits::OPS_MOST;
 use meaning::limits::STATES_MOST;
+use meaning::limits::VALUES_MOST;
+use meaning::limits::VARS_MOST;
 use tables::Counts;
 
 // The keyword of each field that begins a line, 8 bytes a field.
@@ -66,20 +71,20 @@ const LEASTS: [u32; 16] = [1, 1, 1, 0, 0, 0, 0, 0, 0, 0, 0, 0, 1, 0, 0, 0];
 // The first number beyond a field's range.
 const LIMITS: [u32; 16] = [
     2,
-    9,
-    9,
+    VARS_MOST + 1,
+    VALUES_MOST + 1,
     BY_VALUES,
     BY_VARS,
     BY_VALUES,
-    65,
-    1000001,
+    OPS_MOST + 1,
+    COST_MOST + 1,
     BY_VARS,
     BY_VALUES,
     BY_VARS,
     BY_VALUES,
-    9,
+    MAPS_MOST + 1,
     BY_VALUES,
-    1000001,
+    COST_MOST + 1,
     BY_VALUES,
 ];
 

@@ -98,10 +98,3 @@ pub const COSTS_BYTE: usize = 1624;
 pub const SHARES_BYTE: usize = 1816;
 
 pub const AREA_ROOM: usize = 3352;
-
-// The room for the largest task, in places of the lent tables.
-pub const FACTS_ROOM: usize = 1624;
-
-pub const COSTS_ROOM: usize = 64;
-
-pub const SHARES_ROOM: usize = 512;

@@ -28,6 +28,8 @@ use crate::Halt;
 use crate::Seen;
 use crate::Turn;
 use crate::area::word;
+use crate::control::FIRST_TURN;
+use crate::control::NONE_SEEN;
 use crate::control::await_number;
 use crate::control::goes_on;
 use crate::control::grow;
@@ -144,16 +146,7 @@ pub fn list_end(c: Ctrl, b: u32) -> Ctrl
             c,
             b,
             SEMICOLON,
-            await_number(
-                c,
-                FIELD_EFF_VAR,
-                Turn {
-                    var: 0,
-                    least: 0,
-                    item: 0,
-                },
-                Seen { mask: 0, prod: 1 },
-            ),
+            await_number(c, FIELD_EFF_VAR, FIRST_TURN, NONE_SEEN),
         )
     } else {
         end_line(c, b)
@@ -168,39 +161,31 @@ pub fn after_class(c: Ctrl, w: &[u8], b: u32) -> Ctrl
             end_line(c, b)
         } else {
             let p = multiply(c.seen.prod, width_of(c.seen.mask));
-            expect(
-                c,
-                b,
-                SLASH,
-                await_number(
-                    c,
-                    FIELD_CLASS,
-                    Turn {
-                        var: one_more(c.turn.var),
-                        least: 0,
-                        item: 0,
-                    },
-                    Seen { mask: 0, prod: p },
-                ),
-            )
-        }
-    } else {
-        let s = c.seen;
-        expect(
-            c,
-            b,
-            COMMA,
-            await_number(
+            let n = await_number(
                 c,
                 FIELD_CLASS,
                 Turn {
-                    var: c.turn.var,
+                    var: one_more(c.turn.var),
                     least: 0,
-                    item: one_more(c.turn.item),
+                    item: 0,
                 },
-                s,
-            ),
-        )
+                Seen { mask: 0, prod: p },
+            );
+            expect(c, b, SLASH, n)
+        }
+    } else {
+        let s = c.seen;
+        let n = await_number(
+            c,
+            FIELD_CLASS,
+            Turn {
+                var: c.turn.var,
+                least: 0,
+                item: one_more(c.turn.item),
+            },
+            s,
+        );
+        expect(c, b, COMMA, n)
     }
 }
 
@@ -222,7 +207,7 @@ pub fn after_var(c: Ctrl, b: u32) -> Ctrl
                     least: 0,
                     item: 0,
                 },
-                Seen { mask: 0, prod: 1 },
+                NONE_SEEN,
             ),
         )
     }
@@ -247,7 +232,7 @@ pub fn after_value(c: Ctrl, b: u32) -> Ctrl
                 least: one_more(c.turn.var),
                 item: 0,
             },
-            Seen { mask: 0, prod: 1 },
+            NONE_SEEN,
         )
     } else {
         list_end(c, b)
@@ -273,7 +258,7 @@ pub fn after_share(c: Ctrl, b: u32) -> Ctrl
                     least: 0,
                     item: i,
                 },
-                Seen { mask: 0, prod: 1 },
+                NONE_SEEN,
             ),
         )
     }
@@ -298,7 +283,7 @@ pub fn after_number(c: Ctrl, w: &[u8], b: u32) -> Ctrl
                     least: 0,
                     item: 0,
                 },
-                Seen { mask: 0, prod: 1 },
+                NONE_SEEN,
             ),
         ),
         KIND_VAL => after_value(c, b),
@@ -306,16 +291,7 @@ pub fn after_number(c: Ctrl, w: &[u8], b: u32) -> Ctrl
             c,
             b,
             SEMICOLON,
-            await_number(
-                c,
-                FIELD_PRE_VAR,
-                Turn {
-                    var: 0,
-                    least: 0,
-                    item: 0,
-                },
-                Seen { mask: 0, prod: 1 },
-            ),
+            await_number(c, FIELD_PRE_VAR, FIRST_TURN, NONE_SEEN),
         ),
         KIND_CLASS => after_class(c, w, b),
         KIND_SHARE => after_share(c, b),

@@ -8,13 +8,13 @@ ghost use Rattle.text.specs.Inside.End.{machineRead, readAll};
 use crate::control::start_of_text;
 use crate::end::finish;
 use crate::names::AREA_ROOM;
-use crate::names::COSTS_ROOM;
-use crate::names::FACTS_ROOM;
-use crate::names::SHARES_ROOM;
 use crate::step::feed_piece;
 use grammar::Reading;
 use meaning::limits::BYTES_MOST;
 use refusals::Refusal;
+use tables::readers::COSTS_ROOM;
+use tables::readers::FACTS_ROOM;
+use tables::readers::SHARES_ROOM;
 
 // What the machine answers to a text, where there is room for every task.
 pub fn run_machine(text: &[u8], facts: &mut [u8], costs: &mut [u32], shares: &mut [u32]) -> Reading

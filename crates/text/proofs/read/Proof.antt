@@ -8,14 +8,13 @@ use Rattle.text.proofs.read.Tie as tie
 
 returns : tie.Need-returns
 returns c =
-    let start = c .before .before .before .before .before .before .before .before .before .before .before .before .before .before .args in
-    c .before .before .before .before .before .before .read-by-machine .ensures ∙ read-is (start .text .now) (start .facts .now) (start .costs .now) (start .shares .now) (λ i h. c .before .before .before .before .before .before .before .before .before .before .before .before .before .shared-slice-known .given i .fits)
+    let x = c .before .before .before .before .before .before in
+    let y = x .before .before .before .before .before .before .before in
+    let start = y .before .args in
+    x .read-by-machine .ensures ∙ read-is (start .text .now) (start .facts .now) (start .costs .now) (start .shares .now) (λ i h. y .shared-slice-known .given i .fits)
 
 pub read-spec : {M : Type 1} → statement M
 read-spec =
     tie.close (tie.spec
-    (λ c κs. search needs)
-    (λ c. search needs)
-    (λ c. search needs)
-    (λ c. search needs)
+    (λ c κs. search needs) (λ c. search needs) (λ c. search needs) (λ c. search needs)
     returns)

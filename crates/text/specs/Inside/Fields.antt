@@ -6,10 +6,10 @@ use lib.ListN.{getD}
 use lib.Dec.{ltb, leb, eqb}
 use lib.Bits.{bitOr}
 use lib.Count.{ones, leadingZeros}
-use Rattle.meaning.specs.Limits.{mostStates}
+use Rattle.meaning.specs.Limits.{mostVars, mostValues, mostOps, mostCost, mostMaps, mostStates}
 use Rattle.tables.specs.declared.Counts.{Counts}
 use Rattle.tables.specs.Layout.{initPlace, goalPlace, prePlace, effPlace, classPlace}
-use Rattle.grammar.specs.Fields.{bytesOf}
+use Rattle.grammar.specs.Fields.{edition, bytesOf}
 use Rattle.text.specs.declared.Ctrl.{Ctrl}
 use Rattle.text.specs.declared.Seen.{Seen}
 use Rattle.text.specs.declared.Halt.{Halt}
@@ -53,7 +53,23 @@ byVars = 1
 
 abbrev pub limits : List ℕ
 limits =
-    2 ∷ 9 ∷ 9 ∷ byValues ∷ byVars ∷ byValues ∷ 65 ∷ 1000001 ∷ byVars ∷ byValues ∷ byVars ∷ byValues ∷ 9 ∷ byValues ∷ 1000001 ∷ byValues ∷ []
+    (edition + 1)
+    ∷ (mostVars + 1)
+    ∷ (mostValues + 1)
+    ∷ byValues
+    ∷ byVars
+    ∷ byValues
+    ∷ (mostOps + 1)
+    ∷ (mostCost + 1)
+    ∷ byVars
+    ∷ byValues
+    ∷ byVars
+    ∷ byValues
+    ∷ (mostMaps + 1)
+    ∷ byValues
+    ∷ (mostCost + 1)
+    ∷ byValues
+    ∷ []
 
 unfoldable pub limit : Ctrl → List ℕ → ℕ
 limit c w =

@@ -10,6 +10,5 @@ returns-2 c = sym (List·getD-eq-default (c .before .args .w .now) 0 (c .if1 .le
 
 pub byte-at-spec : {M : Type 1} → statement M
 byte-at-spec = tie.close (tie.spec
-    (λ c. search needs)
-    (λ c. search needs)
+    (λ c. search needs) (λ c. search needs)
     returns-2)

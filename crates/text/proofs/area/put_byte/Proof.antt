@@ -17,8 +17,6 @@ returns-2 c = sym (set-out (c .before .args .w .now) (c .before .args .i) (c .be
 
 pub put-byte-spec : {M : Type 1} → statement M
 put-byte-spec = tie.close (tie.spec
-    (λ c. search needs)
-    (λ c. search needs)
-    (λ c. search needs)
+    (λ c. search needs) (λ c. search needs) (λ c. search needs)
     returns
     returns-2)

@@ -9,7 +9,5 @@ returns c = c .word .ensures .0 ∙ simp (c .before .byte-at .ensures, c .before
 
 pub values-of-spec : {M : Type 1} → statement M
 values-of-spec = tie.close (tie.spec
-    (λ c κs. search needs)
-    (λ c κs. search needs)
-    (λ c κs. search needs)
+    (λ c κs. search needs) (λ c κs. search needs) (λ c κs. search needs)
     returns)

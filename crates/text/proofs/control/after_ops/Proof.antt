@@ -12,7 +12,6 @@ returns-2 c = simp (ne-eqb _ _ (c .before .if1 .left)) (c .to-line2 .ensures)
 
 pub after-ops-spec : {M : Type 1} → statement M
 after-ops-spec = tie.close (tie.spec
-    (λ c κs. search needs)
-    (λ c κs. search needs)
+    (λ c κs. search needs) (λ c κs. search needs)
     returns
     returns-2)

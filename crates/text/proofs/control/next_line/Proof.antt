@@ -19,15 +19,41 @@ returns-3 c = simp (ne-eqb _ _ (c .before .before .before .if1 .left), ne-eqb _ 
 
 returns-4 : tie.Need-returns-4
 unfolding nextLine
-returns-4 c = simp (ne-eqb _ _ (c .before .before .before .before .before .if1 .left), ne-eqb _ _ (c .before .before .before .before .if2 .left), ne-eqb _ _ (c .before .before .before .if3 .left), ← c .before .before .list-of .ensures, eq-eqb _ _ (c .before .if4 .taken)) (c .to-line .ensures)
+returns-4 c =
+    let x = c .before .before in
+    let y = x .before .before in
+    simp (ne-eqb _ _ (y .before .if1 .left), ne-eqb _ _ (y .if2 .left), ne-eqb _ _ (x .before .if3 .left), ← x .list-of .ensures, eq-eqb _ _ (c .before .if4 .taken)) (c .to-line .ensures)
 
 returns-5 : tie.Need-returns-5
 unfolding nextLine
-returns-5 c = simp (ne-eqb _ _ (c .before .before .before .before .before .before .if1 .left), ne-eqb _ _ (c .before .before .before .before .before .if2 .left), ne-eqb _ _ (c .before .before .before .before .if3 .left), ← c .before .before .before .list-of .ensures, ne-eqb _ _ (c .before .before .if4 .left), eq-eqb _ _ (c .before .if5 .taken)) (c .row-or3 .ensures)
+returns-5 c =
+    let x = c .before .before in
+    let y = x .before .before in
+    let z = y .before .before in
+    simp (
+      ne-eqb _ _ (z .if1 .left),
+      ne-eqb _ _ (y .before .if2 .left),
+      ne-eqb _ _ (y .if3 .left),
+      ← x .before .list-of .ensures,
+      ne-eqb _ _ (x .if4 .left),
+      eq-eqb _ _ (c .before .if5 .taken),
+    ) (c .row-or3 .ensures)
 
 returns-6 : tie.Need-returns-6
 unfolding nextLine
-returns-6 c = simp (ne-eqb _ _ (c .before .before .before .before .before .before .before .if1 .left), ne-eqb _ _ (c .before .before .before .before .before .before .if2 .left), ne-eqb _ _ (c .before .before .before .before .before .if3 .left), ← c .before .before .before .before .list-of .ensures, ne-eqb _ _ (c .before .before .before .if4 .left), ne-eqb _ _ (c .before .before .if5 .left), ← c .before .one-more .ensures) (c .to-line2 .ensures)
+returns-6 c =
+    let x = c .before .before in
+    let y = x .before .before in
+    let z = y .before .before in
+    simp (
+      ne-eqb _ _ (z .before .if1 .left),
+      ne-eqb _ _ (z .if2 .left),
+      ne-eqb _ _ (y .before .if3 .left),
+      ← y .list-of .ensures,
+      ne-eqb _ _ (x .before .if4 .left),
+      ne-eqb _ _ (x .if5 .left),
+      ← c .before .one-more .ensures,
+    ) (c .to-line2 .ensures)
 
 pub next-line-spec : {M : Type 1} → statement M
 next-line-spec =
@@ -39,11 +65,9 @@ next-line-spec =
     returns-2
     (λ c κs. search needs)
     returns-3
-    (λ c κs. search needs)
-    (λ c κs. search needs)
+    (λ c κs. search needs) (λ c κs. search needs)
     returns-4
     (λ c κs. search needs)
     returns-5
-    (λ c κs. search needs)
-    (λ c κs. search needs)
+    (λ c κs. search needs) (λ c κs. search needs)
     returns-6)

@@ -10,6 +10,5 @@ returns c = simp (← c .before .first-part .ensures) (c .begin-part .ensures)
 
 pub open-line-spec : {M : Type 1} → statement M
 open-line-spec = tie.close (tie.spec
-    (λ c κs. search needs)
-    (λ c κs. search needs)
+    (λ c κs. search needs) (λ c κs. search needs)
     returns)

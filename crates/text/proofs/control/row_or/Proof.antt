@@ -16,8 +16,6 @@ returns-2 c = simp (← c .before .before .one-more .ensures, le-ltb _ _ (c .bef
 pub row-or-spec : {M : Type 1} → statement M
 row-or-spec =
     tie.close (tie.spec
-    (λ c κs. search needs)
-    (λ c κs. search needs)
-    (λ c κs. search needs)
+    (λ c κs. search needs) (λ c κs. search needs) (λ c κs. search needs)
     returns
     returns-2)

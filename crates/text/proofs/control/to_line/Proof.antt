@@ -10,6 +10,5 @@ returns c = simp (← c .before .one-more .ensures) (c .begin-part .ensures)
 
 pub to-line-spec : {M : Type 1} → statement M
 to-line-spec = tie.close (tie.spec
-    (λ c κs. search needs)
-    (λ c κs. search needs)
+    (λ c κs. search needs) (λ c κs. search needs)
     returns)

@@ -32,7 +32,6 @@ end-code-spec = tie.close (tie.spec
     (λ c κs. search needs)
     returns
     returns-2
-    (λ c κs. search needs)
-    (λ c κs. search needs)
+    (λ c κs. search needs) (λ c κs. search needs)
     returns-3
     returns-4)

@@ -10,6 +10,5 @@ returns c = simp (← c .before .end-code .ensures) (c .refusal-of .ensures)
 
 pub end-fault-spec : {M : Type 1} → statement M
 end-fault-spec = tie.close (tie.spec
-    (λ c κs. search needs)
-    (λ c κs. search needs)
+    (λ c κs. search needs) (λ c κs. search needs)
     returns)

@@ -18,9 +18,7 @@ pub last-fault-spec : {M : Type 1} → statement M
 last-fault-spec =
     tie.close
     (tie.spec
-    (λ c κs. search needs)
-    (λ c. search needs)
-    (λ c. search needs)
+    (λ c κs. search needs) (λ c. search needs) (λ c. search needs)
     returns
     (λ c κs. search needs)
     returns-2)

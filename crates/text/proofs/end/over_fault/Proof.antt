@@ -1,6 +1,6 @@
 -- `text::end::over_fault` meets its contract: the operators passed so far have shares that total at most their cost. Assumes nothing.
 use Prim.Native.Nat.{ℕ, _-_, _≤_}
-use mathlib.Core.Path.{_≡_, _∙_, sym}
+use mathlib.Core.Path.{_≡_, _∙_, sym, ap}
 use mathlib.Core.Bool.{Bool}
 use mathlib.Core.List.{List}
 use native.Mathlib.Omega.{arith}
@@ -11,7 +11,7 @@ use Rattle.refusals.specs.declared.Refusal.{Refusal}
 use Rattle.refusals.specs.declared.Refusal.the-variants.{SharesAboveCost}
 use Rattle.meaning.specs.Split.{sum}
 use Rattle.tables.specs.Lines.{lineOfOp}
-use Rattle.scan.specs.declared.Found.the-variants.{Clean}
+use Rattle.scan.specs.declared.Found.the-variants.{Clean, Fault}
 use Rattle.scan.specs.Scan.{each}
 use Rattle.scan.proofs.Walks.{tests, tests-more, tests-here, walk-none, walk-end}
 use Rattle.text.specs.Inside.Area.{costIn, shareIn}
@@ -42,24 +42,38 @@ word-at-requires c κs = c .cost-byte .ensures .1
 share-total-requires : tie.Need-share-total-requires Inv-loop μ-loop
 share-total-requires c κs = c .before .before .before .loop .inv .2
 
+op-line-requires : tie.Need-op-line-requires Inv-loop μ-loop
+op-line-requires c κs =
+    let x = c .before .before .before .before .before in
+    let few = x .loop .inv .1 in
+    let more = c .before .before .before .before .loop-test .taken in
+    omega arith
+
 returns : tie.Need-returns Inv-loop μ-loop
 unfolding over
 returns c =
-    let x = c .before .before .before .before .before in
+    let t = c .before .before .before in
+    let z = t .before .before in
+    let x = z .before in
     let run = x .loop in
     let w = x .before .before .before .before .args .w .now in
     let maps = x .before .before .at-most in
     let ops = x .before .at-most2 in
-    let high = lt-leb (sum (λ m. shareIn w m (run .o)) (maps .result)) (costIn w (run .o)) (simp (c .before .before .word-at .ensures .0, c .before .before .before .cost-byte .ensures .0, c .before .share-total .ensures) at (c .if1 .taken)) in
-    sym (simp (← maps .ensures, ← ops .ensures) (tests-here (passes w (maps .result)) said (ops .result) (run .o) (run .inv .3) (c .before .before .before .before .loop-test .taken) high))
+    let more = simp (t .word-at .ensures .0, t .before .cost-byte .ensures .0, c .before .before .share-total .ensures) at (c .before .if1 .taken) in
+    let high = lt-leb (sum (λ m. shareIn w m (run .o)) (maps .result)) (costIn w (run .o)) more in
+    ap (λ (l : ℕ). Fault (SharesAboveCost l)) (c .op-line .ensures)
+    ∙ sym (simp (← maps .ensures, ← ops .ensures) (tests-here (passes w (maps .result)) said (ops .result) (run .o) (run .inv .3) (z .loop-test .taken) high))
 
 loop-again : tie.Need-loop-again Inv-loop μ-loop
 loop-again c =
-    let x = c .before .before .before .before .before in
+    let y = c .before .before in
+    let z = y .before .before in
+    let x = z .before in
     let run = x .loop in
     let w = x .before .before .before .before .args .w .now in
     let maps = x .before .before .at-most in
-    let low = le-leb (sum (λ m. shareIn w m (run .o)) (maps .result)) (costIn w (run .o)) (simp (c .before .before .word-at .ensures .0, c .before .before .before .cost-byte .ensures .0, c .before .share-total .ensures) at (c .if1 .left)) in
+    let less = simp (y .word-at .ensures .0, y .before .cost-byte .ensures .0, c .before .share-total .ensures) at (c .if1 .left) in
+    let low = le-leb (sum (λ m. shareIn w m (run .o)) (maps .result)) (costIn w (run .o)) less in
     (omega arith, run .inv .1, run .inv .2, tests-more (passes w (maps .result)) said (run .o) (run .inv .3) low)
 
 returns-2 : tie.Need-returns-2 Inv-loop μ-loop
@@ -78,15 +92,13 @@ over-fault-spec =
     (tie.spec
     Inv-loop
     μ-loop
-    (λ c κs. search needs)
-    (λ c κs. search needs)
+    (λ c κs. search needs) (λ c κs. search needs)
     loop-holds
     (λ c κs. search needs)
     word-at-requires
     share-total-requires
-    (λ c. omega arith)
+    op-line-requires
     returns
-    (λ c. omega arith)
-    (λ c. omega arith)
+    (λ c. omega arith) (λ c. omega arith)
     loop-again
     returns-2)

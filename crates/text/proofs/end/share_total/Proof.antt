@@ -46,7 +46,6 @@ share-total-spec =
     (λ c κs. search needs)
     word-at-requires
     add-total
-    (λ c. omega arith)
-    (λ c. omega arith)
+    (λ c. omega arith) (λ c. omega arith)
     loop-again
     returns)

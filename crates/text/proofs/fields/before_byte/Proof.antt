@@ -14,7 +14,6 @@ returns-2 c = simp (← c .before .last-class .ensures, c .if1 .left)
 
 pub before-byte-spec : {M : Type 1} → statement M
 before-byte-spec = tie.close (tie.spec
-    (λ c κs. search needs)
-    (λ c κs. search needs)
+    (λ c κs. search needs) (λ c κs. search needs)
     returns
     returns-2)

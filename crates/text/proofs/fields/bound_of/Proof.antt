@@ -12,7 +12,5 @@ returns c = c .entry .ensures ∙ ap (λ (i : ℕ). getD limits i 0) (c .before 
 
 pub bound-of-spec : {M : Type 1} → statement M
 bound-of-spec = tie.close (tie.spec
-    (λ c. search needs)
-    (λ c κs. search needs)
-    (λ c κs. search needs)
+    (λ c. search needs) (λ c κs. search needs) (λ c κs. search needs)
     returns)

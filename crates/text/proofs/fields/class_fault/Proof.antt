@@ -7,11 +7,19 @@ use Rattle.text.proofs.fields.class_fault.Tie as tie
 
 returns : tie.Need-returns
 unfolding classFault
-returns c = simp (← c .before .before .before .before .before .before .none-missing .ensures, c .before .before .before .before .before .if1 .taken, ← c .before .before .before .before .last-var .ensures, c .before .before .before .if2 .taken, ← c .before .before .width-of .ensures, ← c .before .multiply .ensures, lt-ltb _ _ (c .if3 .taken))
+returns c =
+    let x = c .before .before in
+    let y = x .before .before in
+    let z = y .before .before in
+    simp (← z .none-missing .ensures, y .before .if1 .taken, ← y .last-var .ensures, x .before .if2 .taken, ← x .width-of .ensures, ← c .before .multiply .ensures, lt-ltb _ _ (c .if3 .taken))
 
 returns-2 : tie.Need-returns-2
 unfolding classFault
-returns-2 c = simp (← c .before .before .before .before .before .before .none-missing .ensures, c .before .before .before .before .before .if1 .taken, ← c .before .before .before .before .last-var .ensures, c .before .before .before .if2 .taken, ← c .before .before .width-of .ensures, ← c .before .multiply .ensures, le-ltb _ _ (c .if3 .left))
+returns-2 c =
+    let x = c .before .before in
+    let y = x .before .before in
+    let z = y .before .before in
+    simp (← z .none-missing .ensures, y .before .if1 .taken, ← y .last-var .ensures, x .before .if2 .taken, ← x .width-of .ensures, ← c .before .multiply .ensures, le-ltb _ _ (c .if3 .left))
 
 returns-3 : tie.Need-returns-3
 unfolding classFault
@@ -25,10 +33,7 @@ pub class-fault-spec : {M : Type 1} → statement M
 class-fault-spec =
     tie.close
     (tie.spec
-    (λ c κs. search needs)
-    (λ c κs. search needs)
-    (λ c κs. search needs)
-    (λ c κs. search needs)
+    (λ c κs. search needs) (λ c κs. search needs) (λ c κs. search needs) (λ c κs. search needs)
     returns
     returns-2
     returns-3

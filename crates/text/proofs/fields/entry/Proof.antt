@@ -10,7 +10,5 @@ returns-2 c = sym (List·getD-eq-default (c .before .args .t .now) 0 (c .if1 .le
 
 pub entry-spec : {M : Type 1} → statement M
 entry-spec = tie.close (tie.spec
-    (λ c. search needs)
-    (λ c. search needs)
-    (λ c. search needs)
+    (λ c. search needs) (λ c. search needs) (λ c. search needs)
     returns-2)

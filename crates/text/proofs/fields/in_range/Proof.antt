@@ -15,7 +15,6 @@ returns-2 c = simp (← c .before .before .least-of .ensures, lt-leb _ _ (c .if1
 
 pub in-range-spec : {M : Type 1} → statement M
 in-range-spec = tie.close (tie.spec
-    (λ c κs. search needs)
-    (λ c κs. search needs)
+    (λ c κs. search needs) (λ c κs. search needs)
     returns
     returns-2)

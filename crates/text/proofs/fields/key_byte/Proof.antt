@@ -10,7 +10,11 @@ use Rattle.text.proofs.fields.key_byte.Tie as tie
 
 returns : tie.Need-returns
 unfolding keyByte
-returns c = c .word .ensures .0 ∙ simp (c .before .before .before .wide .ensures, c .before .before .wide2 .ensures) (getD-any keys (c .before .before .before .before .args .f * 8 + c .before .before .before .before .args .k) 0 256 (simp (c .before .before .before .wide .ensures, c .before .before .wide2 .ensures) at (c .before .if1 .taken)))
+returns c =
+    let x = c .before .before in
+    let y = x .before .before in
+    c .word .ensures .0 ∙ simp (x .before .wide .ensures, x .wide2 .ensures)
+    (getD-any keys (y .args .f * 8 + y .args .k) 0 256 (simp (x .before .wide .ensures, x .wide2 .ensures) at (c .before .if1 .taken)))
 
 returns-2 : tie.Need-returns-2
 unfolding keyByte
@@ -20,11 +24,7 @@ pub key-byte-spec : {M : Type 1} → statement M
 key-byte-spec =
     tie.close
     (tie.spec
-    (λ c κs. search needs)
-    (λ c. search needs)
-    (λ c κs. search needs)
-    (λ c. search needs)
-    (λ c. search needs)
+    (λ c κs. search needs) (λ c. search needs) (λ c κs. search needs) (λ c. search needs) (λ c. search needs)
     (λ c κs. search needs)
     returns
     returns-2)

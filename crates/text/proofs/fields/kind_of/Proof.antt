@@ -13,7 +13,5 @@ returns c = c .entry .ensures ∙ ap (λ (i : ℕ). getD kinds i 0) (c .before .
 
 pub kind-of-spec : {M : Type 1} → statement M
 kind-of-spec = tie.close (tie.spec
-    (λ c. search needs)
-    (λ c κs. search needs)
-    (λ c κs. search needs)
+    (λ c. search needs) (λ c κs. search needs) (λ c κs. search needs)
     returns)

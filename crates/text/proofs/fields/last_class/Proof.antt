@@ -15,7 +15,6 @@ returns-2 c = simp (ne-eqb _ _ (c .if1 .left))
 
 pub last-class-spec : {M : Type 1} → statement M
 last-class-spec = tie.close (tie.spec
-    (λ c κs. search needs)
-    (λ c κs. search needs)
+    (λ c κs. search needs) (λ c κs. search needs)
     returns
     returns-2)

@@ -12,7 +12,5 @@ returns c = c .entry .ensures ∙ ap (λ (i : ℕ). getD leasts i 0) (c .before 
 
 pub least-of-spec : {M : Type 1} → statement M
 least-of-spec = tie.close (tie.spec
-    (λ c. search needs)
-    (λ c κs. search needs)
-    (λ c κs. search needs)
+    (λ c. search needs) (λ c κs. search needs) (λ c κs. search needs)
     returns)

@@ -20,8 +20,7 @@ returns-3 c = simp (← c .before .before .bound-of .ensures, ne-eqb _ _ (c .bef
 pub limit-of-spec : {M : Type 1} → statement M
 limit-of-spec =
     tie.close (tie.spec
-    (λ c κs. search needs)
-    (λ c κs. search needs)
+    (λ c κs. search needs) (λ c κs. search needs)
     returns
     returns-2
     returns-3)

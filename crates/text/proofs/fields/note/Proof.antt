@@ -10,6 +10,5 @@ returns c = simp (c .before .seen-with .ensures, c .counts-with .ensures)
 
 pub note-spec : {M : Type 1} → statement M
 note-spec = tie.close (tie.spec
-    (λ c κs. search needs)
-    (λ c κs. search needs)
+    (λ c κs. search needs) (λ c κs. search needs)
     returns)

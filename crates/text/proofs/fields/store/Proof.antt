@@ -15,7 +15,11 @@ returns-2 c = simp (c .before .before .before .before .before .match .keys2, ←
 
 returns-3 : tie.Need-returns-3
 unfolding stored
-returns-3 c = simp (c .before .before .before .before .before .before .match .keys3, ← c .before .before .before .before .goal-place .ensures, ← c .before .before .before .one-more .ensures) (c .before .before .put-byte3 .ensures)
+returns-3 c =
+    let x = c .before .before in
+    let y = x .before .before in
+    let z = y .before .before in
+    simp (z .match .keys3, ← y .goal-place .ensures, ← x .before .one-more .ensures) (x .put-byte3 .ensures)
 
 returns-4 : tie.Need-returns-4
 unfolding stored
@@ -23,11 +27,19 @@ returns-4 c = simp (c .before .before .before .before .before .match .keys4, ←
 
 returns-5 : tie.Need-returns-5
 unfolding stored
-returns-5 c = simp (c .before .before .before .before .before .before .match .keys5, ← c .before .before .before .before .pre-place .ensures, ← c .before .before .before .one-more2 .ensures) (c .before .before .put-byte4 .ensures)
+returns-5 c =
+    let x = c .before .before in
+    let y = x .before .before in
+    let z = y .before .before in
+    simp (z .match .keys5, ← y .pre-place .ensures, ← x .before .one-more2 .ensures) (x .put-byte4 .ensures)
 
 returns-6 : tie.Need-returns-6
 unfolding stored
-returns-6 c = simp (c .before .before .before .before .before .before .match .keys6, ← c .before .before .before .before .eff-place .ensures, ← c .before .before .before .one-more3 .ensures) (c .before .before .put-byte5 .ensures)
+returns-6 c =
+    let x = c .before .before in
+    let y = x .before .before in
+    let z = y .before .before in
+    simp (z .match .keys6, ← y .eff-place .ensures, ← x .before .one-more3 .ensures) (x .put-byte5 .ensures)
 
 returns-7 : tie.Need-returns-7
 unfolding stored
@@ -39,32 +51,27 @@ returns-8 c = simp (c .before .before .before .before .before .match .keys8, ←
 
 returns-9 : tie.Need-returns-9
 unfolding stored
-returns-9 c = simp (ne-eqb _ _ (c .match .rest .0 .0 .0 .0 .0 .0 .0 .1), ne-eqb _ _ (c .match .rest .0 .0 .0 .0 .0 .0 .1), ne-eqb _ _ (c .match .rest .0 .0 .0 .0 .0 .1), ne-eqb _ _ (c .match .rest .0 .0 .0 .0 .1), ne-eqb _ _ (c .match .rest .0 .0 .0 .1), ne-eqb _ _ (c .match .rest .0 .0 .1), ne-eqb _ _ (c .match .rest .0 .1), ne-eqb _ _ (c .match .rest .1))
+returns-9 c =
+    simp (
+      ne-eqb _ _ (c .match .rest .0 .0 .0 .0 .0 .0 .0 .1),
+      ne-eqb _ _ (c .match .rest .0 .0 .0 .0 .0 .0 .1),
+      ne-eqb _ _ (c .match .rest .0 .0 .0 .0 .0 .1),
+      ne-eqb _ _ (c .match .rest .0 .0 .0 .0 .1),
+      ne-eqb _ _ (c .match .rest .0 .0 .0 .1),
+      ne-eqb _ _ (c .match .rest .0 .0 .1),
+      ne-eqb _ _ (c .match .rest .0 .1),
+      ne-eqb _ _ (c .match .rest .1),
+    )
 
 pub store-spec : {M : Type 1} → statement M
 store-spec =
     tie.close
     (tie.spec
-    (λ c κs. search needs)
-    (λ c κs. search needs)
-    (λ c κs. search needs)
-    (λ c κs. search needs)
-    (λ c κs. search needs)
-    (λ c κs. search needs)
-    (λ c κs. search needs)
-    (λ c κs. search needs)
-    (λ c κs. search needs)
-    (λ c κs. search needs)
-    (λ c κs. search needs)
-    (λ c κs. search needs)
-    (λ c κs. search needs)
-    (λ c κs. search needs)
-    (λ c κs. search needs)
-    (λ c κs. search needs)
-    (λ c κs. search needs)
-    (λ c κs. search needs)
-    (λ c κs. search needs)
-    (λ c. search needs)
+    (λ c κs. search needs) (λ c κs. search needs) (λ c κs. search needs) (λ c κs. search needs)
+    (λ c κs. search needs) (λ c κs. search needs) (λ c κs. search needs) (λ c κs. search needs)
+    (λ c κs. search needs) (λ c κs. search needs) (λ c κs. search needs) (λ c κs. search needs)
+    (λ c κs. search needs) (λ c κs. search needs) (λ c κs. search needs) (λ c κs. search needs)
+    (λ c κs. search needs) (λ c κs. search needs) (λ c κs. search needs) (λ c. search needs)
     returns
     (λ c. search needs)
     returns-2

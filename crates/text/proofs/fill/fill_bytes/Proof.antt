@@ -19,13 +19,24 @@ loop-holds : tie.Need-loop-holds Inv-loop μ-loop
 loop-holds c = (omega arith, refl, λ k h. let z : ⊥ = omega arith in absurd z)
 
 loop-again : tie.Need-loop-again Inv-loop μ-loop
-loop-again c = let run = c .before .before .loop in let fits : run .i < length (run .out) = omega arith in (omega arith, length-set (run .out) (run .i) (c .nth-byte .result) ∙ run .inv .1, fill-turn (take (c .before .before .before .before .before .args .n) (c .before .before .before .before .before .args .w .now)) (run .out) (run .i) (c .nth-byte .result) fits (c .nth-byte .ensures) (run .inv .2))
+loop-again c =
+    let x = c .before .before in
+    let y = x .before .before .before in
+    let run = x .loop in
+    let fits : run .i < length (run .out) = omega arith in (
+      omega arith,
+      length-set (run .out) (run .i) (c .nth-byte .result) ∙ run .inv .1,
+      fill-turn (take (y .args .n) (y .args .w .now)) (run .out) (run .i) (c .nth-byte .result) fits (c .nth-byte .ensures) (run .inv .2),
+    )
 
 same-length : tie.Need-same-length Inv-loop μ-loop
 same-length c = c .before .loop .inv .1
 
 returns : tie.Need-returns Inv-loop μ-loop
-returns c = fill-end (c .before .before .before .before .args .n) (take (c .before .before .before .before .args .n) (c .before .before .before .before .args .w .now)) (c .before .before .before .before .args .out .now) (c .before .loop .out) (c .before .loop .i) (length-take-le (c .before .before .before .before .args .n) (c .before .before .before .before .args .w .now) (c .before .before .before .before .pre .0)) (c .before .before .before .before .pre .1) (c .before .loop .inv .1) (omega arith) (c .before .loop .inv .2)
+returns c =
+    let x = c .before .before .before .before in
+    fill-end (x .args .n) (take (x .args .n) (x .args .w .now)) (x .args .out .now) (c .before .loop .out) (c .before .loop .i)
+    (length-take-le (x .args .n) (x .args .w .now) (x .pre .0)) (x .pre .1) (c .before .loop .inv .1) (omega arith) (c .before .loop .inv .2)
 
 pub fill-bytes-spec : {M : Type 1} → statement M
 fill-bytes-spec =
@@ -34,10 +45,7 @@ fill-bytes-spec =
     Inv-loop
     μ-loop
     loop-holds
-    (λ c κs. search needs)
-    (λ c. omega arith)
-    (λ c. omega arith)
-    (λ c. omega arith)
+    (λ c κs. search needs) (λ c. omega arith) (λ c. omega arith) (λ c. omega arith)
     loop-again
     same-length
     returns)

@@ -19,13 +19,24 @@ loop-holds : tie.Need-loop-holds Inv-loop μ-loop
 loop-holds c = (omega arith, refl, λ k h. let z : ⊥ = omega arith in absurd z)
 
 loop-again : tie.Need-loop-again Inv-loop μ-loop
-loop-again c = let run = c .before .before .loop in let fits : run .i < length (run .out) = omega arith in (omega arith, length-set (run .out) (run .i) (c .nth-word .result) ∙ run .inv .1, fill-turn (threes (c .before .before .before .before .before .args .n) (c .before .before .before .before .before .args .at) (c .before .before .before .before .before .args .w .now)) (run .out) (run .i) (c .nth-word .result) fits (c .nth-word .ensures) (run .inv .2))
+loop-again c =
+    let x = c .before .before in
+    let y = x .before .before .before in
+    let run = x .loop in
+    let fits : run .i < length (run .out) = omega arith in (
+      omega arith,
+      length-set (run .out) (run .i) (c .nth-word .result) ∙ run .inv .1,
+      fill-turn (threes (y .args .n) (y .args .at) (y .args .w .now)) (run .out) (run .i) (c .nth-word .result) fits (c .nth-word .ensures) (run .inv .2),
+    )
 
 same-length : tie.Need-same-length Inv-loop μ-loop
 same-length c = c .before .loop .inv .1
 
 returns : tie.Need-returns Inv-loop μ-loop
-returns c = fill-end (c .before .before .before .before .args .n) (threes (c .before .before .before .before .args .n) (c .before .before .before .before .args .at) (c .before .before .before .before .args .w .now)) (c .before .before .before .before .args .out .now) (c .before .loop .out) (c .before .loop .i) (threes-length (c .before .before .before .before .args .n) (c .before .before .before .before .args .at) (c .before .before .before .before .args .w .now)) (c .before .before .before .before .pre .2) (c .before .loop .inv .1) (omega arith) (c .before .loop .inv .2)
+returns c =
+    let x = c .before .before .before .before in
+    fill-end (x .args .n) (threes (x .args .n) (x .args .at) (x .args .w .now)) (x .args .out .now) (c .before .loop .out) (c .before .loop .i)
+    (threes-length (x .args .n) (x .args .at) (x .args .w .now)) (x .pre .2) (c .before .loop .inv .1) (omega arith) (c .before .loop .inv .2)
 
 pub fill-words-spec : {M : Type 1} → statement M
 fill-words-spec =
@@ -34,11 +45,7 @@ fill-words-spec =
     Inv-loop
     μ-loop
     loop-holds
-    (λ c κs. search needs)
-    (λ c. search needs)
-    (λ c. omega arith)
-    (λ c. omega arith)
-    (λ c. omega arith)
+    (λ c κs. search needs) (λ c. search needs) (λ c. omega arith) (λ c. omega arith) (λ c. omega arith)
     loop-again
     same-length
     returns)

@@ -12,7 +12,10 @@ unfolding times
 returns c = simp (lt-ltb _ _ (c .if1 .taken))
 
 mul-x : tie.Need-mul-x
-mul-x c = let h = small-product (c .before .before .before .args .p) (c .before .before .before .args .n) (c .before .before .if1 .left) (omega arith) in simp (c .before .wide .ensures, c .wide2 .ensures) (omega arith)
+mul-x c =
+    let x = c .before .before in
+    let h = small-product (x .before .args .p) (x .before .args .n) (x .if1 .left) (omega arith) in
+    simp (c .before .wide .ensures, c .wide2 .ensures) (omega arith)
 
 returns-2 : tie.Need-returns-2
 unfolding times
@@ -27,8 +30,7 @@ multiply-spec =
     tie.close
     (tie.spec
     returns
-    (λ c κs. search needs)
-    (λ c κs. search needs)
+    (λ c κs. search needs) (λ c κs. search needs)
     mul-x
     (λ c. search needs)
     returns-2

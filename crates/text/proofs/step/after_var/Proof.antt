@@ -10,16 +10,16 @@ returns c = simp (← c .before .before .last-var .ensures, c .before .if1 .take
 
 returns-2 : tie.Need-returns-2
 unfolding afterVar
-returns-2 c = simp (← c .before .before .before .before .last-var .ensures, c .before .before .before .if1 .left, ← c .before .before .one-more .ensures, ← c .before .await-number .ensures) (c .expect .ensures)
+returns-2 c =
+    let x = c .before .before in
+    let y = x .before .before in
+    simp (← y .last-var .ensures, x .before .if1 .left, ← x .one-more .ensures, ← c .before .await-number .ensures) (c .expect .ensures)
 
 pub after-var-spec : {M : Type 1} → statement M
 after-var-spec =
     tie.close
     (tie.spec
-    (λ c κs. search needs)
-    (λ c κs. search needs)
-    (λ c κs. search needs)
-    (λ c κs. search needs)
+    (λ c κs. search needs) (λ c κs. search needs) (λ c κs. search needs) (λ c κs. search needs)
     (λ c κs. search needs)
     returns
     returns-2)

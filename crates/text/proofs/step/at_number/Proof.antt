@@ -14,19 +14,19 @@ returns-2 c = simp (← c .before .before .before .before .is-digit .ensures, c 
 
 returns-3 : tie.Need-returns-3
 unfolding atNumber
-returns-3 c = simp (← c .before .before .before .before .before .before .before .is-digit .ensures, c .before .before .before .before .before .before .if1 .left, ← c .before .before .before .before .before .dash-here .ensures, c .before .before .before .before .if2 .left) (c .before .before .close-run .ensures)
+returns-3 c =
+    let x = c .before .before in
+    let y = x .before .before in
+    let z = y .before .before in
+    simp (← z .before .is-digit .ensures, z .if1 .left, ← y .before .dash-here .ensures, y .if2 .left) (x .close-run .ensures)
 
 pub at-number-spec : {M : Type 1} → statement M
 at-number-spec =
     tie.close
     (tie.spec
-    (λ c κs. search needs)
-    (λ c κs. search needs)
-    (λ c κs. search needs)
+    (λ c κs. search needs) (λ c κs. search needs) (λ c κs. search needs)
     returns
-    (λ c κs. search needs)
-    (λ c κs. search needs)
+    (λ c κs. search needs) (λ c κs. search needs)
     returns-2
-    (λ c κs. search needs)
-    (λ c. search needs)
+    (λ c κs. search needs) (λ c. search needs)
     returns-3)

@@ -10,7 +10,14 @@ returns c =
     let kept = c .before .before in
     let judged = kept .before .before in
     let sound = judged .before .before .before in
-    simp (← sound .before .before .fault-of .ensures, ← sound .before .goes-on .ensures, sound .if1 .taken, ← judged .before .before .note .ensures, judged .after-number .ensures, kept .store .ensures)
+    simp (
+      ← sound .before .before .fault-of .ensures,
+      ← sound .before .goes-on .ensures,
+      sound .if1 .taken,
+      ← judged .before .before .note .ensures,
+      judged .after-number .ensures,
+      kept .store .ensures,
+    )
 
 returns-2 : tie.Need-returns-2
 unfolding closed
@@ -20,13 +27,8 @@ pub close-run-spec : {M : Type 1} → statement M
 close-run-spec =
     tie.close
     (tie.spec
-    (λ c κs. search needs)
-    (λ c κs. search needs)
-    (λ c κs. search needs)
-    (λ c κs. search needs)
-    (λ c κs. search needs)
-    (λ c κs. search needs)
-    (λ c. search needs)
+    (λ c κs. search needs) (λ c κs. search needs) (λ c κs. search needs) (λ c κs. search needs)
+    (λ c κs. search needs) (λ c κs. search needs) (λ c. search needs)
     returns
     (λ c. search needs)
     returns-2)

@@ -8,6 +8,5 @@ returns c = simp (← c .before .next-line .ensures) (c .expect .ensures)
 
 pub end-line-spec : {M : Type 1} → statement M
 end-line-spec = tie.close (tie.spec
-    (λ c κs. search needs)
-    (λ c κs. search needs)
+    (λ c κs. search needs) (λ c κs. search needs)
     returns)

@@ -21,14 +21,24 @@ loop-holds : tie.Need-loop-holds Inv-loop μ-loop
 loop-holds c = (omega arith, refl, refl)
 
 loop-again : tie.Need-loop-again Inv-loop μ-loop
-loop-again c = let run = c .before .before .before .before .before .before .loop in let s = c .before .before .before .before .before .before .before .before .before .args .s .now in (omega arith, c .before .before .step-byte .kept .1 .1 .0 ∙ run .inv .1, ap (λ (x : St). feed x (drop (run .i + 1) s)) (c .before .before .step-byte .ensures) ∙ feed-next _ s (run .i) (c .before .before .before .before .before .loop-test .taken) ∙ run .inv .2)
+loop-again c =
+    let y = c .before .before in
+    let z = y .before .before .before in
+    let x₁ = z .before .before .before .before in
+    let run = z .before .loop in
+    let s = x₁ .args .s .now in
+    (omega arith, y .step-byte .kept .1 .1 .0 ∙ run .inv .1, ap (λ (x : St). feed x (drop (run .i + 1) s)) (y .step-byte .ensures) ∙ feed-next _ s (run .i) (z .loop-test .taken) ∙ run .inv .2)
 
 same-length : tie.Need-same-length Inv-loop μ-loop
 same-length c = c .before .loop .inv .1
 
 returns : tie.Need-returns Inv-loop μ-loop
 unfolding feed
-returns c = let s = c .before .before .before .before .args .s .now in let h : length s ≤ c .before .loop .i = omega arith in ap (λ (l : List ℕ). feed (mk (c .before .loop .k) (c .before .loop .w)) l) (sym (drop-of-length-le s h)) ∙ c .before .loop .inv .2
+returns c =
+    let x = c .before .before .before .before in
+    let s = x .args .s .now in
+    let h : length s ≤ c .before .loop .i = omega arith in
+    ap (λ (l : List ℕ). feed (mk (c .before .loop .k) (c .before .loop .w)) l) (sym (drop-of-length-le s h)) ∙ c .before .loop .inv .2
 
 pub feed-piece-spec : {M : Type 1} → statement M
 feed-piece-spec =
@@ -37,10 +47,7 @@ feed-piece-spec =
     Inv-loop
     μ-loop
     loop-holds
-    (λ c. omega arith)
-    (λ c κs. search needs)
-    (λ c. omega arith)
-    (λ c. omega arith)
+    (λ c. omega arith) (λ c κs. search needs) (λ c. omega arith) (λ c. omega arith)
     loop-again
     same-length
     returns)

@@ -19,7 +19,11 @@ returns-3 c = simp (ne-eqb _ _ (c .before .before .before .before .before .if1 .
 
 returns-4 : tie.Need-returns-4
 unfolding live
-returns-4 c = simp (ne-eqb _ _ (c .before .before .before .before .before .before .if1 .left), ne-eqb _ _ (c .before .before .before .before .if2 .left), ne-eqb _ _ (c .before .before .if3 .left), ← c .before .take-dash .ensures, c .expect .ensures)
+returns-4 c =
+    let x = c .before .before in
+    let y = x .before .before in
+    let z = y .before .before in
+    simp (ne-eqb _ _ (z .if1 .left), ne-eqb _ _ (y .if2 .left), ne-eqb _ _ (x .if3 .left), ← c .before .take-dash .ensures, c .expect .ensures)
 
 pub live-step-spec : {M : Type 1} → statement M
 live-step-spec =
@@ -27,11 +31,9 @@ live-step-spec =
     (tie.spec
     (λ c κs. search needs)
     returns
-    (λ c κs. search needs)
-    (λ c. search needs)
+    (λ c κs. search needs) (λ c. search needs)
     returns-2
     (λ c κs. search needs)
     returns-3
-    (λ c κs. search needs)
-    (λ c κs. search needs)
+    (λ c κs. search needs) (λ c κs. search needs)
     returns-4)

@@ -19,9 +19,7 @@ returns-3 c = omega arith
 
 pub longer-spec : {M : Type 1} → statement M
 longer-spec = tie.close (tie.spec
-    (λ c. search needs)
-    (λ c. search needs)
-    (λ c. search needs)
+    (λ c. search needs) (λ c. search needs) (λ c. search needs)
     returns
     returns-2
     returns-3)

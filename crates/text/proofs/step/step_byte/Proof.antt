@@ -18,9 +18,6 @@ returns-2 c = simp (← c .before .goes-on .ensures, c .if1 .left)
 pub step-byte-spec : {M : Type 1} → statement M
 step-byte-spec =
     tie.close (tie.spec
-    (λ c κs. search needs)
-    (λ c κs. search needs)
-    (λ c κs. search needs)
-    (λ c. search needs)
+    (λ c κs. search needs) (λ c κs. search needs) (λ c κs. search needs) (λ c. search needs)
     returns
     returns-2)

@@ -40,8 +40,5 @@ read-by-machine-spec =
     returns-2
     returns-3
     returns-4
-    (λ c κs. search needs)
-    (λ c. search needs)
-    (λ c. search needs)
-    (λ c. search needs)
+    (λ c κs. search needs) (λ c. search needs) (λ c. search needs) (λ c. search needs)
     returns-5)
