@@ -8,8 +8,9 @@ use Rattle.text.proofs.read.Tie as tie
 
 returns : tie.Need-returns
 returns c =
-    let start = c .before .before .before .before .before .before .before .before .before .before .before .before .before .before .args in
-    c .before .before .before .before .before .before .read-by-machine .ensures ∙ read-is (start .text .now) (start .facts .now) (start .costs .now) (start .shares .now) (λ i h. c .before .before .before .before .before .before .before .before .before .before .before .before .before .shared-slice-known .given i .fits)
+    let run = c .before .before .before .before .before .before in
+    let text = run .before .before .before .before .before .before .before in
+    run .read-by-machine .ensures ∙ read-is _ _ _ _ (λ i h. text .shared-slice-known .given i .fits)
 
 pub read-spec : {M : Type 1} → statement M
 read-spec =

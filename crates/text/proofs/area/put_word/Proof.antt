@@ -9,7 +9,13 @@ use Rattle.text.proofs.area.put_word.Tie as tie
 
 returns : tie.Need-returns
 unfolding putWord
-returns c = c .before .before .put-byte3 .ensures ∙ ap (λ (l : List ℕ). putByte l (c .before .before .before .before .before .before .before .before .before .before .before .before .before .args .i + 2) (c .before .before .before .before .before .before .before .before .before .before .before .before .before .args .v / 65536)) (c .before .before .before .before .before .before .put-byte2 .ensures ∙ ap (λ (l : List ℕ). putByte l (c .before .before .before .before .before .before .before .before .before .before .before .before .before .args .i + 1) (c .before .before .before .before .before .before .before .before .before .before .before .before .before .args .v / 256)) (c .before .before .before .before .before .before .before .before .before .before .put-byte .ensures))
+returns c =
+    let third = c .before .before in
+    let second = third .before .before .before .before in
+    let first = second .before .before .before .before in
+    let a = first .before .before .before .args in
+    let two = second .put-byte2 .ensures ∙ ap (λ (l : List ℕ). putByte l (a .i + 1) (a .v / 256)) (first .put-byte .ensures) in
+    third .put-byte3 .ensures ∙ ap (λ (l : List ℕ). putByte l (a .i + 2) (a .v / 65536)) two
 
 pub put-word-spec : {M : Type 1} → statement M
 put-word-spec =

@@ -7,7 +7,13 @@ use Rattle.text.proofs.area.word_at.Tie as tie
 
 returns : tie.Need-returns
 unfolding wordIn
-returns c = (simp (c .before .before .before .before .word .ensures .0, c .before .before .word2 .ensures .0, c .word3 .ensures .0, c .before .before .before .before .before .byte-at .ensures, c .before .before .before .byte-at2 .ensures, c .before .byte-at3 .ensures), omega arith)
+returns c =
+    let second = c .before .before in
+    let first = second .before .before in (
+      simp (first .word .ensures .0, second .word2 .ensures .0, c .word3 .ensures .0)
+          (simp (first .before .byte-at .ensures, second .before .byte-at2 .ensures, c .before .byte-at3 .ensures)),
+      omega arith,
+    )
 
 pub word-at-spec : {M : Type 1} → statement M
 word-at-spec =

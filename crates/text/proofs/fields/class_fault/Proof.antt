@@ -7,11 +7,19 @@ use Rattle.text.proofs.fields.class_fault.Tie as tie
 
 returns : tie.Need-returns
 unfolding classFault
-returns c = simp (← c .before .before .before .before .before .before .none-missing .ensures, c .before .before .before .before .before .if1 .taken, ← c .before .before .before .before .last-var .ensures, c .before .before .before .if2 .taken, ← c .before .before .width-of .ensures, ← c .before .multiply .ensures, lt-ltb _ _ (c .if3 .taken))
+returns c =
+    let last = c .before .before .before in
+    let full = last .before .before in
+    simp (← full .before .none-missing .ensures, full .if1 .taken, ← last .before .last-var .ensures, last .if2 .taken)
+    (simp (← c .before .before .width-of .ensures, ← c .before .multiply .ensures, lt-ltb _ _ (c .if3 .taken)))
 
 returns-2 : tie.Need-returns-2
 unfolding classFault
-returns-2 c = simp (← c .before .before .before .before .before .before .none-missing .ensures, c .before .before .before .before .before .if1 .taken, ← c .before .before .before .before .last-var .ensures, c .before .before .before .if2 .taken, ← c .before .before .width-of .ensures, ← c .before .multiply .ensures, le-ltb _ _ (c .if3 .left))
+returns-2 c =
+    let last = c .before .before .before in
+    let full = last .before .before in
+    simp (← full .before .none-missing .ensures, full .if1 .taken, ← last .before .last-var .ensures, last .if2 .taken)
+    (simp (← c .before .before .width-of .ensures, ← c .before .multiply .ensures, le-ltb _ _ (c .if3 .left)))
 
 returns-3 : tie.Need-returns-3
 unfolding classFault

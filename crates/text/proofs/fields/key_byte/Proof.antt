@@ -1,5 +1,4 @@
 -- `text::fields::key_byte` meets its contract: a byte of the keywords, and none past their end. Assumes nothing.
-use Prim.Native.Nat.{_*_, _+_}
 use Rattle.text.proofs.Laws.{getD-any}
 use Rattle.text.specs.Inside.Fields.{keys, keyByte}
 use borrow.Author.Needs.{needs}
@@ -10,7 +9,11 @@ use Rattle.text.proofs.fields.key_byte.Tie as tie
 
 returns : tie.Need-returns
 unfolding keyByte
-returns c = c .word .ensures .0 ∙ simp (c .before .before .before .wide .ensures, c .before .before .wide2 .ensures) (getD-any keys (c .before .before .before .before .args .f * 8 + c .before .before .before .before .args .k) 0 256 (simp (c .before .before .before .wide .ensures, c .before .before .wide2 .ensures) at (c .before .if1 .taken)))
+returns c =
+    let at = c .before .before in
+    c .word .ensures .0
+    ∙ simp (at .before .wide .ensures, at .wide2 .ensures)
+    (getD-any keys _ 0 256 (simp (at .before .wide .ensures, at .wide2 .ensures) at (c .before .if1 .taken)))
 
 returns-2 : tie.Need-returns-2
 unfolding keyByte

@@ -7,39 +7,52 @@ use Rattle.text.proofs.fields.store.Tie as tie
 
 returns : tie.Need-returns
 unfolding stored
-returns c = simp (c .before .before .before .before .before .match .keys1, ← c .before .before .before .wide .ensures) (c .before .before .put-byte .ensures)
+returns c = let put = c .before .before in simp (put .before .before .before .match .keys1, ← put .before .wide .ensures) (put .put-byte .ensures)
 
 returns-2 : tie.Need-returns-2
 unfolding stored
-returns-2 c = simp (c .before .before .before .before .before .match .keys2, ← c .before .before .before .init-place .ensures) (c .before .before .put-byte2 .ensures)
+returns-2 c = let put = c .before .before in simp (put .before .before .before .match .keys2, ← put .before .init-place .ensures) (put .put-byte2 .ensures)
 
 returns-3 : tie.Need-returns-3
 unfolding stored
-returns-3 c = simp (c .before .before .before .before .before .before .match .keys3, ← c .before .before .before .before .goal-place .ensures, ← c .before .before .before .one-more .ensures) (c .before .before .put-byte3 .ensures)
+returns-3 c =
+    let put = c .before .before in
+    let at = put .before .before in
+    simp (at .before .before .match .keys3, ← at .goal-place .ensures, ← put .before .one-more .ensures) (put .put-byte3 .ensures)
 
 returns-4 : tie.Need-returns-4
 unfolding stored
-returns-4 c = simp (c .before .before .before .before .before .match .keys4, ← c .before .before .before .cost-byte .ensures .0) (c .before .before .put-word .ensures)
+returns-4 c = let put = c .before .before in simp (put .before .before .before .match .keys4, ← put .before .cost-byte .ensures .0) (put .put-word .ensures)
 
 returns-5 : tie.Need-returns-5
 unfolding stored
-returns-5 c = simp (c .before .before .before .before .before .before .match .keys5, ← c .before .before .before .before .pre-place .ensures, ← c .before .before .before .one-more2 .ensures) (c .before .before .put-byte4 .ensures)
+returns-5 c =
+    let put = c .before .before in
+    let at = put .before .before in
+    simp (at .before .before .match .keys5, ← at .pre-place .ensures, ← put .before .one-more2 .ensures) (put .put-byte4 .ensures)
 
 returns-6 : tie.Need-returns-6
 unfolding stored
-returns-6 c = simp (c .before .before .before .before .before .before .match .keys6, ← c .before .before .before .before .eff-place .ensures, ← c .before .before .before .one-more3 .ensures) (c .before .before .put-byte5 .ensures)
+returns-6 c =
+    let put = c .before .before in
+    let at = put .before .before in
+    simp (at .before .before .match .keys6, ← at .eff-place .ensures, ← put .before .one-more3 .ensures) (put .put-byte5 .ensures)
 
 returns-7 : tie.Need-returns-7
 unfolding stored
-returns-7 c = simp (c .before .before .before .before .before .match .keys7, ← c .before .before .before .class-place .ensures) (c .before .before .put-byte6 .ensures)
+returns-7 c = let put = c .before .before in simp (put .before .before .before .match .keys7, ← put .before .class-place .ensures) (put .put-byte6 .ensures)
 
 returns-8 : tie.Need-returns-8
 unfolding stored
-returns-8 c = simp (c .before .before .before .before .before .match .keys8, ← c .before .before .before .share-byte .ensures .0) (c .before .before .put-word2 .ensures)
+returns-8 c = let put = c .before .before in simp (put .before .before .before .match .keys8, ← put .before .share-byte .ensures .0) (put .put-word2 .ensures)
 
 returns-9 : tie.Need-returns-9
 unfolding stored
-returns-9 c = simp (ne-eqb _ _ (c .match .rest .0 .0 .0 .0 .0 .0 .0 .1), ne-eqb _ _ (c .match .rest .0 .0 .0 .0 .0 .0 .1), ne-eqb _ _ (c .match .rest .0 .0 .0 .0 .0 .1), ne-eqb _ _ (c .match .rest .0 .0 .0 .0 .1), ne-eqb _ _ (c .match .rest .0 .0 .0 .1), ne-eqb _ _ (c .match .rest .0 .0 .1), ne-eqb _ _ (c .match .rest .0 .1), ne-eqb _ _ (c .match .rest .1))
+returns-9 c =
+    let late = c .match .rest in
+    let early = late .0 .0 .0 .0 in
+    simp (ne-eqb _ _ (early .0 .0 .0 .1), ne-eqb _ _ (early .0 .0 .1), ne-eqb _ _ (early .0 .1), ne-eqb _ _ (early .1))
+    (simp (ne-eqb _ _ (late .0 .0 .0 .1), ne-eqb _ _ (late .0 .0 .1), ne-eqb _ _ (late .0 .1), ne-eqb _ _ (late .1)))
 
 pub store-spec : {M : Type 1} → statement M
 store-spec =

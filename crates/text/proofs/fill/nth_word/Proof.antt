@@ -9,10 +9,12 @@ use Rattle.text.proofs.fill.nth_word.Statement.{statement}
 use Rattle.text.proofs.fill.nth_word.Tie as tie
 
 returns : tie.Need-returns
-returns c = c .word-at .ensures .0 ∙ sym (threes-at (c .before .before .before .args .n) (c .before .before .before .args .at) (c .before .before .before .args .i) (c .before .before .before .args .w .now) (c .before .if1 .taken))
+returns c = c .word-at .ensures .0 ∙ sym (threes-at _ _ _ _ (c .before .if1 .taken))
 
 returns-2 : tie.Need-returns-2
-returns-2 c = sym (List·getD-eq-default (threes (c .before .before .args .n) (c .before .before .args .at) (c .before .before .args .w .now)) 0 (omega (arith, threes-length (c .before .before .args .n) (c .before .before .args .at) (c .before .before .args .w .now), c .if1 .left)))
+returns-2 c =
+    let a = c .before .before .args in
+    sym (List·getD-eq-default (threes (a .n) (a .at) (a .w .now)) 0 (omega (arith, threes-length (a .n) (a .at) (a .w .now), c .if1 .left)))
 
 pub nth-word-spec : {M : Type 1} → statement M
 nth-word-spec = tie.close (tie.spec

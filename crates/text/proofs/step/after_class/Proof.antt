@@ -6,15 +6,25 @@ use Rattle.text.proofs.step.after_class.Tie as tie
 
 returns : tie.Need-returns
 unfolding afterClass
-returns c = simp (← c .before .before .before .before .last-class .ensures, c .before .before .before .if1 .taken, ← c .before .before .last-var .ensures, c .before .if2 .taken) (c .end-line .ensures)
+returns c =
+    let row = c .before in
+    let list = row .before .before in
+    simp (← list .before .last-class .ensures, list .if1 .taken, ← row .before .last-var .ensures, row .if2 .taken) (c .end-line .ensures)
 
 returns-2 : tie.Need-returns-2
 unfolding afterClass
-returns-2 c = simp (← c .before .before .before .before .before .before .before .before .last-class .ensures, c .before .before .before .before .before .before .before .if1 .taken, ← c .before .before .before .before .before .before .last-var .ensures, c .before .before .before .before .before .if2 .left, ← c .before .before .before .before .width-of .ensures, ← c .before .before .before .multiply .ensures, ← c .before .before .one-more .ensures, ← c .before .await-number .ensures) (c .expect .ensures)
+returns-2 c =
+    let put = c .before .before .before in
+    let row = put .before .before in
+    let list = row .before .before in
+    simp (← list .before .last-class .ensures, list .if1 .taken, ← row .before .last-var .ensures, row .if2 .left)
+    (simp (← put .before .width-of .ensures, ← put .multiply .ensures, ← c .before .before .one-more .ensures, ← c .before .await-number .ensures) (c .expect .ensures))
 
 returns-3 : tie.Need-returns-3
 unfolding afterClass
-returns-3 c = simp (← c .before .before .before .before .before .last-class .ensures, c .before .before .before .before .if1 .left, ← c .before .before .one-more2 .ensures, ← c .before .await-number2 .ensures) (c .expect2 .ensures)
+returns-3 c =
+    let list = c .before .before .before .before in
+    simp (← list .before .last-class .ensures, list .if1 .left, ← c .before .before .one-more2 .ensures, ← c .before .await-number2 .ensures) (c .expect2 .ensures)
 
 pub after-class-spec : {M : Type 1} → statement M
 after-class-spec =

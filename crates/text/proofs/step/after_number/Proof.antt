@@ -11,7 +11,9 @@ returns c = simp (← c .before .before .kind-of .ensures, c .before .match .key
 
 returns-2 : tie.Need-returns-2
 unfolding afterNumber
-returns-2 c = simp (← c .before .before .before .before .kind-of .ensures, c .before .before .before .match .keys2, ← c .before .before .one-more .ensures, ← c .before .await-number .ensures) (c .expect .ensures)
+returns-2 c =
+    let told = c .before .before .before in
+    simp (← told .before .kind-of .ensures, told .match .keys2, ← c .before .before .one-more .ensures, ← c .before .await-number .ensures) (c .expect .ensures)
 
 returns-3 : tie.Need-returns-3
 unfolding afterNumber
@@ -31,7 +33,11 @@ returns-6 c = simp (← c .before .before .kind-of .ensures, c .before .match .k
 
 returns-7 : tie.Need-returns-7
 unfolding afterNumber
-returns-7 c = simp (← c .before .before .kind-of .ensures, ne-eqb _ _ (c .before .match .rest .0 .0 .0 .0 .0 .1), ne-eqb _ _ (c .before .match .rest .0 .0 .0 .0 .1), ne-eqb _ _ (c .before .match .rest .0 .0 .0 .1), ne-eqb _ _ (c .before .match .rest .0 .0 .1), ne-eqb _ _ (c .before .match .rest .0 .1), ne-eqb _ _ (c .before .match .rest .1)) (c .end-line .ensures)
+returns-7 c =
+    let late = c .before .match .rest in
+    let early = late .0 .0 .0 in
+    simp (← c .before .before .kind-of .ensures, ne-eqb _ _ (early .0 .0 .1), ne-eqb _ _ (early .0 .1), ne-eqb _ _ (early .1))
+    (simp (ne-eqb _ _ (late .0 .0 .1), ne-eqb _ _ (late .0 .1), ne-eqb _ _ (late .1)) (c .end-line .ensures))
 
 pub after-number-spec : {M : Type 1} → statement M
 after-number-spec =

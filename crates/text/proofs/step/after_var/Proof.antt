@@ -10,7 +10,9 @@ returns c = simp (← c .before .before .last-var .ensures, c .before .if1 .take
 
 returns-2 : tie.Need-returns-2
 unfolding afterVar
-returns-2 c = simp (← c .before .before .before .before .last-var .ensures, c .before .before .before .if1 .left, ← c .before .before .one-more .ensures, ← c .before .await-number .ensures) (c .expect .ensures)
+returns-2 c =
+    let more = c .before .before .before in
+    simp (← more .before .last-var .ensures, more .if1 .left, ← c .before .before .one-more .ensures, ← c .before .await-number .ensures) (c .expect .ensures)
 
 pub after-var-spec : {M : Type 1} → statement M
 after-var-spec =

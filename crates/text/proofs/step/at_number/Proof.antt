@@ -14,7 +14,11 @@ returns-2 c = simp (← c .before .before .before .before .is-digit .ensures, c 
 
 returns-3 : tie.Need-returns-3
 unfolding atNumber
-returns-3 c = simp (← c .before .before .before .before .before .before .before .is-digit .ensures, c .before .before .before .before .before .before .if1 .left, ← c .before .before .before .before .before .dash-here .ensures, c .before .before .before .before .if2 .left) (c .before .before .close-run .ensures)
+returns-3 c =
+    let run = c .before .before in
+    let mark = run .before .before in
+    let byte = mark .before .before in
+    simp (← byte .before .is-digit .ensures, byte .if1 .left, ← mark .before .dash-here .ensures, mark .if2 .left) (run .close-run .ensures)
 
 pub at-number-spec : {M : Type 1} → statement M
 at-number-spec =

@@ -10,7 +10,8 @@ returns c =
     let kept = c .before .before in
     let judged = kept .before .before in
     let sound = judged .before .before .before in
-    simp (← sound .before .before .fault-of .ensures, ← sound .before .goes-on .ensures, sound .if1 .taken, ← judged .before .before .note .ensures, judged .after-number .ensures, kept .store .ensures)
+    simp (← sound .before .before .fault-of .ensures, ← sound .before .goes-on .ensures, sound .if1 .taken)
+    (simp (← judged .before .before .note .ensures, judged .after-number .ensures, kept .store .ensures))
 
 returns-2 : tie.Need-returns-2
 unfolding closed

@@ -19,7 +19,10 @@ returns-3 c = simp (ne-eqb _ _ (c .before .before .before .before .before .if1 .
 
 returns-4 : tie.Need-returns-4
 unfolding live
-returns-4 c = simp (ne-eqb _ _ (c .before .before .before .before .before .before .if1 .left), ne-eqb _ _ (c .before .before .before .before .if2 .left), ne-eqb _ _ (c .before .before .if3 .left), ← c .before .take-dash .ensures, c .expect .ensures)
+returns-4 c =
+    let third = c .before .before in
+    let second = third .before .before in
+    simp (ne-eqb _ _ (second .before .before .if1 .left), ne-eqb _ _ (second .if2 .left), ne-eqb _ _ (third .if3 .left), ← c .before .take-dash .ensures, c .expect .ensures)
 
 pub live-step-spec : {M : Type 1} → statement M
 live-step-spec =
