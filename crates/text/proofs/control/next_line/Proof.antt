@@ -5,18 +5,6 @@ use borrow.Author.Tests.{eq-eqb, ne-eqb}
 use Rattle.text.proofs.control.next_line.Statement.{statement}
 use Rattle.text.proofs.control.next_line.Tie as tie
 
-returns : tie.Need-returns
-unfolding nextLine
-returns c = simp (eq-eqb _ _ (c .before .if1 .taken)) (c .after-ops .ensures)
-
-returns-2 : tie.Need-returns-2
-unfolding nextLine
-returns-2 c = simp (ne-eqb _ _ (c .before .before .if1 .left), eq-eqb _ _ (c .before .if2 .taken)) (c .row-or .ensures)
-
-returns-3 : tie.Need-returns-3
-unfolding nextLine
-returns-3 c = simp (ne-eqb _ _ (c .before .before .before .if1 .left), ne-eqb _ _ (c .before .before .if2 .left), eq-eqb _ _ (c .before .if3 .taken)) (c .row-or2 .ensures)
-
 returns-4 : tie.Need-returns-4
 unfolding nextLine
 returns-4 c =
@@ -41,15 +29,16 @@ returns-6 c =
     (simp (← fourth .before .list-of .ensures, ne-eqb _ _ (fourth .if4 .left), ne-eqb _ _ (c .before .before .if5 .left), ← c .before .one-more .ensures) (c .to-line2 .ensures))
 
 pub next-line-spec : {M : Type 1} → statement M
+unfolding nextLine
 next-line-spec =
     tie.close
     (tie.spec
     (λ c κs. search needs)
-    returns
+    (λ c. simp (eq-eqb _ _ (c .before .if1 .taken)) (c .after-ops .ensures))
     (λ c κs. search needs)
-    returns-2
+    (λ c. simp (ne-eqb _ _ (c .before .before .if1 .left), eq-eqb _ _ (c .before .if2 .taken)) (c .row-or .ensures))
     (λ c κs. search needs)
-    returns-3
+    (λ c. simp (ne-eqb _ _ (c .before .before .before .if1 .left), ne-eqb _ _ (c .before .before .if2 .left), eq-eqb _ _ (c .before .if3 .taken)) (c .row-or2 .ensures))
     (λ c κs. search needs)
     (λ c κs. search needs)
     returns-4

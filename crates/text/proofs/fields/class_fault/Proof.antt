@@ -21,15 +21,8 @@ returns-2 c =
     simp (← full .before .none-missing .ensures, full .if1 .taken, ← last .before .last-var .ensures, last .if2 .taken)
     (simp (← c .before .before .width-of .ensures, ← c .before .multiply .ensures, le-ltb _ _ (c .if3 .left)))
 
-returns-3 : tie.Need-returns-3
-unfolding classFault
-returns-3 c = simp (← c .before .before .before .none-missing .ensures, c .before .before .if1 .taken, ← c .before .last-var .ensures, c .if2 .left)
-
-returns-4 : tie.Need-returns-4
-unfolding classFault
-returns-4 c = simp (← c .before .none-missing .ensures, c .if1 .left)
-
 pub class-fault-spec : {M : Type 1} → statement M
+unfolding classFault
 class-fault-spec =
     tie.close
     (tie.spec
@@ -39,5 +32,5 @@ class-fault-spec =
     (λ c κs. search needs)
     returns
     returns-2
-    returns-3
-    returns-4)
+    (λ c. simp (← c .before .before .before .none-missing .ensures, c .before .before .if1 .taken, ← c .before .last-var .ensures, c .if2 .left))
+    (λ c. simp (← c .before .none-missing .ensures, c .if1 .left)))

@@ -15,11 +15,8 @@ returns c =
     ∙ simp (at .before .wide .ensures, at .wide2 .ensures)
     (getD-any keys _ 0 256 (simp (at .before .wide .ensures, at .wide2 .ensures) at (c .before .if1 .taken)))
 
-returns-2 : tie.Need-returns-2
-unfolding keyByte
-returns-2 c = sym (simp (← c .before .before .wide .ensures, ← c .before .wide2 .ensures) (List·getD-eq-default keys 256 (c .if1 .left)))
-
 pub key-byte-spec : {M : Type 1} → statement M
+unfolding keyByte
 key-byte-spec =
     tie.close
     (tie.spec
@@ -30,4 +27,4 @@ key-byte-spec =
     (λ c. search needs)
     (λ c κs. search needs)
     returns
-    returns-2)
+    (λ c. sym (simp (← c .before .before .wide .ensures, ← c .before .wide2 .ensures) (List·getD-eq-default keys 256 (c .if1 .left)))))

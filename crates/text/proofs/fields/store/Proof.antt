@@ -5,24 +5,12 @@ use borrow.Author.Tests.{ne-eqb}
 use Rattle.text.proofs.fields.store.Statement.{statement}
 use Rattle.text.proofs.fields.store.Tie as tie
 
-returns : tie.Need-returns
-unfolding stored
-returns c = let put = c .before .before in simp (put .before .before .before .match .keys1, ← put .before .wide .ensures) (put .put-byte .ensures)
-
-returns-2 : tie.Need-returns-2
-unfolding stored
-returns-2 c = let put = c .before .before in simp (put .before .before .before .match .keys2, ← put .before .init-place .ensures) (put .put-byte2 .ensures)
-
 returns-3 : tie.Need-returns-3
 unfolding stored
 returns-3 c =
     let put = c .before .before in
     let at = put .before .before in
     simp (at .before .before .match .keys3, ← at .goal-place .ensures, ← put .before .one-more .ensures) (put .put-byte3 .ensures)
-
-returns-4 : tie.Need-returns-4
-unfolding stored
-returns-4 c = let put = c .before .before in simp (put .before .before .before .match .keys4, ← put .before .cost-byte .ensures .0) (put .put-word .ensures)
 
 returns-5 : tie.Need-returns-5
 unfolding stored
@@ -38,14 +26,6 @@ returns-6 c =
     let at = put .before .before in
     simp (at .before .before .match .keys6, ← at .eff-place .ensures, ← put .before .one-more3 .ensures) (put .put-byte5 .ensures)
 
-returns-7 : tie.Need-returns-7
-unfolding stored
-returns-7 c = let put = c .before .before in simp (put .before .before .before .match .keys7, ← put .before .class-place .ensures) (put .put-byte6 .ensures)
-
-returns-8 : tie.Need-returns-8
-unfolding stored
-returns-8 c = let put = c .before .before in simp (put .before .before .before .match .keys8, ← put .before .share-byte .ensures .0) (put .put-word2 .ensures)
-
 returns-9 : tie.Need-returns-9
 unfolding stored
 returns-9 c =
@@ -55,6 +35,7 @@ returns-9 c =
     (simp (ne-eqb _ _ (late .0 .0 .0 .1), ne-eqb _ _ (late .0 .0 .1), ne-eqb _ _ (late .0 .1), ne-eqb _ _ (late .1)))
 
 pub store-spec : {M : Type 1} → statement M
+unfolding stored
 store-spec =
     tie.close
     (tie.spec
@@ -78,19 +59,19 @@ store-spec =
     (λ c κs. search needs)
     (λ c κs. search needs)
     (λ c. search needs)
-    returns
+    (λ c. let put = c .before .before in simp (put .before .before .before .match .keys1, ← put .before .wide .ensures) (put .put-byte .ensures))
     (λ c. search needs)
-    returns-2
+    (λ c. let put = c .before .before in simp (put .before .before .before .match .keys2, ← put .before .init-place .ensures) (put .put-byte2 .ensures))
     (λ c. search needs)
     returns-3
     (λ c. search needs)
-    returns-4
+    (λ c. let put = c .before .before in simp (put .before .before .before .match .keys4, ← put .before .cost-byte .ensures .0) (put .put-word .ensures))
     (λ c. search needs)
     returns-5
     (λ c. search needs)
     returns-6
     (λ c. search needs)
-    returns-7
+    (λ c. let put = c .before .before in simp (put .before .before .before .match .keys7, ← put .before .class-place .ensures) (put .put-byte6 .ensures))
     (λ c. search needs)
-    returns-8
+    (λ c. let put = c .before .before in simp (put .before .before .before .match .keys8, ← put .before .share-byte .ensures .0) (put .put-word2 .ensures))
     returns-9)

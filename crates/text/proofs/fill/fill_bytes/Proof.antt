@@ -14,17 +14,11 @@ Inv-loop w n out₀ i₀ out i = FilledTo (take n w) out₀ out i
 abbrev μ-loop : tie.MeasureT-loop
 μ-loop w n out₀ i₀ out i = length out₀ - i
 
-loop-holds : tie.Need-loop-holds Inv-loop μ-loop
-loop-holds c = filled-none _ _
-
 loop-again : tie.Need-loop-again Inv-loop μ-loop
 loop-again c =
     let run = c .before .before .loop in
     let fits : run .i < length (run .out) = omega arith in
     fill-turn _ _ _ _ _ (run .inv) fits (c .nth-byte .ensures)
-
-same-length : tie.Need-same-length Inv-loop μ-loop
-same-length c = c .before .loop .inv .same
 
 returns : tie.Need-returns Inv-loop μ-loop
 returns c =
@@ -37,11 +31,11 @@ fill-bytes-spec =
     (tie.spec
     Inv-loop
     μ-loop
-    loop-holds
+    (λ c. filled-none _ _)
     (λ c κs. search needs)
     (λ c. omega arith)
     (λ c. omega arith)
     (λ c. omega arith)
     loop-again
-    same-length
+    (λ c. c .before .loop .inv .same)
     returns)

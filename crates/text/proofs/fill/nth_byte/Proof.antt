@@ -7,9 +7,6 @@ use native.Mathlib.Omega.{arith}
 use Rattle.text.proofs.fill.nth_byte.Statement.{statement}
 use Rattle.text.proofs.fill.nth_byte.Tie as tie
 
-returns : tie.Need-returns
-returns c = c .byte-at .ensures ∙ sym (getD-take _ _ _ 0 (c .before .if1 .taken))
-
 returns-2 : tie.Need-returns-2
 returns-2 c =
     let a = c .before .before .args in
@@ -18,5 +15,5 @@ returns-2 c =
 pub nth-byte-spec : {M : Type 1} → statement M
 nth-byte-spec = tie.close (tie.spec
     (λ c κs. search needs)
-    returns
+    (λ c. c .byte-at .ensures ∙ sym (getD-take _ _ _ 0 (c .before .if1 .taken)))
     returns-2)

@@ -8,9 +8,6 @@ use native.Mathlib.Omega.{arith}
 use Rattle.text.proofs.fill.nth_word.Statement.{statement}
 use Rattle.text.proofs.fill.nth_word.Tie as tie
 
-returns : tie.Need-returns
-returns c = c .word-at .ensures .0 ∙ sym (threes-at _ _ _ _ (c .before .if1 .taken))
-
 returns-2 : tie.Need-returns-2
 returns-2 c =
     let a = c .before .before .args in
@@ -21,5 +18,5 @@ nth-word-spec = tie.close (tie.spec
     (λ c. search needs)
     (λ c. search needs)
     (λ c κs. search needs)
-    returns
+    (λ c. c .word-at .ensures .0 ∙ sym (threes-at _ _ _ _ (c .before .if1 .taken)))
     returns-2)

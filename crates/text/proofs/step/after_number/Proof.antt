@@ -5,31 +5,11 @@ use borrow.Author.Tests.{ne-eqb}
 use Rattle.text.proofs.step.after_number.Statement.{statement}
 use Rattle.text.proofs.step.after_number.Tie as tie
 
-returns : tie.Need-returns
-unfolding afterNumber
-returns c = simp (← c .before .before .kind-of .ensures, c .before .match .keys1) (c .after-var .ensures)
-
 returns-2 : tie.Need-returns-2
 unfolding afterNumber
 returns-2 c =
     let told = c .before .before .before in
     simp (← told .before .kind-of .ensures, told .match .keys2, ← c .before .before .one-more .ensures, ← c .before .await-number .ensures) (c .expect .ensures)
-
-returns-3 : tie.Need-returns-3
-unfolding afterNumber
-returns-3 c = simp (← c .before .before .kind-of .ensures, c .before .match .keys3) (c .after-value .ensures)
-
-returns-4 : tie.Need-returns-4
-unfolding afterNumber
-returns-4 c = simp (← c .before .before .before .kind-of .ensures, c .before .before .match .keys4, ← c .before .await-number2 .ensures) (c .expect2 .ensures)
-
-returns-5 : tie.Need-returns-5
-unfolding afterNumber
-returns-5 c = simp (← c .before .before .kind-of .ensures, c .before .match .keys5) (c .after-class .ensures)
-
-returns-6 : tie.Need-returns-6
-unfolding afterNumber
-returns-6 c = simp (← c .before .before .kind-of .ensures, c .before .match .keys6) (c .after-share .ensures)
 
 returns-7 : tie.Need-returns-7
 unfolding afterNumber
@@ -40,6 +20,7 @@ returns-7 c =
     (simp (ne-eqb _ _ (late .0 .0 .1), ne-eqb _ _ (late .0 .1), ne-eqb _ _ (late .1)) (c .end-line .ensures))
 
 pub after-number-spec : {M : Type 1} → statement M
+unfolding afterNumber
 after-number-spec =
     tie.close
     (tie.spec
@@ -54,10 +35,10 @@ after-number-spec =
     (λ c κs. search needs)
     (λ c κs. search needs)
     (λ c κs. search needs)
-    returns
+    (λ c. simp (← c .before .before .kind-of .ensures, c .before .match .keys1) (c .after-var .ensures))
     returns-2
-    returns-3
-    returns-4
-    returns-5
-    returns-6
+    (λ c. simp (← c .before .before .kind-of .ensures, c .before .match .keys3) (c .after-value .ensures))
+    (λ c. simp (← c .before .before .before .kind-of .ensures, c .before .before .match .keys4, ← c .before .await-number2 .ensures) (c .expect2 .ensures))
+    (λ c. simp (← c .before .before .kind-of .ensures, c .before .match .keys5) (c .after-class .ensures))
+    (λ c. simp (← c .before .before .kind-of .ensures, c .before .match .keys6) (c .after-share .ensures))
     returns-7)

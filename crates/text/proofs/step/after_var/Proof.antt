@@ -4,10 +4,6 @@ use borrow.Author.Needs.{needs}
 use Rattle.text.proofs.step.after_var.Statement.{statement}
 use Rattle.text.proofs.step.after_var.Tie as tie
 
-returns : tie.Need-returns
-unfolding afterVar
-returns c = simp (← c .before .before .last-var .ensures, c .before .if1 .taken) (c .end-line .ensures)
-
 returns-2 : tie.Need-returns-2
 unfolding afterVar
 returns-2 c =
@@ -15,6 +11,7 @@ returns-2 c =
     simp (← more .before .last-var .ensures, more .if1 .left, ← c .before .before .one-more .ensures, ← c .before .await-number .ensures) (c .expect .ensures)
 
 pub after-var-spec : {M : Type 1} → statement M
+unfolding afterVar
 after-var-spec =
     tie.close
     (tie.spec
@@ -23,5 +20,5 @@ after-var-spec =
     (λ c κs. search needs)
     (λ c κs. search needs)
     (λ c κs. search needs)
-    returns
+    (λ c. simp (← c .before .before .last-var .ensures, c .before .if1 .taken) (c .end-line .ensures))
     returns-2)

@@ -4,10 +4,6 @@ use borrow.Author.Needs.{needs}
 use Rattle.text.proofs.step.at_number.Statement.{statement}
 use Rattle.text.proofs.step.at_number.Tie as tie
 
-returns : tie.Need-returns
-unfolding atNumber
-returns c = simp (← c .before .before .before .is-digit .ensures, c .before .before .if1 .taken, ← c .before .digit-of .ensures, c .add-digit .ensures)
-
 returns-2 : tie.Need-returns-2
 unfolding atNumber
 returns-2 c = simp (← c .before .before .before .before .is-digit .ensures, c .before .before .before .if1 .left, ← c .before .before .dash-here .ensures, c .before .if2 .taken, c .take-dash .ensures)
@@ -21,13 +17,14 @@ returns-3 c =
     simp (← byte .before .is-digit .ensures, byte .if1 .left, ← mark .before .dash-here .ensures, mark .if2 .left) (run .close-run .ensures)
 
 pub at-number-spec : {M : Type 1} → statement M
+unfolding atNumber
 at-number-spec =
     tie.close
     (tie.spec
     (λ c κs. search needs)
     (λ c κs. search needs)
     (λ c κs. search needs)
-    returns
+    (λ c. simp (← c .before .before .before .is-digit .ensures, c .before .before .if1 .taken, ← c .before .digit-of .ensures, c .add-digit .ensures))
     (λ c κs. search needs)
     (λ c κs. search needs)
     returns-2

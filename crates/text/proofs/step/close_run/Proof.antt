@@ -13,11 +13,8 @@ returns c =
     simp (← sound .before .before .fault-of .ensures, ← sound .before .goes-on .ensures, sound .if1 .taken)
     (simp (← judged .before .before .note .ensures, judged .after-number .ensures, kept .store .ensures))
 
-returns-2 : tie.Need-returns-2
-unfolding closed
-returns-2 c = simp (← c .before .before .before .fault-of .ensures, ← c .before .before .goes-on .ensures, c .before .if1 .left, c .stop .ensures)
-
 pub close-run-spec : {M : Type 1} → statement M
+unfolding closed
 close-run-spec =
     tie.close
     (tie.spec
@@ -30,4 +27,4 @@ close-run-spec =
     (λ c. search needs)
     returns
     (λ c. search needs)
-    returns-2)
+    (λ c. simp (← c .before .before .before .fault-of .ensures, ← c .before .before .goes-on .ensures, c .before .if1 .left, c .stop .ensures)))

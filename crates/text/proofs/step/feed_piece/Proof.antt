@@ -16,9 +16,6 @@ Inv-loop s w₀ k₀ i₀ w k i = (i ≤ length s) × (length w ≡ length w₀)
 abbrev μ-loop : tie.MeasureT-loop
 μ-loop s w₀ k₀ i₀ w k i = length s - i
 
-loop-holds : tie.Need-loop-holds Inv-loop μ-loop
-loop-holds c = (omega arith, refl, refl)
-
 loop-again : tie.Need-loop-again Inv-loop μ-loop
 loop-again c =
     let read = c .before .before in
@@ -26,9 +23,6 @@ loop-again c =
     let s = read .before .before .before .before .before .before .before .args .s .now in
     let fed = ap (λ (x : St). feed x (drop (run .i + 1) s)) (read .step-byte .ensures) in
     (omega arith, read .step-byte .kept .1 .1 .0 ∙ run .inv .1, fed ∙ feed-next _ s (run .i) (read .before .before .before .loop-test .taken) ∙ run .inv .2)
-
-same-length : tie.Need-same-length Inv-loop μ-loop
-same-length c = c .before .loop .inv .1
 
 returns : tie.Need-returns Inv-loop μ-loop
 unfolding feed
@@ -44,11 +38,11 @@ feed-piece-spec =
     (tie.spec
     Inv-loop
     μ-loop
-    loop-holds
+    (λ c. (omega arith, refl, refl))
     (λ c. omega arith)
     (λ c κs. search needs)
     (λ c. omega arith)
     (λ c. omega arith)
     loop-again
-    same-length
+    (λ c. c .before .loop .inv .1)
     returns)

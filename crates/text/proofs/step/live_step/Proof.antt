@@ -5,10 +5,6 @@ use borrow.Author.Tests.{eq-eqb, ne-eqb}
 use Rattle.text.proofs.step.live_step.Statement.{statement}
 use Rattle.text.proofs.step.live_step.Tie as tie
 
-returns : tie.Need-returns
-unfolding live
-returns c = simp (eq-eqb _ _ (c .before .if1 .taken), c .in-key .ensures)
-
 returns-2 : tie.Need-returns-2
 unfolding live
 returns-2 c = simp (ne-eqb _ _ (c .before .before .before .before .before .before .if1 .left), eq-eqb _ _ (c .before .before .before .before .if2 .taken)) (c .before .before .at-number .ensures)
@@ -25,11 +21,12 @@ returns-4 c =
     simp (ne-eqb _ _ (second .before .before .if1 .left), ne-eqb _ _ (second .if2 .left), ne-eqb _ _ (third .if3 .left), ← c .before .take-dash .ensures, c .expect .ensures)
 
 pub live-step-spec : {M : Type 1} → statement M
+unfolding live
 live-step-spec =
     tie.close
     (tie.spec
     (λ c κs. search needs)
-    returns
+    (λ c. simp (eq-eqb _ _ (c .before .if1 .taken), c .in-key .ensures))
     (λ c κs. search needs)
     (λ c. search needs)
     returns-2
