@@ -1,6 +1,5 @@
 -- `text::read` meets its contract: the machine reads every text as the grammar says. Assumes nothing.
 use Rattle.text.proofs.BridgeText.{read-is}
-use Rattle.text.specs.Inside.Control.{start}
 use borrow.Author.Needs.{needs}
 use mathlib.Core.Path.{_∙_}
 use Rattle.text.proofs.read.Statement.{statement}

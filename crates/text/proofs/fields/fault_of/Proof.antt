@@ -12,12 +12,6 @@ returns-2 c =
     let y = x .before .before in
     simp (ne-eqb _ _ (y .before .if1 .left), ← y .judge .ensures, ← x .before .goes-on .ensures, x .if2 .taken, ← c .before .note .ensures) (c .before-byte .ensures)
 
-returns-3 : tie.Need-returns-3
-unfolding fault
-returns-3 c =
-    let y = c .before .before in
-    simp (ne-eqb _ _ (y .before .if1 .left), ← y .judge .ensures, ← c .before .goes-on .ensures, c .if2 .left)
-
 pub fault-of-spec : {M : Type 1} → statement M
 unfolding fault
 fault-of-spec =
@@ -29,4 +23,4 @@ fault-of-spec =
     (λ c κs. search needs)
     (λ c κs. search needs)
     returns-2
-    returns-3)
+    (λ c. let y = c .before .before in simp (ne-eqb _ _ (y .before .if1 .left), ← y .judge .ensures, ← c .before .goes-on .ensures, c .if2 .left)))

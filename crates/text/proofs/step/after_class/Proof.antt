@@ -4,13 +4,6 @@ use borrow.Author.Needs.{needs}
 use Rattle.text.proofs.step.after_class.Statement.{statement}
 use Rattle.text.proofs.step.after_class.Tie as tie
 
-returns : tie.Need-returns
-unfolding afterClass
-returns c =
-    let row = c .before in
-    let list = row .before .before in
-    simp (← list .before .last-class .ensures, list .if1 .taken, ← row .before .last-var .ensures, row .if2 .taken) (c .end-line .ensures)
-
 returns-2 : tie.Need-returns-2
 unfolding afterClass
 returns-2 c =
@@ -23,10 +16,11 @@ returns-2 c =
 returns-3 : tie.Need-returns-3
 unfolding afterClass
 returns-3 c =
-    let list = c .before .before .before .before in
-    simp (← list .before .last-class .ensures, list .if1 .left, ← c .before .before .one-more2 .ensures, ← c .before .await-number2 .ensures) (c .expect2 .ensures)
+    let n = c .before .before in
+    simp (← n .before .before .before .last-class .ensures, n .before .before .if1 .left, ← n .one-more2 .ensures, ← c .before .await-number2 .ensures) (c .expect2 .ensures)
 
 pub after-class-spec : {M : Type 1} → statement M
+unfolding afterClass
 after-class-spec =
     tie.close
     (tie.spec
@@ -41,6 +35,6 @@ after-class-spec =
     (λ c κs. search needs)
     (λ c κs. search needs)
     (λ c κs. search needs)
-    returns
+    (λ c. let l = c .before .before .before in simp (← l .before .last-class .ensures, l .if1 .taken, ← c .before .before .last-var .ensures, c .before .if2 .taken) (c .end-line .ensures))
     returns-2
     returns-3)

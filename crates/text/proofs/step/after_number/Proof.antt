@@ -5,12 +5,6 @@ use borrow.Author.Tests.{ne-eqb}
 use Rattle.text.proofs.step.after_number.Statement.{statement}
 use Rattle.text.proofs.step.after_number.Tie as tie
 
-returns-2 : tie.Need-returns-2
-unfolding afterNumber
-returns-2 c =
-    let told = c .before .before .before in
-    simp (← told .before .kind-of .ensures, told .match .keys2, ← c .before .before .one-more .ensures, ← c .before .await-number .ensures) (c .expect .ensures)
-
 returns-7 : tie.Need-returns-7
 unfolding afterNumber
 returns-7 c =
@@ -36,7 +30,7 @@ after-number-spec =
     (λ c κs. search needs)
     (λ c κs. search needs)
     (λ c. simp (← c .before .before .kind-of .ensures, c .before .match .keys1) (c .after-var .ensures))
-    returns-2
+    (λ c. let n = c .before .before in simp (← n .before .before .kind-of .ensures, n .before .match .keys2, ← n .one-more .ensures, ← c .before .await-number .ensures) (c .expect .ensures))
     (λ c. simp (← c .before .before .kind-of .ensures, c .before .match .keys3) (c .after-value .ensures))
     (λ c. simp (← c .before .before .before .kind-of .ensures, c .before .before .match .keys4, ← c .before .await-number2 .ensures) (c .expect2 .ensures))
     (λ c. simp (← c .before .before .kind-of .ensures, c .before .match .keys5) (c .after-class .ensures))

@@ -4,12 +4,6 @@ use borrow.Author.Needs.{needs}
 use Rattle.text.proofs.step.after_var.Statement.{statement}
 use Rattle.text.proofs.step.after_var.Tie as tie
 
-returns-2 : tie.Need-returns-2
-unfolding afterVar
-returns-2 c =
-    let more = c .before .before .before in
-    simp (← more .before .last-var .ensures, more .if1 .left, ← c .before .before .one-more .ensures, ← c .before .await-number .ensures) (c .expect .ensures)
-
 pub after-var-spec : {M : Type 1} → statement M
 unfolding afterVar
 after-var-spec =
@@ -21,4 +15,4 @@ after-var-spec =
     (λ c κs. search needs)
     (λ c κs. search needs)
     (λ c. simp (← c .before .before .last-var .ensures, c .before .if1 .taken) (c .end-line .ensures))
-    returns-2)
+    (λ c. let n = c .before .before in simp (← n .before .before .last-var .ensures, n .before .if1 .left, ← n .one-more .ensures, ← c .before .await-number .ensures) (c .expect .ensures)))

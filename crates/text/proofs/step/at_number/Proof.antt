@@ -4,10 +4,6 @@ use borrow.Author.Needs.{needs}
 use Rattle.text.proofs.step.at_number.Statement.{statement}
 use Rattle.text.proofs.step.at_number.Tie as tie
 
-returns-2 : tie.Need-returns-2
-unfolding atNumber
-returns-2 c = simp (← c .before .before .before .before .is-digit .ensures, c .before .before .before .if1 .left, ← c .before .before .dash-here .ensures, c .before .if2 .taken, c .take-dash .ensures)
-
 returns-3 : tie.Need-returns-3
 unfolding atNumber
 returns-3 c =
@@ -27,7 +23,7 @@ at-number-spec =
     (λ c. simp (← c .before .before .before .is-digit .ensures, c .before .before .if1 .taken, ← c .before .digit-of .ensures, c .add-digit .ensures))
     (λ c κs. search needs)
     (λ c κs. search needs)
-    returns-2
+    (λ c. let n = c .before .before in simp (← n .before .before .is-digit .ensures, n .before .if1 .left, ← n .dash-here .ensures, c .before .if2 .taken, c .take-dash .ensures))
     (λ c κs. search needs)
     (λ c. search needs)
     returns-3)

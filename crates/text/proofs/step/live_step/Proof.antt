@@ -5,14 +5,6 @@ use borrow.Author.Tests.{eq-eqb, ne-eqb}
 use Rattle.text.proofs.step.live_step.Statement.{statement}
 use Rattle.text.proofs.step.live_step.Tie as tie
 
-returns-2 : tie.Need-returns-2
-unfolding live
-returns-2 c = simp (ne-eqb _ _ (c .before .before .before .before .before .before .if1 .left), eq-eqb _ _ (c .before .before .before .before .if2 .taken)) (c .before .before .at-number .ensures)
-
-returns-3 : tie.Need-returns-3
-unfolding live
-returns-3 c = simp (ne-eqb _ _ (c .before .before .before .before .before .if1 .left), ne-eqb _ _ (c .before .before .before .if2 .left), eq-eqb _ _ (c .before .if3 .taken), c .list-end .ensures)
-
 returns-4 : tie.Need-returns-4
 unfolding live
 returns-4 c =
@@ -29,9 +21,9 @@ live-step-spec =
     (λ c. simp (eq-eqb _ _ (c .before .if1 .taken), c .in-key .ensures))
     (λ c κs. search needs)
     (λ c. search needs)
-    returns-2
+    (λ c. let n = c .before .before in simp (ne-eqb _ _ (n .before .before .before .before .if1 .left), eq-eqb _ _ (n .before .before .if2 .taken)) (n .at-number .ensures))
     (λ c κs. search needs)
-    returns-3
+    (λ c. let n = c .before .before .before in simp (ne-eqb _ _ (n .before .before .if1 .left), ne-eqb _ _ (n .if2 .left), eq-eqb _ _ (c .before .if3 .taken), c .list-end .ensures))
     (λ c κs. search needs)
     (λ c κs. search needs)
     returns-4)
