@@ -9,11 +9,8 @@ returns : tie.Need-returns
 unfolding wordIn
 returns c =
     let second = c .before .before in
-    let first = second .before .before in (
-      simp (first .word .ensures .0, second .word2 .ensures .0, c .word3 .ensures .0)
-          (simp (first .before .byte-at .ensures, second .before .byte-at2 .ensures, c .before .byte-at3 .ensures)),
-      omega arith,
-    )
+    let first = second .before .before in
+    (simp (first .word .ensures .0, second .word2 .ensures .0, c .word3 .ensures .0, first .before .byte-at .ensures, second .before .byte-at2 .ensures, c .before .byte-at3 .ensures), omega arith)
 
 pub word-at-spec : {M : Type 1} → statement M
 word-at-spec =

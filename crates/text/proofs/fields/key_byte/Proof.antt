@@ -10,10 +10,9 @@ use Rattle.text.proofs.fields.key_byte.Tie as tie
 returns : tie.Need-returns
 unfolding keyByte
 returns c =
-    let at = c .before .before in
-    c .word .ensures .0
-    ∙ simp (at .before .wide .ensures, at .wide2 .ensures)
-    (getD-any keys _ 0 256 (simp (at .before .wide .ensures, at .wide2 .ensures) at (c .before .if1 .taken)))
+    let place = c .before .before in
+    let known = simp (place .before .wide .ensures, place .wide2 .ensures) at (c .before .if1 .taken) in
+    c .word .ensures .0 ∙ simp (place .before .wide .ensures, place .wide2 .ensures) (getD-any keys _ 0 256 known)
 
 pub key-byte-spec : {M : Type 1} → statement M
 unfolding keyByte
