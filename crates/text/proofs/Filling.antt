@@ -6,7 +6,7 @@ use native.Mathlib.Numerals.{add-one}
 use mathlib.Core.Path.{_≡_, refl, sym, ap, _∙_}
 use mathlib.Core.Logic.{_⊎_, inl, inr}
 use mathlib.Core.List.{List, _++_}
-use lib.ListN.{length, getD, set, replicate, length-append, length-replicate, getD-replicate, List·getD-append, List·getD-eq-default}
+use lib.ListN.{length, getD, set, replicate, length-set, length-append, length-replicate, getD-replicate, List·getD-append, List·getD-eq-default}
 use lib.Seq.{ext-getD, getD-set-same, getD-set-other, getD-append-add}
 use Rattle.grammar.specs.Fields.{filled}
 use Rattle.text.specs.Inside.Area.{wordIn, threes}
@@ -42,21 +42,34 @@ module _ (room : ℕ) (xs lent : List ℕ) (size : length xs ≡ room) where
           ∙ zero-at (length lent - room) (i - length xs) (omega arith)
           ∙ sym (List·getD-eq-default xs 0 p)
 
+-- the loop that fills a table: its first i places hold what stands in xs
+pub record FilledTo (xs lent out : List ℕ) (i : ℕ) : Type 0 where
+  pub fits : i ≤ length lent
+  pub same : length out ≡ length lent
+  pub holds : (k : ℕ) → k < i → getD out k 0 ≡ getD xs k 0
+
+pub filled-none : (xs lent : List ℕ) → FilledTo xs lent lent 0
+filled-none xs lent = record { fits = omega arith; same = refl; holds = λ k h. let z : ⊥ = omega arith in absurd z }
+
 -- one place more is filled
-pub fill-turn : (xs out : List ℕ) (i v : ℕ) → i < length out → v ≡ getD xs i 0
-    → ((k : ℕ) → k < i → getD out k 0 ≡ getD xs k 0) → (k : ℕ) → k < i + 1 → getD (set out i v) k 0 ≡ getD xs k 0
-fill-turn xs out i v h e done k l = go (eq-or-lt-of-le (le-of-suc-le-suc (rw add-one at l)))
+pub fill-turn : (xs lent out : List ℕ) (i v : ℕ) → FilledTo xs lent out i → i < length out → v ≡ getD xs i 0 → FilledTo xs lent (set out i v) (i + 1)
+fill-turn xs lent out i v done h e =
+    record {
+      fits = omega (arith, done .same, h);
+      same = length-set out i v ∙ done .same;
+      holds = λ k l. go k (eq-or-lt-of-le (le-of-suc-le-suc (rw add-one at l)));
+    }
   where
-    go : (k ≡ i) ⊎ (k < i) → getD (set out i v) k 0 ≡ getD xs k 0
-    go (inl q) = rw q (getD-set-same out i v 0 h ∙ e)
-    go (inr q) = getD-set-other out i k v 0 (λ z. let f : ⊥ = omega arith in f) ∙ done k q
+    go : (k : ℕ) → (k ≡ i) ⊎ (k < i) → getD (set out i v) k 0 ≡ getD xs k 0
+    go k (inl q) = rw q (getD-set-same out i v 0 h ∙ e)
+    go k (inr q) = getD-set-other out i k v 0 (λ z. let f : ⊥ = omega arith in f) ∙ done .holds k q
 
 -- all places are filled
-pub fill-end : (room : ℕ) (xs lent out : List ℕ) (i : ℕ) → length xs ≡ room → room ≤ length lent → length out ≡ length lent → length lent ≤ i
-    → ((k : ℕ) → k < i → getD out k 0 ≡ getD xs k 0) → out ≡ filled room xs lent
-fill-end room xs lent out i size fits same all done =
-    ext-getD 0 out (filled room xs lent) (same ∙ sym (filled-length room xs lent size fits))
-    (λ k l. done k (omega arith) ∙ sym (filled-at room xs lent size k (omega arith)))
+pub fill-end : (room : ℕ) (xs lent out : List ℕ) (i : ℕ) → length xs ≡ room → room ≤ length lent → FilledTo xs lent out i → length lent ≤ i
+    → out ≡ filled room xs lent
+fill-end room xs lent out i size fits done all =
+    ext-getD 0 out (filled room xs lent) (done .same ∙ sym (filled-length room xs lent size fits))
+    (λ k l. done .holds k (omega (arith, done .same, l, all)) ∙ sym (filled-at room xs lent size k (omega (arith, done .same, l))))
 
 -- the numbers of 3 bytes
 pub threes-length : (n at : ℕ) (w : List ℕ) → length (threes n at w) ≡ n

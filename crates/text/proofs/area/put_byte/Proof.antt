@@ -7,16 +7,11 @@ use mathlib.Core.Path.{refl, sym}
 use Rattle.text.proofs.area.put_byte.Statement.{statement}
 use Rattle.text.proofs.area.put_byte.Tie as tie
 
-returns : tie.Need-returns
-unfolding putByte
-returns c = refl
-
-returns-2 : tie.Need-returns-2
-unfolding putByte
-returns-2 c = sym (set-out (c .before .args .w .now) (c .before .args .i) (c .before .args .v % 256) (c .if1 .left))
-
 pub put-byte-spec : {M : Type 1} → statement M
+unfolding putByte
 put-byte-spec = tie.close (tie.spec
-    (λ c. search needs) (λ c. search needs) (λ c. search needs)
-    returns
-    returns-2)
+    (λ c. search needs)
+    (λ c. search needs)
+    (λ c. search needs)
+    (λ c. refl)
+    (λ c. sym (set-out (c .before .args .w .now) (c .before .args .i) (c .before .args .v % 256) (c .if1 .left))))

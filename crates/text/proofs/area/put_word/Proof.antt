@@ -10,17 +10,21 @@ use Rattle.text.proofs.area.put_word.Tie as tie
 returns : tie.Need-returns
 unfolding putWord
 returns c =
-    let x = c .before .before in
-    let y = x .before .before .before .before in
-    let z = y .before .before .before .before in
-    let x₁ = z .before .before .before in
-    x .put-byte3 .ensures ∙ ap (λ (l : List ℕ). putByte l (x₁ .args .i + 2) (x₁ .args .v / 65536))
-    (y .put-byte2 .ensures ∙ ap (λ (l : List ℕ). putByte l (x₁ .args .i + 1) (x₁ .args .v / 256)) (z .put-byte .ensures))
+    let third = c .before .before in
+    let second = third .before .before .before .before in
+    let first = second .before .before .before .before in
+    let a = first .before .before .before .args in
+    let two = second .put-byte2 .ensures ∙ ap (λ (l : List ℕ). putByte l (a .i + 1) (a .v / 256)) (first .put-byte .ensures) in
+    third .put-byte3 .ensures ∙ ap (λ (l : List ℕ). putByte l (a .i + 2) (a .v / 65536)) two
 
 pub put-word-spec : {M : Type 1} → statement M
 put-word-spec =
     tie.close
     (tie.spec
-    (λ c κs. search needs) (λ c. search needs) (λ c κs. search needs) (λ c. search needs)
-    (λ c κs. search needs) (λ c. search needs)
+    (λ c κs. search needs)
+    (λ c. search needs)
+    (λ c κs. search needs)
+    (λ c. search needs)
+    (λ c κs. search needs)
+    (λ c. search needs)
     returns)

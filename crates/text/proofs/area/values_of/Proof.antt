@@ -4,10 +4,9 @@ use mathlib.Core.Path.{_∙_}
 use Rattle.text.proofs.area.values_of.Statement.{statement}
 use Rattle.text.proofs.area.values_of.Tie as tie
 
-returns : tie.Need-returns
-returns c = c .word .ensures .0 ∙ simp (c .before .byte-at .ensures, c .before .before .wide .ensures)
-
 pub values-of-spec : {M : Type 1} → statement M
 values-of-spec = tie.close (tie.spec
-    (λ c κs. search needs) (λ c κs. search needs) (λ c κs. search needs)
-    returns)
+    (λ c κs. search needs)
+    (λ c κs. search needs)
+    (λ c κs. search needs)
+    (λ c. c .word .ensures .0 ∙ simp (c .before .byte-at .ensures, c .before .before .wide .ensures)))

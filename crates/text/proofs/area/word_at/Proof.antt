@@ -8,15 +8,24 @@ use Rattle.text.proofs.area.word_at.Tie as tie
 returns : tie.Need-returns
 unfolding wordIn
 returns c =
-    let x = c .before .before in
-    let y = x .before .before in
-    (simp (y .word .ensures .0, x .word2 .ensures .0, c .word3 .ensures .0, y .before .byte-at .ensures, x .before .byte-at2 .ensures, c .before .byte-at3 .ensures), omega arith)
+    let second = c .before .before in
+    let first = second .before .before in
+    (simp (first .word .ensures .0, second .word2 .ensures .0, c .word3 .ensures .0, first .before .byte-at .ensures, second .before .byte-at2 .ensures, c .before .byte-at3 .ensures), omega arith)
 
 pub word-at-spec : {M : Type 1} → statement M
 word-at-spec =
     tie.close
     (tie.spec
-    (λ c κs. search needs) (λ c κs. search needs) (λ c. search needs) (λ c κs. search needs)
-    (λ c κs. search needs) (λ c. search needs) (λ c κs. search needs) (λ c κs. search needs)
-    (λ c. search needs) (λ c. search needs) (λ c. search needs) (λ c. search needs)
+    (λ c κs. search needs)
+    (λ c κs. search needs)
+    (λ c. search needs)
+    (λ c κs. search needs)
+    (λ c κs. search needs)
+    (λ c. search needs)
+    (λ c κs. search needs)
+    (λ c κs. search needs)
+    (λ c. search needs)
+    (λ c. search needs)
+    (λ c. search needs)
+    (λ c. search needs)
     returns)

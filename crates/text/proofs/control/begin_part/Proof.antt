@@ -4,10 +4,7 @@ use mathlib.Core.Path.{refl}
 use Rattle.text.proofs.control.begin_part.Statement.{statement}
 use Rattle.text.proofs.control.begin_part.Tie as tie
 
-returns : tie.Need-returns
-unfolding partBegun
-returns c = refl
-
 pub begin-part-spec : {M : Type 1} → statement M
+unfolding partBegun
 begin-part-spec = tie.close (tie.spec
-    returns)
+    (λ c. refl))

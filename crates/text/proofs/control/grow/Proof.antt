@@ -4,10 +4,7 @@ use mathlib.Core.Path.{refl}
 use Rattle.text.proofs.control.grow.Statement.{statement}
 use Rattle.text.proofs.control.grow.Tie as tie
 
-returns : tie.Need-returns
-unfolding withDigit
-returns c = refl
-
 pub grow-spec : {M : Type 1} → statement M
+unfolding withDigit
 grow-spec = tie.close (tie.spec
-    returns)
+    (λ c. refl))

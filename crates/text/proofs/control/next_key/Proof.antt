@@ -4,11 +4,8 @@ use borrow.Author.Needs.{needs}
 use Rattle.text.proofs.control.next_key.Statement.{statement}
 use Rattle.text.proofs.control.next_key.Tie as tie
 
-returns : tie.Need-returns
-unfolding nextKey
-returns c = simp (c .one-more .ensures)
-
 pub next-key-spec : {M : Type 1} → statement M
+unfolding nextKey
 next-key-spec = tie.close (tie.spec
     (λ c κs. search needs)
-    returns)
+    (λ c. simp (c .one-more .ensures)))

@@ -5,69 +5,45 @@ use borrow.Author.Tests.{eq-eqb, ne-eqb}
 use Rattle.text.proofs.control.next_line.Statement.{statement}
 use Rattle.text.proofs.control.next_line.Tie as tie
 
-returns : tie.Need-returns
-unfolding nextLine
-returns c = simp (eq-eqb _ _ (c .before .if1 .taken)) (c .after-ops .ensures)
-
-returns-2 : tie.Need-returns-2
-unfolding nextLine
-returns-2 c = simp (ne-eqb _ _ (c .before .before .if1 .left), eq-eqb _ _ (c .before .if2 .taken)) (c .row-or .ensures)
-
-returns-3 : tie.Need-returns-3
-unfolding nextLine
-returns-3 c = simp (ne-eqb _ _ (c .before .before .before .if1 .left), ne-eqb _ _ (c .before .before .if2 .left), eq-eqb _ _ (c .before .if3 .taken)) (c .row-or2 .ensures)
-
 returns-4 : tie.Need-returns-4
 unfolding nextLine
 returns-4 c =
-    let x = c .before .before in
-    let y = x .before .before in
-    simp (ne-eqb _ _ (y .before .if1 .left), ne-eqb _ _ (y .if2 .left), ne-eqb _ _ (x .before .if3 .left), ← x .list-of .ensures, eq-eqb _ _ (c .before .if4 .taken)) (c .to-line .ensures)
+    let third = c .before .before .before in
+    simp (ne-eqb _ _ (third .before .before .if1 .left), ne-eqb _ _ (third .before .if2 .left), ne-eqb _ _ (third .if3 .left))
+    (simp (← c .before .before .list-of .ensures, eq-eqb _ _ (c .before .if4 .taken)) (c .to-line .ensures))
 
 returns-5 : tie.Need-returns-5
 unfolding nextLine
 returns-5 c =
-    let x = c .before .before in
-    let y = x .before .before in
-    let z = y .before .before in
-    simp (
-      ne-eqb _ _ (z .if1 .left),
-      ne-eqb _ _ (y .before .if2 .left),
-      ne-eqb _ _ (y .if3 .left),
-      ← x .before .list-of .ensures,
-      ne-eqb _ _ (x .if4 .left),
-      eq-eqb _ _ (c .before .if5 .taken),
-    ) (c .row-or3 .ensures)
+    let third = c .before .before .before .before in
+    let second = third .before in
+    simp (ne-eqb _ _ (second .before .if1 .left), ne-eqb _ _ (second .if2 .left), ne-eqb _ _ (third .if3 .left))
+    (simp (← c .before .before .before .list-of .ensures, ne-eqb _ _ (c .before .before .if4 .left), eq-eqb _ _ (c .before .if5 .taken)) (c .row-or3 .ensures))
 
 returns-6 : tie.Need-returns-6
 unfolding nextLine
 returns-6 c =
-    let x = c .before .before in
-    let y = x .before .before in
-    let z = y .before .before in
-    simp (
-      ne-eqb _ _ (z .before .if1 .left),
-      ne-eqb _ _ (z .if2 .left),
-      ne-eqb _ _ (y .before .if3 .left),
-      ← y .list-of .ensures,
-      ne-eqb _ _ (x .before .if4 .left),
-      ne-eqb _ _ (x .if5 .left),
-      ← c .before .one-more .ensures,
-    ) (c .to-line2 .ensures)
+    let fourth = c .before .before .before in
+    let third = fourth .before .before in
+    simp (ne-eqb _ _ (third .before .before .if1 .left), ne-eqb _ _ (third .before .if2 .left), ne-eqb _ _ (third .if3 .left))
+    (simp (← fourth .before .list-of .ensures, ne-eqb _ _ (fourth .if4 .left), ne-eqb _ _ (c .before .before .if5 .left), ← c .before .one-more .ensures) (c .to-line2 .ensures))
 
 pub next-line-spec : {M : Type 1} → statement M
+unfolding nextLine
 next-line-spec =
     tie.close
     (tie.spec
     (λ c κs. search needs)
-    returns
+    (λ c. simp (eq-eqb _ _ (c .before .if1 .taken)) (c .after-ops .ensures))
     (λ c κs. search needs)
-    returns-2
+    (λ c. simp (ne-eqb _ _ (c .before .before .if1 .left), eq-eqb _ _ (c .before .if2 .taken)) (c .row-or .ensures))
     (λ c κs. search needs)
-    returns-3
-    (λ c κs. search needs) (λ c κs. search needs)
+    (λ c. simp (ne-eqb _ _ (c .before .before .before .if1 .left), ne-eqb _ _ (c .before .before .if2 .left), eq-eqb _ _ (c .before .if3 .taken)) (c .row-or2 .ensures))
+    (λ c κs. search needs)
+    (λ c κs. search needs)
     returns-4
     (λ c κs. search needs)
     returns-5
-    (λ c κs. search needs) (λ c κs. search needs)
+    (λ c κs. search needs)
+    (λ c κs. search needs)
     returns-6)

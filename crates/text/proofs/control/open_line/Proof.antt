@@ -4,11 +4,9 @@ use borrow.Author.Needs.{needs}
 use Rattle.text.proofs.control.open_line.Statement.{statement}
 use Rattle.text.proofs.control.open_line.Tie as tie
 
-returns : tie.Need-returns
-unfolding opened
-returns c = simp (← c .before .first-part .ensures) (c .begin-part .ensures)
-
 pub open-line-spec : {M : Type 1} → statement M
+unfolding opened
 open-line-spec = tie.close (tie.spec
-    (λ c κs. search needs) (λ c κs. search needs)
-    returns)
+    (λ c κs. search needs)
+    (λ c κs. search needs)
+    (λ c. simp (← c .before .first-part .ensures) (c .begin-part .ensures)))

@@ -5,17 +5,12 @@ use borrow.Author.Tests.{le-ltb, lt-ltb}
 use Rattle.text.proofs.control.row_or.Statement.{statement}
 use Rattle.text.proofs.control.row_or.Tie as tie
 
-returns : tie.Need-returns
-unfolding rowOr
-returns c = simp (← c .before .before .one-more .ensures, lt-ltb _ _ (c .before .if1 .taken)) (c .to-line .ensures)
-
-returns-2 : tie.Need-returns-2
-unfolding rowOr
-returns-2 c = simp (← c .before .before .one-more .ensures, le-ltb _ _ (c .before .if1 .left)) (c .to-line2 .ensures)
-
 pub row-or-spec : {M : Type 1} → statement M
+unfolding rowOr
 row-or-spec =
     tie.close (tie.spec
-    (λ c κs. search needs) (λ c κs. search needs) (λ c κs. search needs)
-    returns
-    returns-2)
+    (λ c κs. search needs)
+    (λ c κs. search needs)
+    (λ c κs. search needs)
+    (λ c. simp (← c .before .before .one-more .ensures, lt-ltb _ _ (c .before .if1 .taken)) (c .to-line .ensures))
+    (λ c. simp (← c .before .before .one-more .ensures, le-ltb _ _ (c .before .if1 .left)) (c .to-line2 .ensures)))

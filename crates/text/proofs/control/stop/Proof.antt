@@ -4,10 +4,7 @@ use mathlib.Core.Path.{refl}
 use Rattle.text.proofs.control.stop.Statement.{statement}
 use Rattle.text.proofs.control.stop.Tie as tie
 
-returns : tie.Need-returns
-unfolding stopped
-returns c = refl
-
 pub stop-spec : {M : Type 1} → statement M
+unfolding stopped
 stop-spec = tie.close (tie.spec
-    returns)
+    (λ c. refl))

@@ -4,11 +4,8 @@ use borrow.Author.Needs.{needs}
 use Rattle.text.proofs.control.take_dash.Statement.{statement}
 use Rattle.text.proofs.control.take_dash.Tie as tie
 
-returns : tie.Need-returns
-unfolding dashed
-returns c = c .begin-part .ensures
-
 pub take-dash-spec : {M : Type 1} → statement M
+unfolding dashed
 take-dash-spec = tie.close (tie.spec
     (λ c κs. search needs)
-    returns)
+    (λ c. c .begin-part .ensures))

@@ -4,11 +4,9 @@ use borrow.Author.Needs.{needs}
 use Rattle.text.proofs.control.to_line.Statement.{statement}
 use Rattle.text.proofs.control.to_line.Tie as tie
 
-returns : tie.Need-returns
-unfolding toLine
-returns c = simp (← c .before .one-more .ensures) (c .begin-part .ensures)
-
 pub to-line-spec : {M : Type 1} → statement M
+unfolding toLine
 to-line-spec = tie.close (tie.spec
-    (λ c κs. search needs) (λ c κs. search needs)
-    returns)
+    (λ c κs. search needs)
+    (λ c κs. search needs)
+    (λ c. simp (← c .before .one-more .ensures) (c .begin-part .ensures)))

@@ -7,10 +7,9 @@ use mathlib.Core.Path.{_∙_, ap}
 use Rattle.text.proofs.fields.bound_of.Statement.{statement}
 use Rattle.text.proofs.fields.bound_of.Tie as tie
 
-returns : tie.Need-returns
-returns c = c .entry .ensures ∙ ap (λ (i : ℕ). getD limits i 0) (c .before .wide .ensures)
-
 pub bound-of-spec : {M : Type 1} → statement M
 bound-of-spec = tie.close (tie.spec
-    (λ c. search needs) (λ c κs. search needs) (λ c κs. search needs)
-    returns)
+    (λ c. search needs)
+    (λ c κs. search needs)
+    (λ c κs. search needs)
+    (λ c. c .entry .ensures ∙ ap (λ (i : ℕ). getD limits i 0) (c .before .wide .ensures)))

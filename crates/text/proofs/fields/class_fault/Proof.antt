@@ -8,33 +8,29 @@ use Rattle.text.proofs.fields.class_fault.Tie as tie
 returns : tie.Need-returns
 unfolding classFault
 returns c =
-    let x = c .before .before in
-    let y = x .before .before in
-    let z = y .before .before in
-    simp (← z .none-missing .ensures, y .before .if1 .taken, ← y .last-var .ensures, x .before .if2 .taken, ← x .width-of .ensures, ← c .before .multiply .ensures, lt-ltb _ _ (c .if3 .taken))
+    let last = c .before .before .before in
+    let full = last .before .before in
+    simp (← full .before .none-missing .ensures, full .if1 .taken, ← last .before .last-var .ensures, last .if2 .taken)
+    (simp (← c .before .before .width-of .ensures, ← c .before .multiply .ensures, lt-ltb _ _ (c .if3 .taken)))
 
 returns-2 : tie.Need-returns-2
 unfolding classFault
 returns-2 c =
-    let x = c .before .before in
-    let y = x .before .before in
-    let z = y .before .before in
-    simp (← z .none-missing .ensures, y .before .if1 .taken, ← y .last-var .ensures, x .before .if2 .taken, ← x .width-of .ensures, ← c .before .multiply .ensures, le-ltb _ _ (c .if3 .left))
-
-returns-3 : tie.Need-returns-3
-unfolding classFault
-returns-3 c = simp (← c .before .before .before .none-missing .ensures, c .before .before .if1 .taken, ← c .before .last-var .ensures, c .if2 .left)
-
-returns-4 : tie.Need-returns-4
-unfolding classFault
-returns-4 c = simp (← c .before .none-missing .ensures, c .if1 .left)
+    let last = c .before .before .before in
+    let full = last .before .before in
+    simp (← full .before .none-missing .ensures, full .if1 .taken, ← last .before .last-var .ensures, last .if2 .taken)
+    (simp (← c .before .before .width-of .ensures, ← c .before .multiply .ensures, le-ltb _ _ (c .if3 .left)))
 
 pub class-fault-spec : {M : Type 1} → statement M
+unfolding classFault
 class-fault-spec =
     tie.close
     (tie.spec
-    (λ c κs. search needs) (λ c κs. search needs) (λ c κs. search needs) (λ c κs. search needs)
+    (λ c κs. search needs)
+    (λ c κs. search needs)
+    (λ c κs. search needs)
+    (λ c κs. search needs)
     returns
     returns-2
-    returns-3
-    returns-4)
+    (λ c. simp (← c .before .before .before .none-missing .ensures, c .before .before .if1 .taken, ← c .before .last-var .ensures, c .if2 .left))
+    (λ c. simp (← c .before .none-missing .ensures, c .if1 .left)))

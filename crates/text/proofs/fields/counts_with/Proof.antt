@@ -6,25 +6,10 @@ use Rattle.text.specs.Inside.Fields.{countsWith}
 use Rattle.text.proofs.fields.counts_with.Statement.{statement}
 use Rattle.text.proofs.fields.counts_with.Tie as tie
 
-returns : tie.Need-returns
-unfolding countsWith
-returns c = simp (at-field fieldVars (c .if1 .taken), at-field fieldOps (c .if1 .taken), at-field fieldMaps (c .if1 .taken))
-
-returns-2 : tie.Need-returns-2
-unfolding countsWith
-returns-2 c = simp (at-field fieldVars (c .if2 .taken), at-field fieldOps (c .if2 .taken), at-field fieldMaps (c .if2 .taken))
-
-returns-3 : tie.Need-returns-3
-unfolding countsWith
-returns-3 c = simp (at-field fieldVars (c .if3 .taken), at-field fieldOps (c .if3 .taken), at-field fieldMaps (c .if3 .taken))
-
-returns-4 : tie.Need-returns-4
-unfolding countsWith
-returns-4 c = simp (ne-eqb _ _ (c .before .before .if1 .left), ne-eqb _ _ (c .before .if2 .left), ne-eqb _ _ (c .if3 .left))
-
 pub counts-with-spec : {M : Type 1} → statement M
+unfolding countsWith
 counts-with-spec = tie.close (tie.spec
-    returns
-    returns-2
-    returns-3
-    returns-4)
+    (λ c. simp (at-field fieldVars (c .if1 .taken), at-field fieldOps (c .if1 .taken), at-field fieldMaps (c .if1 .taken)))
+    (λ c. simp (at-field fieldVars (c .if2 .taken), at-field fieldOps (c .if2 .taken), at-field fieldMaps (c .if2 .taken)))
+    (λ c. simp (at-field fieldVars (c .if3 .taken), at-field fieldOps (c .if3 .taken), at-field fieldMaps (c .if3 .taken)))
+    (λ c. simp (ne-eqb _ _ (c .before .before .if1 .left), ne-eqb _ _ (c .before .if2 .left), ne-eqb _ _ (c .if3 .left))))

@@ -5,10 +5,9 @@ use mathlib.Core.Path.{sym}
 use Rattle.text.proofs.fields.entry.Statement.{statement}
 use Rattle.text.proofs.fields.entry.Tie as tie
 
-returns-2 : tie.Need-returns-2
-returns-2 c = sym (List·getD-eq-default (c .before .args .t .now) 0 (c .if1 .left))
-
 pub entry-spec : {M : Type 1} → statement M
 entry-spec = tie.close (tie.spec
-    (λ c. search needs) (λ c. search needs) (λ c. search needs)
-    returns-2)
+    (λ c. search needs)
+    (λ c. search needs)
+    (λ c. search needs)
+    (λ c. sym (List·getD-eq-default (c .before .args .t .now) 0 (c .if1 .left))))

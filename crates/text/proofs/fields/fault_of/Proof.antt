@@ -5,10 +5,6 @@ use Rattle.text.specs.Inside.Fields.{fault}
 use Rattle.text.proofs.fields.fault_of.Statement.{statement}
 use Rattle.text.proofs.fields.fault_of.Tie as tie
 
-returns : tie.Need-returns
-unfolding fault
-returns c = simp (eq-eqb _ _ (c .if1 .taken))
-
 returns-2 : tie.Need-returns-2
 unfolding fault
 returns-2 c =
@@ -16,17 +12,15 @@ returns-2 c =
     let y = x .before .before in
     simp (ne-eqb _ _ (y .before .if1 .left), ← y .judge .ensures, ← x .before .goes-on .ensures, x .if2 .taken, ← c .before .note .ensures) (c .before-byte .ensures)
 
-returns-3 : tie.Need-returns-3
-unfolding fault
-returns-3 c =
-    let y = c .before .before in
-    simp (ne-eqb _ _ (y .before .if1 .left), ← y .judge .ensures, ← c .before .goes-on .ensures, c .if2 .left)
-
 pub fault-of-spec : {M : Type 1} → statement M
+unfolding fault
 fault-of-spec =
     tie.close
     (tie.spec
-    returns
-    (λ c κs. search needs) (λ c κs. search needs) (λ c κs. search needs) (λ c κs. search needs)
+    (λ c. simp (eq-eqb _ _ (c .if1 .taken)))
+    (λ c κs. search needs)
+    (λ c κs. search needs)
+    (λ c κs. search needs)
+    (λ c κs. search needs)
     returns-2
-    returns-3)
+    (λ c. let y = c .before .before in simp (ne-eqb _ _ (y .before .if1 .left), ← y .judge .ensures, ← c .before .goes-on .ensures, c .if2 .left)))

@@ -5,16 +5,10 @@ use borrow.Author.Tests.{le-leb, lt-leb}
 use Rattle.text.proofs.fields.in_range.Statement.{statement}
 use Rattle.text.proofs.fields.in_range.Tie as tie
 
-returns : tie.Need-returns
-unfolding inRange
-returns c = simp (← c .before .before .before .before .least-of .ensures, le-leb _ _ (c .before .before .if1 .taken), ← c .before .limit-of .ensures)
-
-returns-2 : tie.Need-returns-2
-unfolding inRange
-returns-2 c = simp (← c .before .before .least-of .ensures, lt-leb _ _ (c .if1 .left))
-
 pub in-range-spec : {M : Type 1} → statement M
+unfolding inRange
 in-range-spec = tie.close (tie.spec
-    (λ c κs. search needs) (λ c κs. search needs)
-    returns
-    returns-2)
+    (λ c κs. search needs)
+    (λ c κs. search needs)
+    (λ c. simp (← c .before .before .before .before .least-of .ensures, le-leb _ _ (c .before .before .if1 .taken), ← c .before .limit-of .ensures))
+    (λ c. simp (← c .before .before .least-of .ensures, lt-leb _ _ (c .if1 .left))))

@@ -5,21 +5,10 @@ use borrow.Author.Tests.{le-leb, lt-leb}
 use Rattle.text.proofs.fields.judge.Statement.{statement}
 use Rattle.text.proofs.fields.judge.Tie as tie
 
-returns : tie.Need-returns
-unfolding numberFault
-returns c = simp (← c .before .before .before .in-range .ensures, c .before .before .if1 .taken, le-leb _ _ (c .if2 .taken))
-
-returns-2 : tie.Need-returns-2
-unfolding numberFault
-returns-2 c = simp (← c .before .before .before .in-range .ensures, c .before .before .if1 .taken, lt-leb _ _ (c .if2 .left))
-
-returns-3 : tie.Need-returns-3
-unfolding numberFault
-returns-3 c = simp (← c .before .in-range .ensures, c .if1 .left)
-
 pub judge-spec : {M : Type 1} → statement M
+unfolding numberFault
 judge-spec = tie.close (tie.spec
     (λ c κs. search needs)
-    returns
-    returns-2
-    returns-3)
+    (λ c. simp (← c .before .before .before .in-range .ensures, c .before .before .if1 .taken, le-leb _ _ (c .if2 .taken)))
+    (λ c. simp (← c .before .before .before .in-range .ensures, c .before .before .if1 .taken, lt-leb _ _ (c .if2 .left)))
+    (λ c. simp (← c .before .in-range .ensures, c .if1 .left)))

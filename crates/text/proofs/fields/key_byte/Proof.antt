@@ -1,5 +1,4 @@
 -- `text::fields::key_byte` meets its contract: a byte of the keywords, and none past their end. Assumes nothing.
-use Prim.Native.Nat.{_*_, _+_}
 use Rattle.text.proofs.Laws.{getD-any}
 use Rattle.text.specs.Inside.Fields.{keys, keyByte}
 use borrow.Author.Needs.{needs}
@@ -11,20 +10,20 @@ use Rattle.text.proofs.fields.key_byte.Tie as tie
 returns : tie.Need-returns
 unfolding keyByte
 returns c =
-    let x = c .before .before in
-    let y = x .before .before in
-    c .word .ensures .0 ∙ simp (x .before .wide .ensures, x .wide2 .ensures)
-    (getD-any keys (y .args .f * 8 + y .args .k) 0 256 (simp (x .before .wide .ensures, x .wide2 .ensures) at (c .before .if1 .taken)))
-
-returns-2 : tie.Need-returns-2
-unfolding keyByte
-returns-2 c = sym (simp (← c .before .before .wide .ensures, ← c .before .wide2 .ensures) (List·getD-eq-default keys 256 (c .if1 .left)))
+    let place = c .before .before in
+    let known = simp (place .before .wide .ensures, place .wide2 .ensures) at (c .before .if1 .taken) in
+    c .word .ensures .0 ∙ simp (place .before .wide .ensures, place .wide2 .ensures) (getD-any keys _ 0 256 known)
 
 pub key-byte-spec : {M : Type 1} → statement M
+unfolding keyByte
 key-byte-spec =
     tie.close
     (tie.spec
-    (λ c κs. search needs) (λ c. search needs) (λ c κs. search needs) (λ c. search needs) (λ c. search needs)
+    (λ c κs. search needs)
+    (λ c. search needs)
+    (λ c κs. search needs)
+    (λ c. search needs)
+    (λ c. search needs)
     (λ c κs. search needs)
     returns
-    returns-2)
+    (λ c. sym (simp (← c .before .before .wide .ensures, ← c .before .wide2 .ensures) (List·getD-eq-default keys 256 (c .if1 .left)))))

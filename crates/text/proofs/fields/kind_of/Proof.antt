@@ -7,11 +7,10 @@ use mathlib.Core.Path.{_∙_, ap}
 use Rattle.text.proofs.fields.kind_of.Statement.{statement}
 use Rattle.text.proofs.fields.kind_of.Tie as tie
 
-returns : tie.Need-returns
-unfolding kind
-returns c = c .entry .ensures ∙ ap (λ (i : ℕ). getD kinds i 0) (c .before .wide .ensures)
-
 pub kind-of-spec : {M : Type 1} → statement M
+unfolding kind
 kind-of-spec = tie.close (tie.spec
-    (λ c. search needs) (λ c κs. search needs) (λ c κs. search needs)
-    returns)
+    (λ c. search needs)
+    (λ c κs. search needs)
+    (λ c κs. search needs)
+    (λ c. c .entry .ensures ∙ ap (λ (i : ℕ). getD kinds i 0) (c .before .wide .ensures)))

@@ -5,16 +5,10 @@ use borrow.Author.Tests.{eq-eqb, ne-eqb}
 use Rattle.text.proofs.fields.last_class.Statement.{statement}
 use Rattle.text.proofs.fields.last_class.Tie as tie
 
-returns : tie.Need-returns
-unfolding lastClass
-returns c = simp (eq-eqb _ _ (c .before .before .if1 .taken), ← c .before .one-more .ensures, ← c .values-of .ensures)
-
-returns-2 : tie.Need-returns-2
-unfolding lastClass
-returns-2 c = simp (ne-eqb _ _ (c .if1 .left))
-
 pub last-class-spec : {M : Type 1} → statement M
+unfolding lastClass
 last-class-spec = tie.close (tie.spec
-    (λ c κs. search needs) (λ c κs. search needs)
-    returns
-    returns-2)
+    (λ c κs. search needs)
+    (λ c κs. search needs)
+    (λ c. simp (eq-eqb _ _ (c .before .before .if1 .taken), ← c .before .one-more .ensures, ← c .values-of .ensures))
+    (λ c. simp (ne-eqb _ _ (c .if1 .left))))

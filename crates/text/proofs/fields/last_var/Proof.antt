@@ -4,11 +4,8 @@ use borrow.Author.Needs.{needs}
 use Rattle.text.proofs.fields.last_var.Statement.{statement}
 use Rattle.text.proofs.fields.last_var.Tie as tie
 
-returns : tie.Need-returns
-unfolding lastVar
-returns c = simp (← c .before .one-more .ensures)
-
 pub last-var-spec : {M : Type 1} → statement M
+unfolding lastVar
 last-var-spec = tie.close (tie.spec
     (λ c κs. search needs)
-    returns)
+    (λ c. simp (← c .before .one-more .ensures)))

@@ -7,10 +7,9 @@ use mathlib.Core.Path.{_∙_, ap}
 use Rattle.text.proofs.fields.least_of.Statement.{statement}
 use Rattle.text.proofs.fields.least_of.Tie as tie
 
-returns : tie.Need-returns
-returns c = c .entry .ensures ∙ ap (λ (i : ℕ). getD leasts i 0) (c .before .wide .ensures)
-
 pub least-of-spec : {M : Type 1} → statement M
 least-of-spec = tie.close (tie.spec
-    (λ c. search needs) (λ c κs. search needs) (λ c κs. search needs)
-    returns)
+    (λ c. search needs)
+    (λ c κs. search needs)
+    (λ c κs. search needs)
+    (λ c. c .entry .ensures ∙ ap (λ (i : ℕ). getD leasts i 0) (c .before .wide .ensures)))

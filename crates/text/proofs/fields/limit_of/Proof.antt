@@ -5,22 +5,12 @@ use borrow.Author.Tests.{eq-eqb, ne-eqb}
 use Rattle.text.proofs.fields.limit_of.Statement.{statement}
 use Rattle.text.proofs.fields.limit_of.Tie as tie
 
-returns : tie.Need-returns
-unfolding limit
-returns c = simp (← c .before .before .bound-of .ensures, eq-eqb _ _ (c .before .if1 .taken)) (c .values-of .ensures)
-
-returns-2 : tie.Need-returns-2
-unfolding limit
-returns-2 c = simp (← c .before .before .bound-of .ensures, ne-eqb _ _ (c .before .if1 .left), eq-eqb _ _ (c .if2 .taken))
-
-returns-3 : tie.Need-returns-3
-unfolding limit
-returns-3 c = simp (← c .before .before .bound-of .ensures, ne-eqb _ _ (c .before .if1 .left), ne-eqb _ _ (c .if2 .left))
-
 pub limit-of-spec : {M : Type 1} → statement M
+unfolding limit
 limit-of-spec =
     tie.close (tie.spec
-    (λ c κs. search needs) (λ c κs. search needs)
-    returns
-    returns-2
-    returns-3)
+    (λ c κs. search needs)
+    (λ c κs. search needs)
+    (λ c. simp (← c .before .before .bound-of .ensures, eq-eqb _ _ (c .before .if1 .taken)) (c .values-of .ensures))
+    (λ c. simp (← c .before .before .bound-of .ensures, ne-eqb _ _ (c .before .if1 .left), eq-eqb _ _ (c .if2 .taken)))
+    (λ c. simp (← c .before .before .bound-of .ensures, ne-eqb _ _ (c .before .if1 .left), ne-eqb _ _ (c .if2 .left))))

@@ -4,11 +4,9 @@ use Rattle.text.specs.Inside.Fields.{noted}
 use Rattle.text.proofs.fields.note.Statement.{statement}
 use Rattle.text.proofs.fields.note.Tie as tie
 
-returns : tie.Need-returns
-unfolding noted
-returns c = simp (c .before .seen-with .ensures, c .counts-with .ensures)
-
 pub note-spec : {M : Type 1} → statement M
+unfolding noted
 note-spec = tie.close (tie.spec
-    (λ c κs. search needs) (λ c κs. search needs)
-    returns)
+    (λ c κs. search needs)
+    (λ c κs. search needs)
+    (λ c. simp (c .before .seen-with .ensures, c .counts-with .ensures)))

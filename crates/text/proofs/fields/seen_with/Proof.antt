@@ -5,16 +5,9 @@ use Rattle.text.specs.Inside.Fields.{seenWith}
 use Rattle.text.proofs.fields.seen_with.Statement.{statement}
 use Rattle.text.proofs.fields.seen_with.Tie as tie
 
-returns : tie.Need-returns
-unfolding seenWith
-returns c = simp (eq-eqb _ _ (c .before .if1 .taken), ← c .add-class .ensures)
-
-returns-2 : tie.Need-returns-2
-unfolding seenWith
-returns-2 c = simp (ne-eqb _ _ (c .if1 .left))
-
 pub seen-with-spec : {M : Type 1} → statement M
+unfolding seenWith
 seen-with-spec = tie.close (tie.spec
     (λ c κs. search needs)
-    returns
-    returns-2)
+    (λ c. simp (eq-eqb _ _ (c .before .if1 .taken), ← c .add-class .ensures))
+    (λ c. simp (ne-eqb _ _ (c .if1 .left))))

@@ -7,16 +7,13 @@ use native.Mathlib.Omega.{arith}
 use Rattle.text.proofs.fill.nth_byte.Statement.{statement}
 use Rattle.text.proofs.fill.nth_byte.Tie as tie
 
-returns : tie.Need-returns
-returns c = c .byte-at .ensures ∙ sym (getD-take (c .before .before .before .args .n) (c .before .before .before .args .w .now) (c .before .before .before .args .i) 0 (c .before .if1 .taken))
-
 returns-2 : tie.Need-returns-2
 returns-2 c =
-    let x = c .before .before in
-    sym (List·getD-eq-default (take (x .args .n) (x .args .w .now)) 0 (omega (arith, length-take (x .args .n) (x .args .w .now), c .if1 .left)))
+    let a = c .before .before .args in
+    sym (List·getD-eq-default (take (a .n) (a .w .now)) 0 (omega (arith, length-take (a .n) (a .w .now), c .if1 .left)))
 
 pub nth-byte-spec : {M : Type 1} → statement M
 nth-byte-spec = tie.close (tie.spec
     (λ c κs. search needs)
-    returns
+    (λ c. c .byte-at .ensures ∙ sym (getD-take _ _ _ 0 (c .before .if1 .taken)))
     returns-2)

@@ -5,19 +5,14 @@ use borrow.Author.Tests.{eq-eqb, ne-eqb}
 use Rattle.text.proofs.step.add_digit.Statement.{statement}
 use Rattle.text.proofs.step.add_digit.Tie as tie
 
-returns : tie.Need-returns
-unfolding digitRead
-returns c = simp (eq-eqb _ _ (c .before .if1 .taken)) (c .stop .ensures)
-
-returns-2 : tie.Need-returns-2
-unfolding digitRead
-returns-2 c = simp (ne-eqb _ _ (c .before .before .before .if1 .left), ← c .before .longer .ensures, ← c .before .before .run-after .ensures) (c .grow .ensures)
-
 pub add-digit-spec : {M : Type 1} → statement M
+unfolding digitRead
 add-digit-spec =
     tie.close
     (tie.spec
     (λ c κs. search needs)
-    returns
-    (λ c κs. search needs) (λ c κs. search needs) (λ c κs. search needs)
-    returns-2)
+    (λ c. simp (eq-eqb _ _ (c .before .if1 .taken)) (c .stop .ensures))
+    (λ c κs. search needs)
+    (λ c κs. search needs)
+    (λ c κs. search needs)
+    (λ c. simp (ne-eqb _ _ (c .before .before .before .if1 .left), ← c .before .longer .ensures, ← c .before .before .run-after .ensures) (c .grow .ensures)))

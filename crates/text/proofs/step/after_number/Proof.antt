@@ -5,58 +5,34 @@ use borrow.Author.Tests.{ne-eqb}
 use Rattle.text.proofs.step.after_number.Statement.{statement}
 use Rattle.text.proofs.step.after_number.Tie as tie
 
-returns : tie.Need-returns
-unfolding afterNumber
-returns c = simp (← c .before .before .kind-of .ensures, c .before .match .keys1) (c .after-var .ensures)
-
-returns-2 : tie.Need-returns-2
-unfolding afterNumber
-returns-2 c =
-    let x = c .before .before in
-    let y = x .before .before in
-    simp (← y .kind-of .ensures, x .before .match .keys2, ← x .one-more .ensures, ← c .before .await-number .ensures) (c .expect .ensures)
-
-returns-3 : tie.Need-returns-3
-unfolding afterNumber
-returns-3 c = simp (← c .before .before .kind-of .ensures, c .before .match .keys3) (c .after-value .ensures)
-
-returns-4 : tie.Need-returns-4
-unfolding afterNumber
-returns-4 c = simp (← c .before .before .before .kind-of .ensures, c .before .before .match .keys4, ← c .before .await-number2 .ensures) (c .expect2 .ensures)
-
-returns-5 : tie.Need-returns-5
-unfolding afterNumber
-returns-5 c = simp (← c .before .before .kind-of .ensures, c .before .match .keys5) (c .after-class .ensures)
-
-returns-6 : tie.Need-returns-6
-unfolding afterNumber
-returns-6 c = simp (← c .before .before .kind-of .ensures, c .before .match .keys6) (c .after-share .ensures)
-
 returns-7 : tie.Need-returns-7
 unfolding afterNumber
 returns-7 c =
-    let x = c .before .before in
-    simp (
-      ← x .kind-of .ensures,
-      ne-eqb _ _ (c .before .match .rest .0 .0 .0 .0 .0 .1),
-      ne-eqb _ _ (c .before .match .rest .0 .0 .0 .0 .1),
-      ne-eqb _ _ (c .before .match .rest .0 .0 .0 .1),
-      ne-eqb _ _ (c .before .match .rest .0 .0 .1),
-      ne-eqb _ _ (c .before .match .rest .0 .1),
-      ne-eqb _ _ (c .before .match .rest .1),
-    ) (c .end-line .ensures)
+    let late = c .before .match .rest in
+    let early = late .0 .0 .0 in
+    simp (← c .before .before .kind-of .ensures, ne-eqb _ _ (early .0 .0 .1), ne-eqb _ _ (early .0 .1), ne-eqb _ _ (early .1))
+    (simp (ne-eqb _ _ (late .0 .0 .1), ne-eqb _ _ (late .0 .1), ne-eqb _ _ (late .1)) (c .end-line .ensures))
 
 pub after-number-spec : {M : Type 1} → statement M
+unfolding afterNumber
 after-number-spec =
     tie.close
     (tie.spec
-    (λ c κs. search needs) (λ c κs. search needs) (λ c κs. search needs) (λ c κs. search needs)
-    (λ c κs. search needs) (λ c κs. search needs) (λ c κs. search needs) (λ c κs. search needs)
-    (λ c κs. search needs) (λ c κs. search needs) (λ c κs. search needs)
-    returns
-    returns-2
-    returns-3
-    returns-4
-    returns-5
-    returns-6
+    (λ c κs. search needs)
+    (λ c κs. search needs)
+    (λ c κs. search needs)
+    (λ c κs. search needs)
+    (λ c κs. search needs)
+    (λ c κs. search needs)
+    (λ c κs. search needs)
+    (λ c κs. search needs)
+    (λ c κs. search needs)
+    (λ c κs. search needs)
+    (λ c κs. search needs)
+    (λ c. simp (← c .before .before .kind-of .ensures, c .before .match .keys1) (c .after-var .ensures))
+    (λ c. let n = c .before .before in simp (← n .before .before .kind-of .ensures, n .before .match .keys2, ← n .one-more .ensures, ← c .before .await-number .ensures) (c .expect .ensures))
+    (λ c. simp (← c .before .before .kind-of .ensures, c .before .match .keys3) (c .after-value .ensures))
+    (λ c. simp (← c .before .before .before .kind-of .ensures, c .before .before .match .keys4, ← c .before .await-number2 .ensures) (c .expect2 .ensures))
+    (λ c. simp (← c .before .before .kind-of .ensures, c .before .match .keys5) (c .after-class .ensures))
+    (λ c. simp (← c .before .before .kind-of .ensures, c .before .match .keys6) (c .after-share .ensures))
     returns-7)

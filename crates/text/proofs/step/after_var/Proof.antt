@@ -4,22 +4,15 @@ use borrow.Author.Needs.{needs}
 use Rattle.text.proofs.step.after_var.Statement.{statement}
 use Rattle.text.proofs.step.after_var.Tie as tie
 
-returns : tie.Need-returns
-unfolding afterVar
-returns c = simp (← c .before .before .last-var .ensures, c .before .if1 .taken) (c .end-line .ensures)
-
-returns-2 : tie.Need-returns-2
-unfolding afterVar
-returns-2 c =
-    let x = c .before .before in
-    let y = x .before .before in
-    simp (← y .last-var .ensures, x .before .if1 .left, ← x .one-more .ensures, ← c .before .await-number .ensures) (c .expect .ensures)
-
 pub after-var-spec : {M : Type 1} → statement M
+unfolding afterVar
 after-var-spec =
     tie.close
     (tie.spec
-    (λ c κs. search needs) (λ c κs. search needs) (λ c κs. search needs) (λ c κs. search needs)
     (λ c κs. search needs)
-    returns
-    returns-2)
+    (λ c κs. search needs)
+    (λ c κs. search needs)
+    (λ c κs. search needs)
+    (λ c κs. search needs)
+    (λ c. simp (← c .before .before .last-var .ensures, c .before .if1 .taken) (c .end-line .ensures))
+    (λ c. let n = c .before .before in simp (← n .before .before .last-var .ensures, n .before .if1 .left, ← n .one-more .ensures, ← c .before .await-number .ensures) (c .expect .ensures)))

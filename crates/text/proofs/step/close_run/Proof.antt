@@ -10,25 +10,21 @@ returns c =
     let kept = c .before .before in
     let judged = kept .before .before in
     let sound = judged .before .before .before in
-    simp (
-      ← sound .before .before .fault-of .ensures,
-      ← sound .before .goes-on .ensures,
-      sound .if1 .taken,
-      ← judged .before .before .note .ensures,
-      judged .after-number .ensures,
-      kept .store .ensures,
-    )
-
-returns-2 : tie.Need-returns-2
-unfolding closed
-returns-2 c = simp (← c .before .before .before .fault-of .ensures, ← c .before .before .goes-on .ensures, c .before .if1 .left, c .stop .ensures)
+    simp (← sound .before .before .fault-of .ensures, ← sound .before .goes-on .ensures, sound .if1 .taken)
+    (simp (← judged .before .before .note .ensures, judged .after-number .ensures, kept .store .ensures))
 
 pub close-run-spec : {M : Type 1} → statement M
+unfolding closed
 close-run-spec =
     tie.close
     (tie.spec
-    (λ c κs. search needs) (λ c κs. search needs) (λ c κs. search needs) (λ c κs. search needs)
-    (λ c κs. search needs) (λ c κs. search needs) (λ c. search needs)
+    (λ c κs. search needs)
+    (λ c κs. search needs)
+    (λ c κs. search needs)
+    (λ c κs. search needs)
+    (λ c κs. search needs)
+    (λ c κs. search needs)
+    (λ c. search needs)
     returns
     (λ c. search needs)
-    returns-2)
+    (λ c. simp (← c .before .before .before .fault-of .ensures, ← c .before .before .goes-on .ensures, c .before .if1 .left, c .stop .ensures)))

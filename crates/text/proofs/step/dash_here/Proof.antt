@@ -5,23 +5,12 @@ use borrow.Author.Tests.{eq-eqb, ne-eqb}
 use Rattle.text.proofs.step.dash_here.Statement.{statement}
 use Rattle.text.proofs.step.dash_here.Tie as tie
 
-returns : tie.Need-returns
-unfolding dashHere
-returns c = simp (ne-eqb _ _ (c .if1 .taken))
-
-returns-2 : tie.Need-returns-2
-unfolding dashHere
-returns-2 c = simp (eq-eqb _ _ (c .before .before .if1 .left), ← c .before .kind-of .ensures, ne-eqb _ _ (c .if2 .taken))
-
-returns-3 : tie.Need-returns-3
-unfolding dashHere
-returns-3 c = simp (eq-eqb _ _ (c .before .before .before .if1 .left), ← c .before .before .kind-of .ensures, eq-eqb _ _ (c .before .if2 .left)) (c .nothing-read .ensures)
-
 pub dash-here-spec : {M : Type 1} → statement M
+unfolding dashHere
 dash-here-spec =
     tie.close (tie.spec
-    returns
+    (λ c. simp (ne-eqb _ _ (c .if1 .taken)))
     (λ c κs. search needs)
-    returns-2
+    (λ c. simp (eq-eqb _ _ (c .before .before .if1 .left), ← c .before .kind-of .ensures, ne-eqb _ _ (c .if2 .taken)))
     (λ c κs. search needs)
-    returns-3)
+    (λ c. simp (eq-eqb _ _ (c .before .before .before .if1 .left), ← c .before .before .kind-of .ensures, eq-eqb _ _ (c .before .if2 .left)) (c .nothing-read .ensures)))

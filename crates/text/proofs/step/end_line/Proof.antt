@@ -3,10 +3,8 @@ use borrow.Author.Needs.{needs}
 use Rattle.text.proofs.step.end_line.Statement.{statement}
 use Rattle.text.proofs.step.end_line.Tie as tie
 
-returns : tie.Need-returns
-returns c = simp (← c .before .next-line .ensures) (c .expect .ensures)
-
 pub end-line-spec : {M : Type 1} → statement M
 end-line-spec = tie.close (tie.spec
-    (λ c κs. search needs) (λ c κs. search needs)
-    returns)
+    (λ c κs. search needs)
+    (λ c κs. search needs)
+    (λ c. simp (← c .before .next-line .ensures) (c .expect .ensures)))

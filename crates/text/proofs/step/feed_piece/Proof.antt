@@ -1,11 +1,10 @@
 -- `text::step::feed_piece` meets its contract: the invariant is by what is left of the piece. Assumes nothing.
-use Prim.Native.Nat.{_+_, _-_, _≤_, ℕ}
+use Prim.Native.Nat.{_+_, _-_, _≤_}
 use Rattle.text.proofs.Laws.{feed-next}
 use Rattle.text.specs.Inside.Control.{mk, St}
 use Rattle.text.specs.Inside.Steps.{feed}
 use borrow.Author.Needs.{needs}
 use lib.ListN.{drop, drop-of-length-le, length}
-use mathlib.Core.List.{List}
 use mathlib.Core.Path.{_∙_, _≡_, ap, refl, sym}
 use native.Mathlib.Omega.{arith}
 use Rattle.text.proofs.step.feed_piece.Statement.{statement}
@@ -17,28 +16,21 @@ Inv-loop s w₀ k₀ i₀ w k i = (i ≤ length s) × (length w ≡ length w₀)
 abbrev μ-loop : tie.MeasureT-loop
 μ-loop s w₀ k₀ i₀ w k i = length s - i
 
-loop-holds : tie.Need-loop-holds Inv-loop μ-loop
-loop-holds c = (omega arith, refl, refl)
-
 loop-again : tie.Need-loop-again Inv-loop μ-loop
 loop-again c =
-    let y = c .before .before in
-    let z = y .before .before .before in
-    let x₁ = z .before .before .before .before in
-    let run = z .before .loop in
-    let s = x₁ .args .s .now in
-    (omega arith, y .step-byte .kept .1 .1 .0 ∙ run .inv .1, ap (λ (x : St). feed x (drop (run .i + 1) s)) (y .step-byte .ensures) ∙ feed-next _ s (run .i) (z .loop-test .taken) ∙ run .inv .2)
-
-same-length : tie.Need-same-length Inv-loop μ-loop
-same-length c = c .before .loop .inv .1
+    let read = c .before .before in
+    let run = read .before .before .before .before .loop in
+    let s = read .before .before .before .before .before .before .before .args .s .now in
+    let fed = ap (λ (x : St). feed x (drop (run .i + 1) s)) (read .step-byte .ensures) in
+    (omega arith, read .step-byte .kept .1 .1 .0 ∙ run .inv .1, fed ∙ feed-next _ s (run .i) (read .before .before .before .loop-test .taken) ∙ run .inv .2)
 
 returns : tie.Need-returns Inv-loop μ-loop
 unfolding feed
 returns c =
-    let x = c .before .before .before .before in
-    let s = x .args .s .now in
-    let h : length s ≤ c .before .loop .i = omega arith in
-    ap (λ (l : List ℕ). feed (mk (c .before .loop .k) (c .before .loop .w)) l) (sym (drop-of-length-le s h)) ∙ c .before .loop .inv .2
+    let run = c .before .loop in
+    let s = c .before .before .before .before .args .s .now in
+    let h : length s ≤ run .i = omega arith in
+    ap (feed (mk (run .k) (run .w))) (sym (drop-of-length-le s h)) ∙ run .inv .2
 
 pub feed-piece-spec : {M : Type 1} → statement M
 feed-piece-spec =
@@ -46,8 +38,11 @@ feed-piece-spec =
     (tie.spec
     Inv-loop
     μ-loop
-    loop-holds
-    (λ c. omega arith) (λ c κs. search needs) (λ c. omega arith) (λ c. omega arith)
+    (λ c. (omega arith, refl, refl))
+    (λ c. omega arith)
+    (λ c κs. search needs)
+    (λ c. omega arith)
+    (λ c. omega arith)
     loop-again
-    same-length
+    (λ c. c .before .loop .inv .1)
     returns)

@@ -5,24 +5,15 @@ use borrow.Author.Tests.{eq-eqb, ne-eqb}
 use Rattle.text.proofs.step.in_key.Statement.{statement}
 use Rattle.text.proofs.step.in_key.Tie as tie
 
-returns : tie.Need-returns
-unfolding inKey
-returns c = simp (← c .before .before .key-byte .ensures, ne-eqb _ _ (c .before .if1 .taken)) (c .stop .ensures)
-
-returns-2 : tie.Need-returns-2
-unfolding inKey
-returns-2 c = simp (← c .before .before .before .key-byte .ensures, eq-eqb _ _ (c .before .before .if1 .left), eq-eqb _ _ (c .before .if2 .taken)) (c .open-line .ensures)
-
-returns-3 : tie.Need-returns-3
-unfolding inKey
-returns-3 c = simp (← c .before .before .before .key-byte .ensures, eq-eqb _ _ (c .before .before .if1 .left), ne-eqb _ _ (c .before .if2 .left)) (c .next-key .ensures)
-
 pub in-key-spec : {M : Type 1} → statement M
+unfolding inKey
 in-key-spec =
     tie.close
     (tie.spec
-    (λ c κs. search needs) (λ c κs. search needs)
-    returns
-    (λ c κs. search needs) (λ c κs. search needs)
-    returns-2
-    returns-3)
+    (λ c κs. search needs)
+    (λ c κs. search needs)
+    (λ c. simp (← c .before .before .key-byte .ensures, ne-eqb _ _ (c .before .if1 .taken)) (c .stop .ensures))
+    (λ c κs. search needs)
+    (λ c κs. search needs)
+    (λ c. simp (← c .before .before .before .key-byte .ensures, eq-eqb _ _ (c .before .before .if1 .left), eq-eqb _ _ (c .before .if2 .taken)) (c .open-line .ensures))
+    (λ c. simp (← c .before .before .before .key-byte .ensures, eq-eqb _ _ (c .before .before .if1 .left), ne-eqb _ _ (c .before .if2 .left)) (c .next-key .ensures)))

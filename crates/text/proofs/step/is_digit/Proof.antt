@@ -4,15 +4,8 @@ use borrow.Author.Tests.{le-leb, lt-leb}
 use Rattle.text.proofs.step.is_digit.Statement.{statement}
 use Rattle.text.proofs.step.is_digit.Tie as tie
 
-returns : tie.Need-returns
-unfolding isDigit
-returns c = simp (le-leb _ _ (c .if1 .taken))
-
-returns-2 : tie.Need-returns-2
-unfolding isDigit
-returns-2 c = simp (lt-leb _ _ (c .if1 .left))
-
 pub is-digit-spec : {M : Type 1} → statement M
+unfolding isDigit
 is-digit-spec = tie.close (tie.spec
-    returns
-    returns-2)
+    (λ c. simp (le-leb _ _ (c .if1 .taken)))
+    (λ c. simp (lt-leb _ _ (c .if1 .left))))

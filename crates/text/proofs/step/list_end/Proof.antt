@@ -5,18 +5,14 @@ use borrow.Author.Tests.{eq-eqb, ne-eqb}
 use Rattle.text.proofs.step.list_end.Statement.{statement}
 use Rattle.text.proofs.step.list_end.Tie as tie
 
-returns : tie.Need-returns
-unfolding listEnd
-returns c = simp (← c .before .before .before .list-of .ensures, eq-eqb _ _ (c .before .before .if1 .taken), ← c .before .await-number .ensures) (c .expect .ensures)
-
-returns-2 : tie.Need-returns-2
-unfolding listEnd
-returns-2 c = simp (← c .before .before .list-of .ensures, ne-eqb _ _ (c .before .if1 .left)) (c .end-line .ensures)
-
 pub list-end-spec : {M : Type 1} → statement M
+unfolding listEnd
 list-end-spec =
     tie.close
     (tie.spec
-    (λ c κs. search needs) (λ c κs. search needs) (λ c κs. search needs) (λ c κs. search needs)
-    returns
-    returns-2)
+    (λ c κs. search needs)
+    (λ c κs. search needs)
+    (λ c κs. search needs)
+    (λ c κs. search needs)
+    (λ c. simp (← c .before .before .before .list-of .ensures, eq-eqb _ _ (c .before .before .if1 .taken), ← c .before .await-number .ensures) (c .expect .ensures))
+    (λ c. simp (← c .before .before .list-of .ensures, ne-eqb _ _ (c .before .if1 .left)) (c .end-line .ensures)))

@@ -5,35 +5,25 @@ use borrow.Author.Tests.{eq-eqb, ne-eqb}
 use Rattle.text.proofs.step.live_step.Statement.{statement}
 use Rattle.text.proofs.step.live_step.Tie as tie
 
-returns : tie.Need-returns
-unfolding live
-returns c = simp (eq-eqb _ _ (c .before .if1 .taken), c .in-key .ensures)
-
-returns-2 : tie.Need-returns-2
-unfolding live
-returns-2 c = simp (ne-eqb _ _ (c .before .before .before .before .before .before .if1 .left), eq-eqb _ _ (c .before .before .before .before .if2 .taken)) (c .before .before .at-number .ensures)
-
-returns-3 : tie.Need-returns-3
-unfolding live
-returns-3 c = simp (ne-eqb _ _ (c .before .before .before .before .before .if1 .left), ne-eqb _ _ (c .before .before .before .if2 .left), eq-eqb _ _ (c .before .if3 .taken), c .list-end .ensures)
-
 returns-4 : tie.Need-returns-4
 unfolding live
 returns-4 c =
-    let x = c .before .before in
-    let y = x .before .before in
-    let z = y .before .before in
-    simp (ne-eqb _ _ (z .if1 .left), ne-eqb _ _ (y .if2 .left), ne-eqb _ _ (x .if3 .left), ← c .before .take-dash .ensures, c .expect .ensures)
+    let third = c .before .before in
+    let second = third .before .before in
+    simp (ne-eqb _ _ (second .before .before .if1 .left), ne-eqb _ _ (second .if2 .left), ne-eqb _ _ (third .if3 .left), ← c .before .take-dash .ensures, c .expect .ensures)
 
 pub live-step-spec : {M : Type 1} → statement M
+unfolding live
 live-step-spec =
     tie.close
     (tie.spec
     (λ c κs. search needs)
-    returns
-    (λ c κs. search needs) (λ c. search needs)
-    returns-2
+    (λ c. simp (eq-eqb _ _ (c .before .if1 .taken), c .in-key .ensures))
     (λ c κs. search needs)
-    returns-3
-    (λ c κs. search needs) (λ c κs. search needs)
+    (λ c. search needs)
+    (λ c. let n = c .before .before in simp (ne-eqb _ _ (n .before .before .before .before .if1 .left), eq-eqb _ _ (n .before .before .if2 .taken)) (n .at-number .ensures))
+    (λ c κs. search needs)
+    (λ c. let n = c .before .before .before in simp (ne-eqb _ _ (n .before .before .if1 .left), ne-eqb _ _ (n .if2 .left), eq-eqb _ _ (c .before .if3 .taken), c .list-end .ensures))
+    (λ c κs. search needs)
+    (λ c κs. search needs)
     returns-4)

@@ -5,17 +5,8 @@ use native.Mathlib.Omega.{arith}
 use Rattle.text.proofs.step.run_after.Statement.{statement}
 use Rattle.text.proofs.step.run_after.Tie as tie
 
-returns : tie.Need-returns
-returns c = simp (c .before .if1 .taken, c .if2 .taken)
-
-returns-2 : tie.Need-returns-2
-returns-2 c = simp (ne-eqb (c .before .before .args .r + c .before .before .args .d) 0 (λ z. c .if2 .left (omega arith)))
-
-returns-3 : tie.Need-returns-3
-returns-3 c = simp (ne-eqb (c .before .args .r + c .before .args .d) 0 (λ z. c .if1 .left (omega arith)))
-
 pub run-after-spec : {M : Type 1} → statement M
 run-after-spec = tie.close (tie.spec
-    returns
-    returns-2
-    returns-3)
+    (λ c. simp (c .before .if1 .taken, c .if2 .taken))
+    (λ c. simp (ne-eqb (c .before .before .args .r + c .before .before .args .d) 0 (λ z. c .if2 .left (omega arith))))
+    (λ c. simp (ne-eqb (c .before .args .r + c .before .args .d) 0 (λ z. c .if1 .left (omega arith)))))

@@ -11,13 +11,10 @@ returns c =
     let y = x .before .before in
     simp (← y .before .before .goes-on .ensures, y .before .if1 .taken, ← y .word .ensures .0) (x .live-step .ensures)
 
-returns-2 : tie.Need-returns-2
-unfolding byteRead
-returns-2 c = simp (← c .before .goes-on .ensures, c .if1 .left)
-
 pub step-byte-spec : {M : Type 1} → statement M
+unfolding byteRead
 step-byte-spec =
     tie.close (tie.spec
     (λ c κs. search needs) (λ c κs. search needs) (λ c κs. search needs) (λ c. search needs)
     returns
-    returns-2)
+    (λ c. simp (← c .before .goes-on .ensures, c .if1 .left)))
