@@ -6,7 +6,7 @@
 // laid out as crates/tables/specs/Layout.antt says. A lent state has a byte for each variable. A list of operators holds their numbers.
 // A refusal is one of the paper's list: `refusals::number` and `refusals::place` tell its number and its place.
 ghost use mathlib.Core.Path.{_≡_};
-ghost use Rattle.tables.specs.Task.{tables, lent};
+ghost use Rattle.tables.specs.Task.{lent, was, left};
 ghost use Rattle.scan.specs.Scan.{tablesFault};
 ghost use Rattle.grammar.specs.Fields.{leaves};
 ghost use Rattle.grammar.specs.Grammar.{readText};
@@ -31,7 +31,7 @@ use views::DistancesAnswer;
 // Accepted: the tables hold the task's numbers, and 0 in every place beyond. Refused: every lent place is as it was.
 // `read-unique`.
 pub fn read(task: &[u8], facts: &mut [u8], costs: &mut [u32], shares: &mut [u32]) -> Reading
-    ensures { λ r. ⌜ leaves r (now (facts .exit)) (now (costs .exit)) (now (shares .exit)) ≡ readText (now (task .entry)) (now (facts .entry)) (now (costs .entry)) (now (shares .entry)) ⌝ }
+    ensures { λ r. ⌜ leaves r (left facts) (left costs) (left shares) ≡ readText (was task) (was facts) (was costs) (was shares) ⌝ }
 {
     text::read(task, facts, costs, shares)
 }
@@ -39,7 +39,7 @@ pub fn read(task: &[u8], facts: &mut [u8], costs: &mut [u32], shares: &mut [u32]
 // CHECKS handed-in tables by the text's rules: clean, or the first fault with the line that the same task's text would have.
 // `check-unique`.
 pub fn check(c: Counts, facts: &[u8], costs: &[u32], shares: &[u32]) -> Found
-    ensures { λ r. ⌜ r ≡ tablesFault (lent c (facts .entry) (costs .entry) (shares .entry)) ⌝ }
+    ensures { λ r. ⌜ r ≡ tablesFault (lent c facts costs shares) ⌝ }
 {
     scan::tables_fault(c, facts, costs, shares)
 }
@@ -54,7 +54,7 @@ pub fn distances(
     map: u32,
     out: &mut [u32],
 ) -> DistancesAnswer
-    ensures { λ r. ⌜ DistancesGiven (lent c (facts .entry) (costs .entry) (shares .entry)) map (now (out .entry)) r (now (out .exit)) ⌝ }
+    ensures { λ r. ⌜ DistancesGiven (lent c facts costs shares) map (was out) r (left out) ⌝ }
 {
     views::distances(c, facts, costs, shares, map, out)
 }
@@ -69,7 +69,7 @@ pub fn distance_at(
     map: u32,
     state: &[u8],
 ) -> DistanceAnswer
-    ensures { λ r. ⌜ DistanceGiven (lent c (facts .entry) (costs .entry) (shares .entry)) map (now (state .entry)) r ⌝ }
+    ensures { λ r. ⌜ DistanceGiven (lent c facts costs shares) map (was state) r ⌝ }
 {
     views::distance_at(c, facts, costs, shares, map, state)
 }
@@ -77,7 +77,7 @@ pub fn distance_at(
 // The summed BOUND of a state: at most the cost of every sequence from there to the goal, of any length; none only where there is no such sequence.
 // `bound-unique`.
 pub fn bound(c: Counts, facts: &[u8], costs: &[u32], shares: &[u32], state: &[u8]) -> BoundAnswer
-    ensures { λ r. ⌜ BoundGiven (lent c (facts .entry) (costs .entry) (shares .entry)) (now (state .entry)) r ⌝ }
+    ensures { λ r. ⌜ BoundGiven (lent c facts costs shares) (was state) r ⌝ }
 {
     views::bound(c, facts, costs, shares, state)
 }
@@ -92,7 +92,7 @@ pub fn judge(
     state: &[u8],
     ops: &[u32],
 ) -> Judged
-    ensures { λ r. ⌜ r ≡ judgedOf (lent c (facts .entry) (costs .entry) (shares .entry)) (now (state .entry)) (now (ops .entry)) ⌝ }
+    ensures { λ r. ⌜ r ≡ judgedOf (lent c facts costs shares) (was state) (was ops) ⌝ }
 {
     sequences::judge(c, facts, costs, shares, state, ops)
 }
@@ -108,7 +108,7 @@ pub fn cheaper(
     a: &[u32],
     b: &[u32],
 ) -> Cheaper
-    ensures { λ r. ⌜ r ≡ cheaperOf (lent c (facts .entry) (costs .entry) (shares .entry)) (now (state .entry)) (now (a .entry)) (now (b .entry)) ⌝ }
+    ensures { λ r. ⌜ r ≡ cheaperOf (lent c facts costs shares) (was state) (was a) (was b) ⌝ }
 {
     sequences::cheaper(c, facts, costs, shares, state, a, b)
 }
@@ -124,7 +124,7 @@ pub fn opening<'a>(
     a: &'a [u32],
     b: &'a [u32],
 ) -> &'a [u32]
-    ensures { λ r. ⌜ OpeningOf (lent c (facts .entry) (costs .entry) (shares .entry)) (now (state .entry)) (a .entry) (b .entry) r ⌝ }
+    ensures { λ r. ⌜ OpeningOf (lent c facts costs shares) (was state) (a .entry) (b .entry) r ⌝ }
 {
     sequences::opening(c, facts, costs, shares, state, a, b)
 }
@@ -132,7 +132,7 @@ pub fn opening<'a>(
 // BEGINS a run from a state: a fresh run, or a run of zeros with the refusal.
 // `begin-unique`.
 pub fn begin(c: Counts, facts: &[u8], costs: &[u32], shares: &[u32], start: &[u8]) -> Offered
-    ensures { λ r. ⌜ r ≡ begun (lent c (facts .entry) (costs .entry) (shares .entry)) (now (start .entry)) ⌝ }
+    ensures { λ r. ⌜ r ≡ begun (lent c facts costs shares) (was start) ⌝ }
 {
     Run::begin(c, facts, costs, shares, start)
 }
@@ -148,7 +148,7 @@ pub fn offer(
     number: u32,
     op: OpNo,
 ) -> Offered
-    ensures { λ r. ⌜ r ≡ offered (lent c (facts .entry) (costs .entry) (shares .entry)) run number (op .0) ⌝ }
+    ensures { λ r. ⌜ r ≡ offered (lent c facts costs shares) run number (op .0) ⌝ }
 {
     run.offer(c, facts, costs, shares, number, op)
 }

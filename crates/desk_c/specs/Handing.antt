@@ -6,11 +6,9 @@ use mathlib.Core.List.{List}
 use Prim.Native.Nat.{ℕ}
 use lib.Dec.{ltb}
 use lib.ListN.{length, set}
-use denote.Ref.{RefT, now}
-use denote.Triple.Both.{Both}
 use Rattle.refusals.specs.declared.Refusal.the-variants.{TableTooShort}
 use Rattle.tables.specs.Layout.{Tables}
-use Rattle.tables.specs.Task.{tables}
+use Rattle.tables.specs.Task.{tables, Slice, was}
 use Rattle.grammar.specs.declared.Reading.{Reading}
 use Rattle.grammar.specs.declared.Reading.the-variants as reading
 use Rattle.grammar.specs.Fields.{Outcome}
@@ -20,16 +18,6 @@ use Rattle.views.specs.declared.DistanceAnswer.{DistanceAnswer}
 use Rattle.views.specs.declared.BoundAnswer.{BoundAnswer}
 use Rattle.views.specs.Entries.{DistancesGiven, DistanceGiven, BoundGiven}
 use Rattle.words.specs.Words.{refusedWord, readingWord, distancesWord, distanceWord, boundWord}
-
--- a slice in a contract, and what stands in it at the call and afterwards
-abbrev pub Slice : Type 0
-Slice = Both (RefT (List ℕ)) (RefT (List ℕ))
-
-abbrev pub was : Slice → List ℕ
-was s = now (s .entry)
-
-abbrev pub left : Slice → List ℕ
-left s = now (s .exit)
 
 -- the tables of a task that is lent by its counts, three numbers, and its three tables
 abbrev pub lentTask : ℕ → ℕ → ℕ → Slice → Slice → Slice → Tables

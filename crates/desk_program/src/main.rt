@@ -12,7 +12,10 @@ use refusals::Refusal;
 use refusals::number;
 use refusals::place;
 use tables::Counts;
+use tables::readers::COSTS_ROOM;
+use tables::readers::FACTS_ROOM;
 use tables::readers::INIT_ROW;
+use tables::readers::SHARES_ROOM;
 use tables::readers::row_at;
 use views::BoundAnswer;
 use views::DistanceAnswer;
@@ -97,9 +100,9 @@ fn say_task(c: Counts, facts: &[u8], costs: &[u32], shares: &[u32]) {
 fn main() {
     let mut task = [0u8; TASK_ROOM];
     let n = read_full(0, &mut task);
-    let mut facts = [0u8; 1624];
-    let mut costs = [0u32; 64];
-    let mut shares = [0u32; 512];
+    let mut facts = [0u8; FACTS_ROOM];
+    let mut costs = [0u32; COSTS_ROOM];
+    let mut shares = [0u32; SHARES_ROOM];
     let answer = read(&task[..n], &mut facts, &mut costs, &mut shares);
     match answer {
         Reading::Accepted(c) => say_task(c, &facts, &costs, &shares),

@@ -23,7 +23,7 @@ pub fn columns_after(
     op: OpNo,
 ) -> [u32; COLUMNS]
     requires { ⌜ Valid (taskOf (tables c (now facts) (now costs) (now shares))) × (op .0 < c .ops) × HasRoom columns ⌝ }
-    ensures { λ r. ⌜ r ≡ booked (taskOf (lent c (facts .entry) (costs .entry) (shares .entry))) columns (op .0) ⌝ }
+    ensures { λ r. ⌜ r ≡ booked (taskOf (lent c facts costs shares)) columns (op .0) ⌝ }
 {
     let mut t = columns;
     let mut shared: u32 = 0;

@@ -4,10 +4,11 @@ ghost use Prim.Native.Nat.{_≤_};
 ghost use lib.ListN.{length};
 ghost use Rattle.meaning.specs.Limits.{mostVars};
 ghost use Rattle.ledger.specs.Ledger.{sameTo};
+ghost use Rattle.tables.specs.Task.{was};
 
 // Two states, at all their places.
 pub fn same_bytes(a: &[u8; 8], b: &[u8; 8]) -> bool
-    ensures { λ r. ⌜ r ≡ sameTo mostVars (now (a .entry)) (now (b .entry)) ⌝ }
+    ensures { λ r. ⌜ r ≡ sameTo mostVars (was a) (was b) ⌝ }
 {
     let mut i: usize = 0;
     while i < 8 {
@@ -22,7 +23,7 @@ pub fn same_bytes(a: &[u8; 8], b: &[u8; 8]) -> bool
 // Two lists of words, at their first k places.
 pub fn same_words(a: &[u32], b: &[u32], k: usize) -> bool
     requires { ⌜ (k ≤ length (now a)) × (k ≤ length (now b)) ⌝ }
-    ensures { λ r. ⌜ r ≡ sameTo k (now (a .entry)) (now (b .entry)) ⌝ }
+    ensures { λ r. ⌜ r ≡ sameTo k (was a) (was b) ⌝ }
 {
     let mut i: usize = 0;
     while i < k {

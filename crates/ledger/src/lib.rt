@@ -3,7 +3,7 @@ ghost use mathlib.Core.Path.{_≡_};
 ghost use Prim.Native.Nat.{_≤_, _<_};
 ghost use lib.ListN.{take};
 ghost use Rattle.meaning.specs.Split.{Valid};
-ghost use Rattle.tables.specs.Task.{taskOf, tables, lent};
+ghost use Rattle.tables.specs.Task.{taskOf, tables, lent, was};
 ghost use Rattle.meaning.specs.Limits.{mostOps, mostSteps};
 ghost use Rattle.ledger.specs.Ledger.{fresh, advanced, canRun, replayed, sameRun, isRun, oldStep, nextStep, offerJudged, answered, offered, begun};
 ghost use Rattle.ledger.specs.Inside.Bounded.{Bounded};
@@ -81,7 +81,7 @@ impl Run {
     // The run with the operator run once more.
     fn advance(mut self, c: Counts, facts: &[u8], costs: &[u32], shares: &[u32], op: OpNo) -> Run
         requires { ⌜ Valid (taskOf (tables c (now facts) (now costs) (now shares))) × (op .0 < c .ops) × (self .len < mostSteps) × Bounded self ⌝ }
-        ensures { λ r. ⌜ r ≡ advanced (lent c (facts .entry) (costs .entry) (shares .entry)) self (op .0) ⌝ }
+        ensures { λ r. ⌜ r ≡ advanced (lent c facts costs shares) self (op .0) ⌝ }
     {
         let at = self.len as usize;
         let state = self.now;
@@ -96,7 +96,7 @@ impl Run {
     // The operator exists and may run now.
     fn can_run(self, c: Counts, facts: &[u8], op: OpNo) -> bool
         requires { ⌜ c .ops ≤ mostOps ⌝ }
-        ensures { λ r. ⌜ r ≡ canRun c (now (facts .entry)) self (op .0) ⌝ }
+        ensures { λ r. ⌜ r ≡ canRun c (was facts) self (op .0) ⌝ }
     {
         if c.ops <= op.0 {
             return false;
@@ -134,7 +134,7 @@ impl Run {
         len: usize,
     ) -> Tried
         requires { ⌜ Valid (taskOf (tables c (now facts) (now costs) (now shares))) × (len ≤ mostSteps) ⌝ }
-        ensures { λ r. ⌜ r ≡ replayed (lent c (facts .entry) (costs .entry) (shares .entry)) (fresh start) (take len log) ⌝ }
+        ensures { λ r. ⌜ r ≡ replayed (lent c facts costs shares) (fresh start) (take len log) ⌝ }
     {
         let mut run = Run::fresh(start);
         for i in 0..len {
@@ -150,7 +150,7 @@ impl Run {
     // The run is what its start and log give.
     fn is_run(self, c: Counts, facts: &[u8], costs: &[u32], shares: &[u32]) -> bool
         requires { ⌜ Valid (taskOf (tables c (now facts) (now costs) (now shares))) ⌝ }
-        ensures { λ r. ⌜ r ≡ isRun (lent c (facts .entry) (costs .entry) (shares .entry)) self ⌝ }
+        ensures { λ r. ⌜ r ≡ isRun (lent c facts costs shares) self ⌝ }
     {
         let len = self.len as usize;
         if STEPS_MOST < len {
@@ -184,7 +184,7 @@ impl Run {
     // The next number: refused if the run is full or the operator may not run, else accepted.
     fn next_step(self, c: Counts, facts: &[u8], number: u32, op: OpNo) -> Answer
         requires { ⌜ c .ops ≤ mostOps ⌝ }
-        ensures { λ r. ⌜ r ≡ nextStep c (now (facts .entry)) self number (op .0) ⌝ }
+        ensures { λ r. ⌜ r ≡ nextStep c (was facts) self number (op .0) ⌝ }
     {
         if STEPS_MOST <= self.len as usize {
             return Answer::Refused(Refusal::RunFull(number));
@@ -198,7 +198,7 @@ impl Run {
     // What an offer to a run is answered.
     fn judge(self, c: Counts, facts: &[u8], number: u32, op: OpNo) -> Answer
         requires { ⌜ (c .ops ≤ mostOps) × (self .len ≤ mostSteps) ⌝ }
-        ensures { λ r. ⌜ r ≡ offerJudged c (now (facts .entry)) self number (op .0) ⌝ }
+        ensures { λ r. ⌜ r ≡ offerJudged c (was facts) self number (op .0) ⌝ }
     {
         if c.ops <= op.0 {
             return Answer::Refused(Refusal::NoSuchOperator(number));
@@ -225,7 +225,7 @@ impl Run {
         number: u32,
         op: OpNo,
     ) -> Answer
-        ensures { λ r. ⌜ r ≡ answered (lent c (facts .entry) (costs .entry) (shares .entry)) self number (op .0) ⌝ }
+        ensures { λ r. ⌜ r ≡ answered (lent c facts costs shares) self number (op .0) ⌝ }
     {
         let found = tables_fault(c, facts, costs, shares);
         match found {
@@ -249,7 +249,7 @@ impl Run {
         number: u32,
         op: OpNo,
     ) -> Offered
-        ensures { λ r. ⌜ r ≡ offered (lent c (facts .entry) (costs .entry) (shares .entry)) self number (op .0) ⌝ }
+        ensures { λ r. ⌜ r ≡ offered (lent c facts costs shares) self number (op .0) ⌝ }
     {
         let a = self.answer(c, facts, costs, shares, number, op);
         match a {
@@ -273,7 +273,7 @@ impl Run {
 
     // A fresh run from a lent state; or a run of zeros beside the refusal.
     pub fn begin(c: Counts, facts: &[u8], costs: &[u32], shares: &[u32], start: &[u8]) -> Offered
-        ensures { λ r. ⌜ r ≡ begun (lent c (facts .entry) (costs .entry) (shares .entry)) (now (start .entry)) ⌝ }
+        ensures { λ r. ⌜ r ≡ begun (lent c facts costs shares) (was start) ⌝ }
     {
         let found = input_fault(c, facts, costs, shares, start);
         match found {

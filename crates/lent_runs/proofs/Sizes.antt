@@ -1,5 +1,5 @@
 -- The lists of a run have their lengths: of a run taken out of lent memory, of a run begun, and of a run after an offer. Assumes nothing.
-use Prim.Native.Nat.{ℕ, _+_}
+use Prim.Native.Nat.{ℕ}
 use mathlib.Core.Path.{_≡_, _∙_}
 use mathlib.Core.List.{List}
 use lib.ListN.{length, replicate, length-set, length-replicate}

@@ -4,6 +4,7 @@ ghost use Prim.Native.Nat.{_<_};
 ghost use Rattle.meaning.specs.Limits.{mostVars, mostOps};
 ghost use Rattle.records.specs.Records.{atMost, counted, rowLaid, laidOne};
 ghost use Rattle.records.specs.Inside.Parts.{copyOf, laidJudged};
+ghost use Rattle.tables.specs.Task.{was};
 use crate::OpRecord;
 use meaning::OpNo;
 use refusals::Refusal;
@@ -37,7 +38,7 @@ pub fn at_most(limit: usize, n: usize) -> usize
 
 // The lent facts by value, and no costs yet.
 pub fn copied(facts: &[u8]) -> Laid
-    ensures { λ t. ⌜ t ≡ copyOf (now (facts .entry)) ⌝ }
+    ensures { λ t. ⌜ t ≡ copyOf (was facts) ⌝ }
 {
     let mut copy = [0u8; 1624];
     let mut k = 0usize;
@@ -106,7 +107,7 @@ pub fn judge_laid<'a>(
     s: &'a [u8],
     ops: &'a [u32],
 ) -> Judged
-    ensures { λ r. ⌜ r ≡ laidJudged c room n t (now (shares .entry)) (now (s .entry)) (now (ops .entry)) ⌝ }
+    ensures { λ r. ⌜ r ≡ laidJudged c room n t (was shares) (was s) (was ops) ⌝ }
 {
     if room < FACTS_ROOM {
         return Judged::Refused(Refusal::TableTooShort);

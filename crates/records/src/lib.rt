@@ -2,6 +2,7 @@
 ghost use mathlib.Core.Path.{_≡_};
 ghost use Rattle.sequences.specs.Judging.{judgedOf};
 ghost use Rattle.records.specs.Records.{recordsTables};
+ghost use Rattle.tables.specs.Task.{was};
 use crate::laying::copied;
 use crate::laying::judge_laid;
 use crate::rows::gather;
@@ -27,7 +28,7 @@ pub fn judge_records<'a, 'r>(
     s: &'a [u8],
     ops: &'a [u32],
 ) -> Judged
-    ensures { λ r. ⌜ r ≡ judgedOf (recordsTables c (now (facts .entry)) (now (shares .entry)) (now (rows .entry))) (now (s .entry)) (now (ops .entry)) ⌝ }
+    ensures { λ r. ⌜ r ≡ judgedOf (recordsTables c (was facts) (was shares) (was rows)) (was s) (was ops) ⌝ }
 {
     judge_laid(
         c,

@@ -4,6 +4,7 @@ ghost use Prim.Native.Nat.{_<_};
 ghost use lib.ListN.{length};
 ghost use Rattle.meaning.specs.Limits.{mostOps};
 ghost use Rattle.records.specs.Records.{recordAt, laidOf, atMost};
+ghost use Rattle.tables.specs.Task.{was};
 use crate::OpRecord;
 use crate::laying::Laid;
 use crate::laying::OPS_MOST;
@@ -13,14 +14,14 @@ use crate::laying::with_record;
 // The record of an operator.
 pub fn record_at(rows: &[OpRecord], o: usize) -> OpRecord
     requires { ⌜ o < length (now rows) ⌝ }
-    ensures { λ r. ⌜ r ≡ recordAt (now (rows .entry)) o ⌝ }
+    ensures { λ r. ⌜ r ≡ recordAt (was rows) o ⌝ }
 {
     rows[o]
 }
 
 // The row's records in their places of the tables, one after the other; as many as there are places for.
 pub fn gather(rows: &[OpRecord], t: Laid) -> Laid
-    ensures { λ u. ⌜ u ≡ laidOf (now (rows .entry)) (atMost mostOps (length (now (rows .entry)))) t ⌝ }
+    ensures { λ u. ⌜ u ≡ laidOf (was rows) (atMost mostOps (length (was rows))) t ⌝ }
 {
     let mut u = t;
     let n = at_most(OPS_MOST, rows.len());

@@ -3,6 +3,7 @@ ghost use mathlib.Core.Path.{_≡_};
 ghost use mathlib.Core.List.{[], _∷_};
 ghost use Rattle.sequences.specs.Judging.{judgedOf};
 ghost use Rattle.records.specs.Records.{recordsTables};
+ghost use Rattle.tables.specs.Task.{was};
 use io::print_decimal;
 use io::write_all;
 use libc::STDOUT_FILENO;
@@ -25,7 +26,7 @@ fn judge_four<'a>(
     s: &'a [u8],
     ops: &'a [u32],
 ) -> Judged
-    ensures { λ r. ⌜ r ≡ judgedOf (recordsTables c (now (facts .entry)) (now (shares .entry)) (first ∷ second ∷ third ∷ fourth ∷ [])) (now (s .entry)) (now (ops .entry)) ⌝ }
+    ensures { λ r. ⌜ r ≡ judgedOf (recordsTables c (was facts) (was shares) (first ∷ second ∷ third ∷ fourth ∷ [])) (was s) (was ops) ⌝ }
 {
     let rows = [first, second, third, fourth];
     judge_records(c, facts, shares, &rows, s, ops)

@@ -10,7 +10,7 @@ ghost use Rattle.meaning.specs.Split.{sum};
 ghost use Rattle.refusals.specs.declared.Refusal.the-variants.{OutOfRange};
 ghost use Rattle.scan.specs.declared.Found.the-variants.{Clean};
 ghost use Rattle.tables.specs.Layout.{rowAt, domAt, shareAt, factsRoom, costsRoom, sharesRoom};
-ghost use Rattle.tables.specs.Task.{tables, taskOf, lent};
+ghost use Rattle.tables.specs.Task.{tables, taskOf, lent, was};
 ghost use Rattle.scan.specs.Scan.{unless, each, within, mapFault, sharesFault, splitFault, taskFault, tablesFault, stateFault, inputFault};
 ghost use Rattle.scan.specs.Inside.Parts.{factsFit, variableHolds, opsFault, goalFault, initFault, domFault, headFault, linesFault, chargesFault, bodyFault};
 use meaning::OpNo;
@@ -56,7 +56,7 @@ pub enum Found {
 
 // A row of facts names a value of the variable, or nothing.
 fn fact_fits(facts: &[u8], row: u32, v: u32) -> bool
-    ensures { λ r. ⌜ r ≡ leb (rowAt (now (facts .entry)) row v) (domAt (now (facts .entry)) v) ⌝ }
+    ensures { λ r. ⌜ r ≡ leb (rowAt (was facts) row v) (domAt (was facts) v) ⌝ }
 {
     row_at(facts, row, v) <= row_at(facts, DOM_ROW, v)
 }
@@ -64,7 +64,7 @@ fn fact_fits(facts: &[u8], row: u32, v: u32) -> bool
 // What an operator asks of a variable, and what it does to it, is a value of the variable, or nothing.
 fn facts_fit(facts: &[u8], o: OpNo, v: u32) -> bool
     requires { ⌜ o .0 < mostOps ⌝ }
-    ensures { λ r. ⌜ r ≡ factsFit (now (facts .entry)) (o .0) v ⌝ }
+    ensures { λ r. ⌜ r ≡ factsFit (was facts) (o .0) v ⌝ }
 {
     let pre = pre_row(o);
     let eff = eff_row(o);
@@ -77,7 +77,7 @@ fn facts_fit(facts: &[u8], o: OpNo, v: u32) -> bool
 
 // The variable has the value x.
 fn value_fits(facts: &[u8], v: u32, x: u8) -> bool
-    ensures { λ r. ⌜ r ≡ ltb x (domAt (now (facts .entry)) v) ⌝ }
+    ensures { λ r. ⌜ r ≡ ltb x (domAt (was facts) v) ⌝ }
 {
     x < row_at(facts, DOM_ROW, v)
 }
@@ -91,7 +91,7 @@ fn lies_within(lo: u32, hi: u32, x: u32) -> bool
 
 // What the line of the values, of the initial state or of the goal asks of a variable: 1 to 8 values; an initial value, and a value in the goal, that are among them.
 fn variable_holds(facts: &[u8], line: u32, v: u32) -> bool
-    ensures { λ r. ⌜ r ≡ variableHolds (now (facts .entry)) line v ⌝ }
+    ensures { λ r. ⌜ r ≡ variableHolds (was facts) line v ⌝ }
 {
     if line == DOM_LINE {
         return lies_within(1, VALUES_MOST, word_of(facts, DOM_ROW, v));
@@ -104,7 +104,7 @@ fn variable_holds(facts: &[u8], line: u32, v: u32) -> bool
 
 // One of these three lines, from variable to variable.
 fn variables_fault(vars: u32, facts: &[u8], line: u32) -> Found
-    ensures { λ r. ⌜ r ≡ each (λ v. unless (variableHolds (now (facts .entry)) line v) (OutOfRange line)) vars 0 ⌝ }
+    ensures { λ r. ⌜ r ≡ each (λ v. unless (variableHolds (was facts) line v) (OutOfRange line)) vars 0 ⌝ }
 {
     for v in 0..vars {
         if !variable_holds(facts, line, v) {
@@ -126,7 +126,7 @@ fn ops_fault(ops: u32) -> Found
 
 // The goal.
 fn goal_fault(c: Counts, facts: &[u8]) -> Found
-    ensures { λ r. ⌜ r ≡ goalFault (taskOf (tables c (now (facts .entry)) [] [])) ⌝ }
+    ensures { λ r. ⌜ r ≡ goalFault (taskOf (tables c (was facts) [] [])) ⌝ }
 {
     let goal = variables_fault(c.vars, facts, GOAL_LINE);
     let Found::Clean = goal else {
@@ -137,7 +137,7 @@ fn goal_fault(c: Counts, facts: &[u8]) -> Found
 
 // The initial state.
 fn init_fault(c: Counts, facts: &[u8]) -> Found
-    ensures { λ r. ⌜ r ≡ initFault (taskOf (tables c (now (facts .entry)) [] [])) ⌝ }
+    ensures { λ r. ⌜ r ≡ initFault (taskOf (tables c (was facts) [] [])) ⌝ }
 {
     let init = variables_fault(c.vars, facts, INIT_LINE);
     let Found::Clean = init else {
@@ -148,7 +148,7 @@ fn init_fault(c: Counts, facts: &[u8]) -> Found
 
 // How many values the variables have.
 fn dom_fault(c: Counts, facts: &[u8]) -> Found
-    ensures { λ r. ⌜ r ≡ domFault (taskOf (tables c (now (facts .entry)) [] [])) ⌝ }
+    ensures { λ r. ⌜ r ≡ domFault (taskOf (tables c (was facts) [] [])) ⌝ }
 {
     let doms = variables_fault(c.vars, facts, DOM_LINE);
     let Found::Clean = doms else {
@@ -159,7 +159,7 @@ fn dom_fault(c: Counts, facts: &[u8]) -> Found
 
 // How many variables.
 fn head_fault(c: Counts, facts: &[u8]) -> Found
-    ensures { λ r. ⌜ r ≡ headFault (taskOf (tables c (now (facts .entry)) [] [])) ⌝ }
+    ensures { λ r. ⌜ r ≡ headFault (taskOf (tables c (was facts) [] [])) ⌝ }
 {
     if !lies_within(1, VARS_MOST, c.vars) {
         return Found::Fault(Refusal::OutOfRange(VARS_LINE));
@@ -170,7 +170,7 @@ fn head_fault(c: Counts, facts: &[u8]) -> Found
 // The line of a map: its variables' classes, and at its end not too many abstract states.
 fn map_fault(c: Counts, facts: &[u8], m: u32) -> Found
     requires { ⌜ (headFault (taskOf (tables c (now facts) [] [])) ≡ Clean) × (m < mostMaps) ⌝ }
-    ensures { λ r. ⌜ r ≡ mapFault (taskOf (tables c (now (facts .entry)) [] [])) m ⌝ }
+    ensures { λ r. ⌜ r ≡ mapFault (taskOf (tables c (was facts) [] [])) m ⌝ }
 {
     let line = map_line(c.ops, m);
     let vars = c.vars;
@@ -192,7 +192,7 @@ fn map_fault(c: Counts, facts: &[u8], m: u32) -> Found
 // From the first operator's line to the last map's: the walks over operators, facts and maps are left at once with the first fault.
 fn lines_fault(c: Counts, facts: &[u8], costs: &[u32]) -> Found
     requires { ⌜ headFault (taskOf (tables c (now facts) [] [])) ≡ Clean ⌝ }
-    ensures { λ r. ⌜ r ≡ linesFault (taskOf (tables c (now (facts .entry)) (now (costs .entry)) [])) ⌝ }
+    ensures { λ r. ⌜ r ≡ linesFault (taskOf (tables c (was facts) (was costs) [])) ⌝ }
 {
     let vars = c.vars;
     let ops = c.ops;
@@ -227,7 +227,7 @@ fn lines_fault(c: Counts, facts: &[u8], costs: &[u32]) -> Found
 // The lines of the shares: the walk over maps and operators is left at once with the first fault.
 fn shares_fault(c: Counts, shares: &[u32]) -> Found
     requires { ⌜ (c .ops ≤ mostOps) × (c .maps ≤ mostMaps) ⌝ }
-    ensures { λ r. ⌜ r ≡ each (sharesFault (taskOf (tables c [] [] (now (shares .entry))))) (c .maps) 0 ⌝ }
+    ensures { λ r. ⌜ r ≡ each (sharesFault (taskOf (tables c [] [] (was shares)))) (c .maps) 0 ⌝ }
 {
     let ops = c.ops;
     let maps = c.maps;
@@ -243,7 +243,7 @@ fn shares_fault(c: Counts, shares: &[u32]) -> Found
 
 // What the maps charge for an operator in all.
 fn share_total(maps: u32, shares: &[u32], o: OpNo) -> u64
-    ensures { λ r. ⌜ r ≡ sum (λ m. shareAt (now (shares .entry)) m (o .0)) maps ⌝ }
+    ensures { λ r. ⌜ r ≡ sum (λ m. shareAt (was shares) m (o .0)) maps ⌝ }
 {
     let mut total = 0u64;
     for m in 0..maps {
@@ -255,7 +255,7 @@ fn share_total(maps: u32, shares: &[u32], o: OpNo) -> u64
 // The split, after all else: an operator's shares total at most its cost.
 fn split_fault(c: Counts, costs: &[u32], shares: &[u32]) -> Found
     requires { ⌜ c .ops ≤ mostOps ⌝ }
-    ensures { λ r. ⌜ r ≡ each (splitFault (taskOf (tables c [] (now (costs .entry)) (now (shares .entry))))) (c .ops) 0 ⌝ }
+    ensures { λ r. ⌜ r ≡ each (splitFault (taskOf (tables c [] (was costs) (was shares)))) (c .ops) 0 ⌝ }
 {
     let ops = c.ops;
     let maps = c.maps;
@@ -270,7 +270,7 @@ fn split_fault(c: Counts, costs: &[u32], shares: &[u32]) -> Found
 
 // The lent tables have room for the largest task.
 fn has_room(facts: &[u8], costs: &[u32], shares: &[u32]) -> bool
-    ensures { λ r. ⌜ r ≡ (leb factsRoom (length (now (facts .entry))) && leb costsRoom (length (now (costs .entry))) && leb sharesRoom (length (now (shares .entry)))) ⌝ }
+    ensures { λ r. ⌜ r ≡ (leb factsRoom (length (was facts)) && leb costsRoom (length (was costs)) && leb sharesRoom (length (was shares))) ⌝ }
 {
     if facts.len() < FACTS_ROOM {
         return false;
@@ -284,7 +284,7 @@ fn has_room(facts: &[u8], costs: &[u32], shares: &[u32]) -> bool
 // What the maps charge: the lines of the shares, then the split.
 fn charges_fault(c: Counts, costs: &[u32], shares: &[u32]) -> Found
     requires { ⌜ (c .ops ≤ mostOps) × (c .maps ≤ mostMaps) ⌝ }
-    ensures { λ r. ⌜ r ≡ chargesFault (taskOf (tables c [] (now (costs .entry)) (now (shares .entry)))) ⌝ }
+    ensures { λ r. ⌜ r ≡ chargesFault (taskOf (tables c [] (was costs) (was shares))) ⌝ }
 {
     let charged = shares_fault(c, shares);
     let Found::Clean = charged else {
@@ -296,7 +296,7 @@ fn charges_fault(c: Counts, costs: &[u32], shares: &[u32]) -> Found
 // The lines of operators and maps, then what the maps charge.
 fn body_fault(c: Counts, facts: &[u8], costs: &[u32], shares: &[u32]) -> Found
     requires { ⌜ headFault (taskOf (tables c (now facts) [] [])) ≡ Clean ⌝ }
-    ensures { λ r. ⌜ r ≡ bodyFault (taskOf (lent c (facts .entry) (costs .entry) (shares .entry))) ⌝ }
+    ensures { λ r. ⌜ r ≡ bodyFault (taskOf (lent c facts costs shares)) ⌝ }
 {
     let lines = lines_fault(c, facts, costs);
     let Found::Clean = lines else {
@@ -307,7 +307,7 @@ fn body_fault(c: Counts, facts: &[u8], costs: &[u32], shares: &[u32]) -> Found
 
 // The whole task: the lines before the operators, then all others.
 fn task_fault(c: Counts, facts: &[u8], costs: &[u32], shares: &[u32]) -> Found
-    ensures { λ r. ⌜ r ≡ taskFault (taskOf (lent c (facts .entry) (costs .entry) (shares .entry))) ⌝ }
+    ensures { λ r. ⌜ r ≡ taskFault (taskOf (lent c facts costs shares)) ⌝ }
 {
     let head = head_fault(c, facts);
     let Found::Clean = head else {
@@ -318,7 +318,7 @@ fn task_fault(c: Counts, facts: &[u8], costs: &[u32], shares: &[u32]) -> Found
 
 // The first fault of handed-in tables, with the line that the same task's text would have.
 pub fn tables_fault(c: Counts, facts: &[u8], costs: &[u32], shares: &[u32]) -> Found
-    ensures { λ r. ⌜ r ≡ tablesFault (lent c (facts .entry) (costs .entry) (shares .entry)) ⌝ }
+    ensures { λ r. ⌜ r ≡ tablesFault (lent c facts costs shares) ⌝ }
 {
     if !has_room(facts, costs, shares) {
         return Found::Fault(Refusal::TableTooShort);
@@ -328,7 +328,7 @@ pub fn tables_fault(c: Counts, facts: &[u8], costs: &[u32], shares: &[u32]) -> F
 
 // The first fault of a handed-in state: too short (8), or the lowest variable whose value is outside (9).
 pub fn state_fault(c: Counts, facts: &[u8], s: &[u8]) -> Found
-    ensures { λ r. ⌜ r ≡ stateFault c (now (facts .entry)) (now (s .entry)) ⌝ }
+    ensures { λ r. ⌜ r ≡ stateFault c (was facts) (was s) ⌝ }
 {
     let vars = c.vars;
     if s.len() < vars as usize {
@@ -344,7 +344,7 @@ pub fn state_fault(c: Counts, facts: &[u8], s: &[u8]) -> Found
 
 // The first fault of the tables, or else of the state.
 pub fn input_fault(c: Counts, facts: &[u8], costs: &[u32], shares: &[u32], s: &[u8]) -> Found
-    ensures { λ r. ⌜ r ≡ inputFault (lent c (facts .entry) (costs .entry) (shares .entry)) (now (s .entry)) ⌝ }
+    ensures { λ r. ⌜ r ≡ inputFault (lent c facts costs shares) (was s) ⌝ }
 {
     let f = tables_fault(c, facts, costs, shares);
     let Found::Clean = f else {

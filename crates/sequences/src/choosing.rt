@@ -2,7 +2,7 @@
 ghost use mathlib.Core.Path.{_≡_};
 ghost use Prim.Native.Nat.{_≤_};
 ghost use lib.ListN.{length};
-ghost use Rattle.tables.specs.Task.{stateOf, tables, lent};
+ghost use Rattle.tables.specs.Task.{stateOf, lent, was};
 ghost use Rattle.sequences.specs.Inside.Steps.{Usable, sas};
 ghost use Rattle.meaning.specs.Limits.{mostSteps};
 ghost use Rattle.sequences.specs.Choosing.{reachedFrom, reachedOf, choiceOf, chosenFrom, chosenOf, namedOf};
@@ -44,7 +44,7 @@ pub enum Cheaper {
 // The steps in order from a state, up to the first moment a goal holds.
 pub fn reach(c: Counts, facts: &[u8], costs: &[u32], start: [u8; 8], ops: &[u32]) -> Reached
     requires { ⌜ Usable (sas c (now facts) (now costs)) × (length (now ops) ≤ mostSteps) ⌝ }
-    ensures { λ r. ⌜ r ≡ reachedFrom (sas c (now (facts .entry)) (now (costs .entry))) 0 0 (stateOf start) (now (ops .entry)) ⌝ }
+    ensures { λ r. ⌜ r ≡ reachedFrom (sas c (was facts) (was costs)) 0 0 (stateOf start) (was ops) ⌝ }
 {
     let mut s = start;
     let mut paid = 0u32;
@@ -71,7 +71,7 @@ pub fn reach(c: Counts, facts: &[u8], costs: &[u32], start: [u8; 8], ops: &[u32]
 // The same for a list of any length: one above the step limit is out.
 pub fn reach_within(c: Counts, facts: &[u8], costs: &[u32], start: [u8; 8], ops: &[u32]) -> Reached
     requires { ⌜ Usable (sas c (now facts) (now costs)) ⌝ }
-    ensures { λ r. ⌜ r ≡ reachedOf (sas c (now (facts .entry)) (now (costs .entry))) (stateOf start) (now (ops .entry)) ⌝ }
+    ensures { λ r. ⌜ r ≡ reachedOf (sas c (was facts) (was costs)) (stateOf start) (was ops) ⌝ }
 {
     if ops.len() > STEPS_MOST {
         return Reached::Out;
@@ -111,7 +111,7 @@ pub fn choose_lists(
     b: &[u32],
 ) -> Choice
     requires { ⌜ Usable (sas c (now facts) (now costs)) ⌝ }
-    ensures { λ r. ⌜ r ≡ chosenFrom (sas c (now (facts .entry)) (now (costs .entry))) (stateOf (now (s .entry))) (now (a .entry)) (now (b .entry)) ⌝ }
+    ensures { λ r. ⌜ r ≡ chosenFrom (sas c (was facts) (was costs)) (stateOf (was s)) (was a) (was b) ⌝ }
 {
     let start = copy(c.vars, s);
     let first = reach_within(c, facts, costs, start, a);
@@ -139,7 +139,7 @@ pub fn choice_of(
     a: &[u32],
     b: &[u32],
 ) -> Choice
-    ensures { λ r. ⌜ r ≡ chosenOf (lent c (facts .entry) (costs .entry) (shares .entry)) (now (s .entry)) (now (a .entry)) (now (b .entry)) ⌝ }
+    ensures { λ r. ⌜ r ≡ chosenOf (lent c facts costs shares) (was s) (was a) (was b) ⌝ }
 {
     let f = input_fault(c, facts, costs, shares, s);
     match f {

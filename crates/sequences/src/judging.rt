@@ -2,7 +2,7 @@
 ghost use mathlib.Core.Path.{_≡_};
 ghost use Prim.Native.Nat.{_≤_};
 ghost use lib.ListN.{length};
-ghost use Rattle.tables.specs.Task.{stateOf};
+ghost use Rattle.tables.specs.Task.{stateOf, was};
 ghost use Rattle.sequences.specs.Inside.Steps.{Usable, sas};
 ghost use Rattle.meaning.specs.Limits.{mostSteps};
 ghost use Rattle.sequences.specs.Judging.{onto, walked, limited};
@@ -36,7 +36,7 @@ pub fn refusal(m: Stepped, k: u32) -> Judged
 // The steps in order from a state; the goal last.
 pub fn walk(c: Counts, facts: &[u8], costs: &[u32], start: [u8; 8], ops: &[u32]) -> Judged
     requires { ⌜ Usable (sas c (now facts) (now costs)) × (length (now ops) ≤ mostSteps) ⌝ }
-    ensures { λ r. ⌜ r ≡ walked (sas c (now (facts .entry)) (now (costs .entry))) 0 0 (stateOf start) (now (ops .entry)) ⌝ }
+    ensures { λ r. ⌜ r ≡ walked (sas c (was facts) (was costs)) 0 0 (stateOf start) (was ops) ⌝ }
 {
     let mut s = start;
     let mut paid = 0u32;
@@ -60,7 +60,7 @@ pub fn walk(c: Counts, facts: &[u8], costs: &[u32], start: [u8; 8], ops: &[u32])
 // The list from the lent state, once tables and state are accepted: its length first, then its steps.
 pub fn judge_list(c: Counts, facts: &[u8], costs: &[u32], s: &[u8], ops: &[u32]) -> Judged
     requires { ⌜ Usable (sas c (now facts) (now costs)) ⌝ }
-    ensures { λ r. ⌜ r ≡ limited (sas c (now (facts .entry)) (now (costs .entry))) (stateOf (now (s .entry))) (now (ops .entry)) ⌝ }
+    ensures { λ r. ⌜ r ≡ limited (sas c (was facts) (was costs)) (stateOf (was s)) (was ops) ⌝ }
 {
     if ops.len() > STEPS_MOST {
         return Judged::Refused(Refusal::SequenceTooLong);

@@ -1,6 +1,6 @@
 // Step sequences: judging a lent list of operators, the cheaper of two lists, and the opening part of the cheaper one.
 ghost use mathlib.Core.Path.{_≡_};
-ghost use Rattle.tables.specs.Task.{tables, lent};
+ghost use Rattle.tables.specs.Task.{lent, was};
 ghost use Rattle.sequences.specs.Judging.{judgedOf};
 ghost use Rattle.sequences.specs.Choosing.{cheaperOf};
 ghost use Rattle.sequences.specs.Opening.{OpeningOf};
@@ -28,7 +28,7 @@ pub fn judge(
     s: &[u8],
     ops: &[u32],
 ) -> Judged
-    ensures { λ r. ⌜ r ≡ judgedOf (lent c (facts .entry) (costs .entry) (shares .entry)) (now (s .entry)) (now (ops .entry)) ⌝ }
+    ensures { λ r. ⌜ r ≡ judgedOf (lent c facts costs shares) (was s) (was ops) ⌝ }
 {
     let f = input_fault(c, facts, costs, shares, s);
     match f {
@@ -47,7 +47,7 @@ pub fn cheaper(
     a: &[u32],
     b: &[u32],
 ) -> Cheaper
-    ensures { λ r. ⌜ r ≡ cheaperOf (lent c (facts .entry) (costs .entry) (shares .entry)) (now (s .entry)) (now (a .entry)) (now (b .entry)) ⌝ }
+    ensures { λ r. ⌜ r ≡ cheaperOf (lent c facts costs shares) (was s) (was a) (was b) ⌝ }
 {
     named(choice_of(c, facts, costs, shares, s, a, b))
 }
@@ -62,7 +62,7 @@ pub fn opening<'a>(
     a: &'a [u32],
     b: &'a [u32],
 ) -> &'a [u32]
-    ensures { λ r. ⌜ OpeningOf (lent c (facts .entry) (costs .entry) (shares .entry)) (now (s .entry)) (a .entry) (b .entry) r ⌝ }
+    ensures { λ r. ⌜ OpeningOf (lent c facts costs shares) (was s) (a .entry) (b .entry) r ⌝ }
 {
     let d = choice_of(c, facts, costs, shares, s, a, b);
     match d {

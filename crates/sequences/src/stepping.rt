@@ -2,7 +2,7 @@
 ghost use mathlib.Core.Path.{_≡_};
 ghost use Prim.Native.Nat.{_≤_};
 ghost use Rattle.meaning.specs.Limits.{mostVars, mostOps};
-ghost use Rattle.tables.specs.Task.{stateOf};
+ghost use Rattle.tables.specs.Task.{stateOf, was};
 ghost use Rattle.sequences.specs.Stepping.{stepOf};
 ghost use Rattle.sequences.specs.Inside.Steps.{sas};
 ghost use Rattle.tables.specs.Steps.{copied};
@@ -22,7 +22,7 @@ pub enum Stepped {
 // Whether the operator can be the next step in the state. This is the one test of a step.
 pub fn step(c: Counts, facts: &[u8], costs: &[u32], s: &[u8], o: OpNo) -> Stepped
     requires { ⌜ c .ops ≤ mostOps ⌝ }
-    ensures { λ r. ⌜ r ≡ stepOf (sas c (now (facts .entry)) (now (costs .entry))) (stateOf (now (s .entry))) (o .0) ⌝ }
+    ensures { λ r. ⌜ r ≡ stepOf (sas c (was facts) (was costs)) (stateOf (was s)) (o .0) ⌝ }
 {
     if o.0 < c.ops {
         if may_run(c, facts, s, o) {
@@ -36,7 +36,7 @@ pub fn step(c: Counts, facts: &[u8], costs: &[u32], s: &[u8], o: OpNo) -> Steppe
 // The lent state by value: a place for each of 8 variables, those beyond the task's 0.
 pub fn copy(vars: u32, s: &[u8]) -> [u8; 8]
     requires { ⌜ vars ≤ mostVars ⌝ }
-    ensures { λ r. ⌜ r ≡ copied (now (s .entry)) vars ⌝ }
+    ensures { λ r. ⌜ r ≡ copied (was s) vars ⌝ }
 {
     let mut t = [0u8; 8];
     let mut v = 0usize;

@@ -8,7 +8,7 @@ ghost use Rattle.meaning.specs.Sas.{IsState};
 ghost use Rattle.meaning.specs.Views.{seen};
 ghost use Rattle.meaning.specs.Split.{countOf, Valid};
 ghost use Rattle.tables.specs.Layout.{domAt, classAt};
-ghost use Rattle.tables.specs.Task.{stateOf};
+ghost use Rattle.tables.specs.Task.{stateOf, was};
 ghost use Rattle.sweep.specs.Inside.Walks.{Walkable};
 ghost use Rattle.sweep.specs.Inside.Classes.{unpriced, seenPlaces, SeenAt, Classed, imageOf};
 use crate::walk::wide;
@@ -26,7 +26,7 @@ const SEEN: usize = 1048;
 // What is said of a variable, seen by the classes of map m. No accepted fact has a class of 255.
 fn seen_fact(facts: &[u8], m: u32, v: u32, fact: u8) -> u8
     requires { ⌜ (m < mostMaps) × (v < mostVars) ⌝ }
-    ensures { λ r. ⌜ (classAt (now (facts .entry)) m v (fact - 1) < 255 → r ≡ seen (classAt (now (facts .entry)) m v) fact) ⌝ }
+    ensures { λ r. ⌜ (classAt (was facts) m v (fact - 1) < 255 → r ≡ seen (classAt (was facts) m v) fact) ⌝ }
 {
     if fact == 0 {
         return 0;
@@ -38,7 +38,7 @@ fn seen_fact(facts: &[u8], m: u32, v: u32, fact: u8) -> u8
 // The rows of facts seen by the classes of map m, place by place.
 fn seen_facts(facts: &[u8], m: u32) -> [u8; SEEN]
     requires { ⌜ m < mostMaps ⌝ }
-    ensures { λ r. ⌜ (length r ≡ seenPlaces) × ((i : ℕ) → i < seenPlaces → SeenAt (now (facts .entry)) m i (getD r i 0)) ⌝ }
+    ensures { λ r. ⌜ (length r ≡ seenPlaces) × ((i : ℕ) → i < seenPlaces → SeenAt (was facts) m i (getD r i 0)) ⌝ }
 {
     let mut t = [0u8; SEEN];
     let mut i = 0usize;
@@ -52,7 +52,7 @@ fn seen_facts(facts: &[u8], m: u32) -> [u8; SEEN]
 // How many classes a variable has in map m.
 fn class_count(c: Counts, facts: &[u8], m: u32, v: u32) -> u8
     requires { ⌜ Valid (unpriced c (now facts)) × (m < c .maps) × (v < c .vars) ⌝ }
-    ensures { λ r. ⌜ r ≡ countOf (classAt (now (facts .entry)) m v) (domAt (now (facts .entry)) v) ⌝ }
+    ensures { λ r. ⌜ r ≡ countOf (classAt (was facts) m v) (domAt (was facts) v) ⌝ }
 {
     count_of(facts, wide(row_at(facts, DOM_ROW, v)), class_row(m, v)) as u8
 }
@@ -60,7 +60,7 @@ fn class_count(c: Counts, facts: &[u8], m: u32, v: u32) -> u8
 // The task of the classes of map m.
 pub fn class_facts(c: Counts, facts: &[u8], m: u32) -> [u8; SEEN]
     requires { ⌜ Valid (unpriced c (now facts)) × (m < c .maps) ⌝ }
-    ensures { λ r. ⌜ Classed c (now (facts .entry)) m r ⌝ }
+    ensures { λ r. ⌜ Classed c (was facts) m r ⌝ }
 {
     let mut t = seen_facts(facts, m);
     let vars = c.vars;
@@ -75,7 +75,7 @@ pub fn class_facts(c: Counts, facts: &[u8], m: u32) -> [u8; SEEN]
 // How many states the facts' variables have: the product of their numbers of values.
 pub fn states_of(c: Counts, facts: &[u8]) -> u32
     requires { ⌜ Walkable c (now facts) ⌝ }
-    ensures { λ r. ⌜ r ≡ size (domAt (now (facts .entry))) (c .vars) ⌝ }
+    ensures { λ r. ⌜ r ≡ size (domAt (was facts)) (c .vars) ⌝ }
 {
     let vars = c.vars;
     let mut n = 1u32;
@@ -90,7 +90,7 @@ pub fn states_of(c: Counts, facts: &[u8]) -> u32
 // The abstract state of map m that a state is seen as.
 pub fn image_of(c: Counts, facts: &[u8], m: u32, s: &[u8]) -> StateNo
     requires { ⌜ Valid (unpriced c (now facts)) × (m < c .maps) × IsState (unpriced c (now facts) .sas) (stateOf (now s)) ⌝ }
-    ensures { λ r. ⌜ r .0 ≡ imageOf c (now (facts .entry)) m (stateOf (now (s .entry))) ⌝ }
+    ensures { λ r. ⌜ r .0 ≡ imageOf c (was facts) m (stateOf (was s)) ⌝ }
 {
     let vars = c.vars;
     let mut stride = 1u32;

@@ -8,7 +8,7 @@ ghost use Rattle.meaning.specs.Sas.{IsState};
 ghost use Rattle.meaning.specs.Split.{Valid};
 ghost use Rattle.meaning.specs.Bound.{away};
 ghost use Rattle.tables.specs.Layout.{shareAt};
-ghost use Rattle.tables.specs.Task.{taskOf, tables, stateOf};
+ghost use Rattle.tables.specs.Task.{taskOf, tables, stateOf, was, left};
 ghost use Rattle.sweep.specs.Said.{said};
 ghost use Rattle.sweep.specs.Inside.Sweeps.{PricesSmall, Counted};
 ghost use Rattle.sweep.specs.Inside.Classes.{unpriced, viewGraphOf, SharesSmall};
@@ -29,7 +29,7 @@ const PRICES_ROOM: usize = 64;
 // The count of rounds of a map at a row of prices; `out` holds its distances then.
 pub fn view_rounds(c: Counts, facts: &[u8], prices: &[u32], map: u32, out: &mut [u32]) -> u32
     requires { ⌜ Valid (unpriced c (now facts)) × (map < c .maps) × PricesSmall c (now prices) × (mostStates ≤ length (now out)) ⌝ }
-    ensures { λ r. ⌜ Counted (viewGraphOf c (now (facts .entry)) map (now (prices .entry))) (now (out .entry)) (now (out .exit)) r ⌝ }
+    ensures { λ r. ⌜ Counted (viewGraphOf c (was facts) map (was prices)) (was out) (left out) r ⌝ }
 {
     let seen = class_facts(c, facts, map);
     let n = states_of(c, &seen);
@@ -39,7 +39,7 @@ pub fn view_rounds(c: Counts, facts: &[u8], prices: &[u32], map: u32, out: &mut 
 
 // A map's row of shares.
 pub fn share_row(shares: &[u32], map: u32) -> [u32; PRICES_ROOM]
-    ensures { λ r. ⌜ ((o : ℕ) → o < mostOps → getD r o 0 ≡ shareAt (now (shares .entry)) map o) ⌝ }
+    ensures { λ r. ⌜ ((o : ℕ) → o < mostOps → getD r o 0 ≡ shareAt (was shares) map o) ⌝ }
 {
     let mut prices = [0u32; PRICES_ROOM];
     let mut o = 0u32;
@@ -53,7 +53,7 @@ pub fn share_row(shares: &[u32], map: u32) -> [u32; PRICES_ROOM]
 // The distance of a state's image in a map, as a distance table has it.
 pub fn away_of(c: Counts, facts: &[u8], shares: &[u32], map: u32, s: &[u8]) -> u32
     requires { ⌜ Valid (unpriced c (now facts)) × (map < c .maps) × SharesSmall c (now shares) map × IsState (unpriced c (now facts) .sas) (stateOf (now s)) ⌝ }
-    ensures { λ r. ⌜ said r ≡ away (taskOf (tables c (now (facts .entry)) [] (now (shares .entry)))) (stateOf (now (s .entry))) map ⌝ }
+    ensures { λ r. ⌜ said r ≡ away (taskOf (tables c (was facts) [] (was shares))) (stateOf (was s)) map ⌝ }
 {
     let prices = share_row(shares, map);
     let mut out = [0u32; STATES_ROOM];

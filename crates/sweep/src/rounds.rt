@@ -10,6 +10,7 @@ ghost use Rattle.tables.specs.Layout.{domAt};
 ghost use Rattle.sweep.specs.Said.{NONE, said, saidAt};
 ghost use Rattle.sweep.specs.Inside.Walks.{Walkable, nextOf, spaceOf};
 ghost use Rattle.sweep.specs.Inside.Sweeps.{PricesSmall, Addable, Filled, Copied, Swept, Counted};
+ghost use Rattle.tables.specs.Task.{was, left};
 use crate::walk::Step;
 use crate::walk::digits;
 use crate::walk::step_from;
@@ -45,7 +46,7 @@ fn relax(best: u32, price: u32, beyond: u32) -> u32
 
 // What a table says of where a step leads.
 fn beyond(old: &[u32], s: Step) -> u32
-    ensures { λ r. ⌜ said r ≡ afterStep (saidAt (now (old .entry))) (nextOf s) ⌝ }
+    ensures { λ r. ⌜ said r ≡ afterStep (saidAt (was old)) (nextOf s) ⌝ }
 {
     match s {
         Step::To(b) => word_at(old, state_index(b)),
@@ -56,7 +57,7 @@ fn beyond(old: &[u32], s: Step) -> u32
 // The least cost from a state over one step more than `old` has.
 fn cell(c: Counts, facts: &[u8], prices: &[u32], old: &[u32], a: StateNo) -> u32
     requires { ⌜ Walkable c (now facts) × PricesSmall c (now prices) × (a .0 < size (domAt (now facts)) (c .vars)) × Addable (size (domAt (now facts)) (c .vars)) (now old) ⌝ }
-    ensures { λ r. ⌜ said r ≡ best (spaceOf c (now (facts .entry)) (now (prices .entry))) (saidAt (now (old .entry))) (a .0) (c .ops) ⌝ }
+    ensures { λ r. ⌜ said r ≡ best (spaceOf c (was facts) (was prices)) (saidAt (was old)) (a .0) (c .ops) ⌝ }
 {
     let s = digits(c.vars, facts, a);
     let ops = c.ops;
@@ -77,7 +78,7 @@ fn cell(c: Counts, facts: &[u8], prices: &[u32], old: &[u32], a: StateNo) -> u32
 fn sweep(c: Counts, facts: &[u8], prices: &[u32], n: u32, old: &[u32], new: &mut [u32]) -> bool
     requires { ⌜ Walkable c (now facts) × PricesSmall c (now prices) × (n ≡ size (domAt (now facts)) (c .vars)) ⌝ }
     requires { ⌜ (n ≤ length (now old)) × (n ≤ length (now new)) × Addable n (now old) ⌝ }
-    ensures { λ r. ⌜ Swept n (spaceOf c (now (facts .entry)) (now (prices .entry))) (now (old .entry)) (now (new .entry)) (now (new .exit)) r ⌝ }
+    ensures { λ r. ⌜ Swept n (spaceOf c (was facts) (was prices)) (was old) (was new) (left new) r ⌝ }
 {
     let mut changed = false;
     let mut a = 0u32;
@@ -95,7 +96,7 @@ fn sweep(c: Counts, facts: &[u8], prices: &[u32], n: u32, old: &[u32], new: &mut
 // Sets the places of the states to the costs over no steps.
 fn fill(c: Counts, facts: &[u8], n: u32, t: &mut [u32])
     requires { ⌜ Walkable c (now facts) × (n ≡ size (domAt (now facts)) (c .vars)) × (n ≤ length (now t)) ⌝ }
-    ensures { λ _. ⌜ Filled n (spaceOf c (now (facts .entry)) []) (now (t .entry)) (now (t .exit)) ⌝ }
+    ensures { λ _. ⌜ Filled n (spaceOf c (was facts) []) (was t) (left t) ⌝ }
 {
     let mut a = 0u32;
     while a < n {
@@ -108,7 +109,7 @@ fn fill(c: Counts, facts: &[u8], n: u32, t: &mut [u32])
 // Sets the first places of `to` to those of `from`.
 fn copy(n: u32, from: &[u32], to: &mut [u32])
     requires { ⌜ (n ≤ length (now from)) × (n ≤ length (now to)) ⌝ }
-    ensures { λ _. ⌜ Copied n (now (from .entry)) (now (to .entry)) (now (to .exit)) ⌝ }
+    ensures { λ _. ⌜ Copied n (was from) (was to) (left to) ⌝ }
 {
     let mut a = 0u32;
     while a < n {
@@ -128,7 +129,7 @@ pub fn count_rounds(
 ) -> u32
     requires { ⌜ Walkable c (now facts) × PricesSmall c (now prices) × (n ≡ size (domAt (now facts)) (c .vars)) ⌝ }
     requires { ⌜ (n ≤ length (now t)) × (n ≤ length (now w)) ⌝ }
-    ensures { λ r. ⌜ Counted (spaceOf c (now (facts .entry)) (now (prices .entry))) (now (t .entry)) (now (t .exit)) r ⌝ }
+    ensures { λ r. ⌜ Counted (spaceOf c (was facts) (was prices)) (was t) (left t) r ⌝ }
 {
     fill(c, facts, n, t);
     let mut rounds = 0u32;

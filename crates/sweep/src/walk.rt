@@ -4,7 +4,7 @@ ghost use Prim.Native.Nat.{_≤_, _<_};
 ghost use Rattle.meaning.specs.Limits.{mostVars, mostStates};
 ghost use Rattle.meaning.specs.Numbering.{size, Positive, Digits};
 ghost use Rattle.tables.specs.Layout.{domAt};
-ghost use Rattle.tables.specs.Task.{stateOf};
+ghost use Rattle.tables.specs.Task.{stateOf, was};
 ghost use Rattle.tables.specs.Steps.{valueAfter};
 ghost use Rattle.sweep.specs.Inside.Walks.{Walkable, HasDigits, nextOf, numberAfter, nextFrom};
 use meaning::OpNo;
@@ -36,7 +36,7 @@ pub fn wide(x: u8) -> u32
 // A state's values by its number.
 pub fn digits(vars: u32, facts: &[u8], a: StateNo) -> [u8; VALUES_ROOM]
     requires { ⌜ (vars ≤ mostVars) × Positive (domAt (now facts)) vars ⌝ }
-    ensures { λ r. ⌜ HasDigits vars (now (facts .entry)) (a .0) r ⌝ }
+    ensures { λ r. ⌜ HasDigits vars (was facts) (a .0) r ⌝ }
 {
     let mut s = [0u8; VALUES_ROOM];
     let mut rest = a.0;
@@ -54,7 +54,7 @@ pub fn digits(vars: u32, facts: &[u8], a: StateNo) -> [u8; VALUES_ROOM]
 pub fn number_after(vars: u32, facts: &[u8], row: u32, s: &[u8]) -> u32
     requires { ⌜ Positive (domAt (now facts)) vars × (size (domAt (now facts)) vars ≤ mostStates) ⌝ }
     requires { ⌜ Digits (domAt (now facts)) (valueAfter (now facts) row (now s)) vars ⌝ }
-    ensures { λ r. ⌜ r ≡ numberAfter vars (now (facts .entry)) row (now (s .entry)) ⌝ }
+    ensures { λ r. ⌜ r ≡ numberAfter vars (was facts) row (was s) ⌝ }
 {
     let mut stride = 1u32;
     let mut b = 0u32;
@@ -71,7 +71,7 @@ pub fn number_after(vars: u32, facts: &[u8], row: u32, s: &[u8]) -> u32
 // The step of an operator from a state's values.
 pub fn step_from(c: Counts, facts: &[u8], s: &[u8], o: OpNo) -> Step
     requires { ⌜ Walkable c (now facts) × (o .0 < c .ops) × Digits (domAt (now facts)) (stateOf (now s)) (c .vars) ⌝ }
-    ensures { λ r. ⌜ nextOf r ≡ nextFrom c (now (facts .entry)) (now (s .entry)) (o .0) ⌝ }
+    ensures { λ r. ⌜ nextOf r ≡ nextFrom c (was facts) (was s) (o .0) ⌝ }
 {
     if may_run(c, facts, s, o) {
         Step::To(StateNo(number_after(c.vars, facts, eff_row(o), s)))

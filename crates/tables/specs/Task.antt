@@ -3,6 +3,7 @@ use mathlib.Core.List.{List}
 use Prim.Native.Nat.{ℕ}
 use lib.ListN.{getD}
 use denote.Ref.{RefT, now}
+use denote.Triple.Both.{Both}
 use Rattle.meaning.specs.Sas.{State, Sas}
 use Rattle.meaning.specs.Split.{Task}
 use Rattle.tables.specs.declared.Counts.{Counts}
@@ -27,9 +28,19 @@ taskOf t = record { sas = sasOf t; maps = t .counts .maps; class = classAt (t .f
 abbrev pub tables : Counts → List ℕ → List ℕ → List ℕ → Tables
 tables c facts costs shares = record { counts = c; facts = facts; costs = costs; shares = shares }
 
--- the tables that are lent: what stands in the three slices beside the counts. Contracts name it so
-abbrev pub lent : Counts → RefT (List ℕ) → RefT (List ℕ) → RefT (List ℕ) → Tables
-lent c facts costs shares = tables c (now facts) (now costs) (now shares)
+-- a slice in a contract: what stood in it at the call, and what is left in it
+abbrev pub was : {A : Type 0} → Both (RefT A) (RefT A) → A
+was s = now (s .entry)
+
+abbrev pub left : {A : Type 0} → Both (RefT A) (RefT A) → A
+left s = now (s .exit)
+
+abbrev pub Slice : Type 0
+Slice = Both (RefT (List ℕ)) (RefT (List ℕ))
+
+-- the tables that are lent: what stands in the three slices beside the counts
+abbrev pub lent : Counts → Slice → Slice → Slice → Tables
+lent c facts costs shares = tables c (was facts) (was costs) (was shares)
 
 -- a value for each variable, from place 0 on
 abbrev pub stateOf : List ℕ → State

@@ -6,6 +6,7 @@ ghost use Rattle.meaning.specs.Limits.{mostValues};
 ghost use Rattle.meaning.specs.Split.{countOf};
 ghost use Rattle.tables.specs.Layout.{rowAt};
 ghost use Rattle.tables.specs.Inside.Masks.{maskFound, classesOf};
+ghost use Rattle.tables.specs.Task.{was};
 use crate::readers::row_at;
 
 // The classes of a row as a mask, or a class beyond them all.
@@ -23,7 +24,7 @@ pub enum Classes {
 
 // What a row says at a value, as a word.
 pub fn word_of(facts: &[u8], row: u32, x: u32) -> u32
-    ensures { λ r. ⌜ r ≡ rowAt (now (facts .entry)) row x ⌝ }
+    ensures { λ r. ⌜ r ≡ rowAt (was facts) row x ⌝ }
 {
     row_at(facts, row, x) as u32
 }
@@ -31,7 +32,7 @@ pub fn word_of(facts: &[u8], row: u32, x: u32) -> u32
 // The mask of the classes of a variable with so many values.
 fn mask_of(facts: &[u8], dom: u32, row: u32) -> Mask
     requires { ⌜ dom ≤ mostValues ⌝ }
-    ensures { λ r. ⌜ r ≡ maskFound (rowAt (now (facts .entry)) row) dom ⌝ }
+    ensures { λ r. ⌜ r ≡ maskFound (rowAt (was facts) row) dom ⌝ }
 {
     let mut mask = 0u32;
     let mut x = 0;
@@ -56,7 +57,7 @@ fn width(mask: u32) -> u32
 // The classes of a variable with so many values.
 pub fn classes_of(facts: &[u8], dom: u32, row: u32) -> Classes
     requires { ⌜ dom ≤ mostValues ⌝ }
-    ensures { λ r. ⌜ r ≡ classesOf (rowAt (now (facts .entry)) row) dom ⌝ }
+    ensures { λ r. ⌜ r ≡ classesOf (rowAt (was facts) row) dom ⌝ }
 {
     let found = mask_of(facts, dom, row);
     let Mask::Bits(mask) = found else {
@@ -73,7 +74,7 @@ pub fn classes_of(facts: &[u8], dom: u32, row: u32) -> Classes
 // How many classes a variable has whose classes are all below its number of values.
 pub fn count_of(facts: &[u8], dom: u32, row: u32) -> u32
     requires { ⌜ (dom ≤ mostValues) × ((x : ℕ) → x < dom → rowAt (now facts) row x < dom) ⌝ }
-    ensures { λ r. ⌜ r ≡ countOf (rowAt (now (facts .entry)) row) dom ⌝ }
+    ensures { λ r. ⌜ r ≡ countOf (rowAt (was facts) row) dom ⌝ }
 {
     let found = mask_of(facts, dom, row);
     let Mask::Bits(mask) = found else {

@@ -4,6 +4,7 @@ ghost use Prim.Native.Nat.{_<_};
 ghost use lib.ListN.{getD};
 ghost use Rattle.meaning.specs.Limits.{mostVars, mostOps, mostMaps};
 ghost use Rattle.tables.specs.Layout.{rowAt, preRow, effRow, classRow, costAt, shareAt};
+ghost use Rattle.tables.specs.Task.{was};
 use meaning::OpNo;
 
 // The row of the variables' numbers of values, of the initial state, of the goal.
@@ -46,35 +47,35 @@ pub fn class_row(m: u32, v: u32) -> u32
 
 // The byte at a place.
 pub fn byte_at(table: &[u8], at: usize) -> u8
-    ensures { λ r. ⌜ r ≡ getD (now (table .entry)) at 0 ⌝ }
+    ensures { λ r. ⌜ r ≡ getD (was table) at 0 ⌝ }
 {
     if at < table.len() { table[at] } else { 0 }
 }
 
 // The word at a place.
 pub fn word_at(table: &[u32], at: usize) -> u32
-    ensures { λ r. ⌜ r ≡ getD (now (table .entry)) at 0 ⌝ }
+    ensures { λ r. ⌜ r ≡ getD (was table) at 0 ⌝ }
 {
     if at < table.len() { table[at] } else { 0 }
 }
 
 // What a row of the facts says at a variable, or in a row of classes at a value.
 pub fn row_at(facts: &[u8], row: u32, v: u32) -> u8
-    ensures { λ r. ⌜ r ≡ rowAt (now (facts .entry)) row v ⌝ }
+    ensures { λ r. ⌜ r ≡ rowAt (was facts) row v ⌝ }
 {
     byte_at(facts, row as usize * 8 + v as usize)
 }
 
 // What an operator costs.
 pub fn cost_at(costs: &[u32], o: OpNo) -> u32
-    ensures { λ r. ⌜ r ≡ costAt (now (costs .entry)) (o .0) ⌝ }
+    ensures { λ r. ⌜ r ≡ costAt (was costs) (o .0) ⌝ }
 {
     word_at(costs, o.0 as usize)
 }
 
 // What an operator costs in a map.
 pub fn share_at(shares: &[u32], m: u32, o: OpNo) -> u32
-    ensures { λ r. ⌜ r ≡ shareAt (now (shares .entry)) m (o .0) ⌝ }
+    ensures { λ r. ⌜ r ≡ shareAt (was shares) m (o .0) ⌝ }
 {
     word_at(shares, m as usize * 64 + o.0 as usize)
 }

@@ -5,6 +5,7 @@ ghost use Rattle.meaning.specs.Limits.{mostVars, mostOps};
 ghost use Rattle.meaning.specs.Sas.{put};
 ghost use Rattle.meaning.specs.Views.{holds};
 ghost use Rattle.tables.specs.Steps.{rowHolds, mayRun, meetsGoal, stepped};
+ghost use Rattle.tables.specs.Task.{was};
 use crate::Counts;
 use crate::readers::GOAL_ROW;
 use crate::readers::byte_at;
@@ -29,7 +30,7 @@ pub fn value_after(fact: u8, x: u8) -> u8
 
 // What a row of facts says of the first variables holds in the state.
 pub fn row_holds(vars: u32, facts: &[u8], row: u32, s: &[u8]) -> bool
-    ensures { λ r. ⌜ r ≡ rowHolds vars (now (facts .entry)) row (now (s .entry)) ⌝ }
+    ensures { λ r. ⌜ r ≡ rowHolds vars (was facts) row (was s) ⌝ }
 {
     let mut v = 0;
     while v < vars {
@@ -44,14 +45,14 @@ pub fn row_holds(vars: u32, facts: &[u8], row: u32, s: &[u8]) -> bool
 // Each precondition of the operator holds in the state.
 pub fn may_run(c: Counts, facts: &[u8], s: &[u8], o: OpNo) -> bool
     requires { ⌜ o .0 < mostOps ⌝ }
-    ensures { λ r. ⌜ r ≡ mayRun c (now (facts .entry)) (now (s .entry)) (o .0) ⌝ }
+    ensures { λ r. ⌜ r ≡ mayRun c (was facts) (was s) (o .0) ⌝ }
 {
     row_holds(c.vars, facts, pre_row(o), s)
 }
 
 // The state meets the goal.
 pub fn meets_goal(c: Counts, facts: &[u8], s: &[u8]) -> bool
-    ensures { λ r. ⌜ r ≡ meetsGoal c (now (facts .entry)) (now (s .entry)) ⌝ }
+    ensures { λ r. ⌜ r ≡ meetsGoal c (was facts) (was s) ⌝ }
 {
     row_holds(c.vars, facts, GOAL_ROW, s)
 }
@@ -59,7 +60,7 @@ pub fn meets_goal(c: Counts, facts: &[u8], s: &[u8]) -> bool
 // The state after the operator: each effect holds and all else stays.
 pub fn state_after(c: Counts, facts: &[u8], s: [u8; 8], o: OpNo) -> [u8; 8]
     requires { ⌜ (c .vars ≤ mostVars) × (o .0 < mostOps) ⌝ }
-    ensures { λ r. ⌜ r ≡ stepped c (now (facts .entry)) s (o .0) ⌝ }
+    ensures { λ r. ⌜ r ≡ stepped c (was facts) s (o .0) ⌝ }
 {
     let vars = c.vars as usize;
     let row = eff_row(o);

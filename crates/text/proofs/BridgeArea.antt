@@ -17,7 +17,7 @@ use Rattle.scan.specs.Scan.{unless, each, splitFault}
 use Rattle.grammar.proofs.SpellClasses.{sum-same, each-same}
 use lib.Dec.{leb}
 use Rattle.grammar.specs.Grammar.{putFact, putCost, putShare}
-use Rattle.text.specs.Inside.Area.{costsByte, sharesByte, putByte, wordIn, putWord, threes, costByte, shareByte, costIn, shareIn, domIn}
+use Rattle.text.specs.Inside.Area.{costsByte, sharesByte, putByte, wordIn, putWord, threes, costByte, shareByte, domIn}
 use Rattle.text.specs.Inside.Control.{mk}
 use Rattle.text.specs.Inside.End.{over}
 use Rattle.text.proofs.BridgeReading.{tablesOf}

@@ -24,7 +24,7 @@ use Rattle.tables.proofs.Masks.{mask-width, mask-whole}
 use Rattle.text.specs.declared.Ctrl.{Ctrl}
 use Rattle.text.specs.declared.Halt.the-variants.{Going, Missing, States}
 use Rattle.grammar.specs.Fields.{comma, slash, lineEnd}
-use Rattle.grammar.specs.Grammar.{refused, Rest, _▸_, nothing, ask, keep, demand, lit, fits, parted, putFact, numberRow, classList, classLists, mapClasses}
+use Rattle.grammar.specs.Grammar.{Rest, _▸_, nothing, ask, keep, demand, lit, fits, parted, putFact, numberRow, classList, classLists, mapClasses}
 use Rattle.grammar.proofs.SpellClasses.{count-same, size-same}
 use Rattle.text.specs.Inside.Area.{areaRoom, putByte, domIn}
 use Rattle.text.specs.Inside.Control.{up, due, withDigit, partBegun, toLine, rowOr, nextLine}

@@ -10,7 +10,6 @@ use borrow.Author.Tests.{ne-eqb, eqb-true, eqb-false, le-leb}
 use Rattle.tables.specs.declared.Counts.{Counts}
 use Rattle.tables.specs.Layout.{Tables}
 use Rattle.text.specs.declared.Ctrl.{Ctrl}
-use Rattle.text.specs.declared.Halt.{Halt}
 use Rattle.text.specs.declared.Halt.the-variants.{Going, Order}
 use Rattle.grammar.specs.Fields.{comma}
 use Rattle.grammar.specs.Grammar.{Rest, _▸_, keep, lit, fits, numeral, parted, numberRow}

@@ -9,6 +9,7 @@ ghost use Rattle.grammar.specs.Fields.{leaves};
 ghost use Rattle.text.specs.Inside.Area.{shareIn};
 ghost use Rattle.text.specs.Inside.Control.{mk};
 ghost use Rattle.text.specs.Inside.End.{over, ended, refusalOf, endFault, lastFault, machineEnd};
+ghost use Rattle.tables.specs.Task.{was, left};
 use crate::Ctrl;
 use crate::Halt;
 use crate::area::word_at;
@@ -33,7 +34,7 @@ use tables::readers::FACTS_ROOM;
 use tables::readers::SHARES_ROOM;
 
 pub fn end_code(c: Ctrl, w: &[u8]) -> Halt
-    ensures { λ r. ⌜ r ≡ ended c (now (w .entry)) ⌝ }
+    ensures { λ r. ⌜ r ≡ ended c (was w) ⌝ }
 {
     let h = c.halt;
     if !goes_on(h) {
@@ -61,7 +62,7 @@ pub fn refusal_of(k: Halt, l: u32) -> Found
 }
 
 pub fn end_fault(c: Ctrl, w: &[u8]) -> Found
-    ensures { λ r. ⌜ r ≡ endFault (mk c (now (w .entry))) ⌝ }
+    ensures { λ r. ⌜ r ≡ endFault (mk c (was w)) ⌝ }
 {
     refusal_of(end_code(c, w), c.line)
 }
@@ -75,7 +76,7 @@ pub fn at_most(x: u32, n: u32) -> u32
 // An operator's shares in all maps together.
 pub fn share_total(w: &[u8], maps: u32, o: u32) -> u32
     requires { ⌜ maps ≤ mostMaps ⌝ }
-    ensures { λ r. ⌜ r ≡ sum (λ m. shareIn (now (w .entry)) m o) maps ⌝ }
+    ensures { λ r. ⌜ r ≡ sum (λ m. shareIn (was w) m o) maps ⌝ }
 {
     let mut total = 0;
     let mut m = 0;
@@ -88,7 +89,7 @@ pub fn share_total(w: &[u8], maps: u32, o: u32) -> u32
 
 // The lowest operator whose shares total above its cost.
 pub fn over_fault(c: Ctrl, w: &[u8]) -> Found
-    ensures { λ r. ⌜ r ≡ over (mk c (now (w .entry))) ⌝ }
+    ensures { λ r. ⌜ r ≡ over (mk c (was w)) ⌝ }
 {
     let maps = at_most(c.counts.maps, MAPS_MOST);
     let ops = at_most(c.counts.ops, OPS_MOST);
@@ -104,7 +105,7 @@ pub fn over_fault(c: Ctrl, w: &[u8]) -> Found
 
 // What the text is refused with at its end, if anything.
 pub fn last_fault(c: Ctrl, w: &[u8]) -> Found
-    ensures { λ r. ⌜ r ≡ lastFault (mk c (now (w .entry))) ⌝ }
+    ensures { λ r. ⌜ r ≡ lastFault (mk c (was w)) ⌝ }
 {
     let found = end_fault(c, w);
     let Found::Clean = found else {
@@ -116,7 +117,7 @@ pub fn last_fault(c: Ctrl, w: &[u8]) -> Found
 // The end of the text: the answer, and the lent tables on acceptance only.
 pub fn finish(c: Ctrl, w: &[u8], facts: &mut [u8], costs: &mut [u32], shares: &mut [u32]) -> Reading
     requires { ⌜ (factsRoom ≤ length (now w)) × (factsRoom ≤ length (now facts)) × (costsRoom ≤ length (now costs)) × (sharesRoom ≤ length (now shares)) ⌝ }
-    ensures { λ r. ⌜ leaves r (now (facts .exit)) (now (costs .exit)) (now (shares .exit)) ≡ machineEnd (mk c (now (w .entry))) (now (facts .entry)) (now (costs .entry)) (now (shares .entry)) ⌝ }
+    ensures { λ r. ⌜ leaves r (left facts) (left costs) (left shares) ≡ machineEnd (mk c (was w)) (was facts) (was costs) (was shares) ⌝ }
 {
     let found = last_fault(c, w);
     if let Found::Fault(r) = found {

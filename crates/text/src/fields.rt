@@ -1,6 +1,7 @@
 // The fields of the text: keywords, ranges, what a number is to the control, and where it is kept.
 ghost use mathlib.Core.Path.{_≡_};
 ghost use lib.ListN.{getD};
+ghost use Rattle.tables.specs.Task.{was, left};
 ghost use Rattle.text.specs.Inside.Fields.{
   keyByte,
   leasts,
@@ -99,7 +100,7 @@ pub fn key_byte(f: u32, k: u32) -> u32
 
 // A number of a table, 0 past its end.
 pub fn entry(t: &[u32], i: usize) -> u32
-    ensures { λ r. ⌜ r ≡ getD (now (t .entry)) i 0 ⌝ }
+    ensures { λ r. ⌜ r ≡ getD (was t) i 0 ⌝ }
 {
     if i < t.len() { t[i] } else { 0 }
 }
@@ -123,7 +124,7 @@ pub fn kind_of(f: u32) -> u32
 }
 
 pub fn limit_of(c: Ctrl, w: &[u8]) -> u32
-    ensures { λ r. ⌜ r ≡ limit c (now (w .entry)) ⌝ }
+    ensures { λ r. ⌜ r ≡ limit c (was w) ⌝ }
 {
     let n = bound_of(c.spot.field);
     if n == BY_VALUES {
@@ -133,7 +134,7 @@ pub fn limit_of(c: Ctrl, w: &[u8]) -> u32
 }
 
 pub fn in_range(c: Ctrl, w: &[u8]) -> bool
-    ensures { λ r. ⌜ r ≡ inRange c (now (w .entry)) ⌝ }
+    ensures { λ r. ⌜ r ≡ inRange c (was w) ⌝ }
 {
     if least_of(c.spot.field) <= c.digits.val {
         c.digits.val < limit_of(c, w)
@@ -144,7 +145,7 @@ pub fn in_range(c: Ctrl, w: &[u8]) -> bool
 
 // A finished number's own fault: range, then order.
 pub fn judge(c: Ctrl, w: &[u8]) -> Halt
-    ensures { λ r. ⌜ r ≡ numberFault c (now (w .entry)) ⌝ }
+    ensures { λ r. ⌜ r ≡ numberFault c (was w) ⌝ }
 {
     if in_range(c, w) {
         if c.turn.least <= c.digits.val {
@@ -197,7 +198,7 @@ pub fn note(c: Ctrl) -> Ctrl
 }
 
 pub fn last_class(c: Ctrl, w: &[u8]) -> bool
-    ensures { λ r. ⌜ r ≡ lastClass c (now (w .entry)) ⌝ }
+    ensures { λ r. ⌜ r ≡ lastClass c (was w) ⌝ }
 {
     if c.spot.field == FIELD_CLASS {
         one_more(c.turn.item) == values_of(w, c.turn.var)
@@ -233,7 +234,7 @@ pub fn class_fault(c: Ctrl) -> Halt
 }
 
 pub fn before_byte(c: Ctrl, w: &[u8]) -> Halt
-    ensures { λ r. ⌜ r ≡ before c (now (w .entry)) ⌝ }
+    ensures { λ r. ⌜ r ≡ before c (was w) ⌝ }
 {
     if last_class(c, w) {
         class_fault(c)
@@ -244,7 +245,7 @@ pub fn before_byte(c: Ctrl, w: &[u8]) -> Halt
 
 // The fault of the digit run that ends here.
 pub fn fault_of(c: Ctrl, w: &[u8]) -> Halt
-    ensures { λ r. ⌜ r ≡ fault c (now (w .entry)) ⌝ }
+    ensures { λ r. ⌜ r ≡ fault c (was w) ⌝ }
 {
     if c.digits.run == RUN_NONE {
         return Halt::Form;
@@ -259,7 +260,7 @@ pub fn fault_of(c: Ctrl, w: &[u8]) -> Halt
 
 // The number goes to its place in the area; a fact as value and one, counts not at all.
 pub fn store(c: Ctrl, w: &mut [u8])
-    ensures { λ r. ⌜ now (w .exit) ≡ stored c (now (w .entry)) ⌝ }
+    ensures { λ r. ⌜ left w ≡ stored c (was w) ⌝ }
 {
     let f = c.spot.field;
     match f {

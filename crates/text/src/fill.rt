@@ -5,18 +5,19 @@ ghost use lib.ListN.{length, getD, take};
 ghost use Rattle.grammar.specs.Fields.{filled};
 ghost use Rattle.tables.specs.Layout.{sharesRoom};
 ghost use Rattle.text.specs.Inside.Area.{threes, sharesByte};
+ghost use Rattle.tables.specs.Task.{was, left};
 use crate::area::byte_at;
 use crate::area::word_at;
 
 pub fn nth_byte(w: &[u8], n: usize, i: usize) -> u8
-    ensures { λ r. ⌜ r ≡ getD (take n (now (w .entry))) i 0 ⌝ }
+    ensures { λ r. ⌜ r ≡ getD (take n (was w)) i 0 ⌝ }
 {
     if i < n { byte_at(w, i) } else { 0 }
 }
 
 pub fn fill_bytes(w: &[u8], n: usize, out: &mut [u8])
     requires { ⌜ (n ≤ length (now w)) × (n ≤ length (now out)) ⌝ }
-    ensures { λ r. ⌜ now (out .exit) ≡ filled n (take n (now (w .entry))) (now (out .entry)) ⌝ }
+    ensures { λ r. ⌜ left out ≡ filled n (take n (was w)) (was out) ⌝ }
 {
     let mut i = 0;
     while i < out.len() {
@@ -27,14 +28,14 @@ pub fn fill_bytes(w: &[u8], n: usize, out: &mut [u8])
 
 pub fn nth_word(w: &[u8], n: usize, at: usize, i: usize) -> u32
     requires { ⌜ (n ≤ sharesRoom) × (at ≤ sharesByte) ⌝ }
-    ensures { λ r. ⌜ r ≡ getD (threes n at (now (w .entry))) i 0 ⌝ }
+    ensures { λ r. ⌜ r ≡ getD (threes n at (was w)) i 0 ⌝ }
 {
     if i < n { word_at(w, at + 3 * i) } else { 0 }
 }
 
 pub fn fill_words(w: &[u8], n: usize, at: usize, out: &mut [u32])
     requires { ⌜ (n ≤ sharesRoom) × (at ≤ sharesByte) × (n ≤ length (now out)) ⌝ }
-    ensures { λ r. ⌜ now (out .exit) ≡ filled n (threes n at (now (w .entry))) (now (out .entry)) ⌝ }
+    ensures { λ r. ⌜ left out ≡ filled n (threes n at (was w)) (was out) ⌝ }
 {
     let mut i = 0;
     while i < out.len() {

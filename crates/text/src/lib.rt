@@ -2,6 +2,7 @@
 ghost use mathlib.Core.Path.{_≡_};
 ghost use Rattle.grammar.specs.Fields.{leaves};
 ghost use Rattle.grammar.specs.Grammar.{readText};
+ghost use Rattle.tables.specs.Task.{was, left};
 
 mod area;
 mod control;
@@ -68,7 +69,7 @@ pub struct Ctrl {
 
 // Reads a task text into the lent tables: the task's counts, or why not. What is left behind is what the grammar says.
 pub fn read(text: &[u8], facts: &mut [u8], costs: &mut [u32], shares: &mut [u32]) -> Reading
-    ensures { λ r. ⌜ leaves r (now (facts .exit)) (now (costs .exit)) (now (shares .exit)) ≡ readText (now (text .entry)) (now (facts .entry)) (now (costs .entry)) (now (shares .entry)) ⌝ }
+    ensures { λ r. ⌜ leaves r (left facts) (left costs) (left shares) ≡ readText (was text) (was facts) (was costs) (was shares) ⌝ }
 {
     read_by_machine(text, facts, costs, shares)
 }

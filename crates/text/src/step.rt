@@ -3,6 +3,7 @@ ghost use mathlib.Core.Path.{_≡_};
 ghost use Prim.Native.Nat.{_-_};
 ghost use Rattle.grammar.specs.Fields.{isDigit, lineEnd};
 ghost use Rattle.text.specs.Inside.Control.{mk, nextLine};
+ghost use Rattle.tables.specs.Task.{was, left};
 ghost use Rattle.text.specs.Inside.Steps.{
   inKey,
   more,
@@ -154,7 +155,7 @@ pub fn list_end(c: Ctrl, b: u32) -> Ctrl
 }
 
 pub fn after_class(c: Ctrl, w: &[u8], b: u32) -> Ctrl
-    ensures { λ r. ⌜ r ≡ afterClass c (now (w .entry)) b ⌝ }
+    ensures { λ r. ⌜ r ≡ afterClass c (was w) b ⌝ }
 {
     if last_class(c, w) {
         if last_var(c) {
@@ -266,7 +267,7 @@ pub fn after_share(c: Ctrl, b: u32) -> Ctrl
 
 // The byte after a number that is kept.
 pub fn after_number(c: Ctrl, w: &[u8], b: u32) -> Ctrl
-    ensures { λ r. ⌜ r ≡ afterNumber c (now (w .entry)) b ⌝ }
+    ensures { λ r. ⌜ r ≡ afterNumber c (was w) b ⌝ }
 {
     let k = kind_of(c.spot.field);
     match k {
@@ -301,7 +302,7 @@ pub fn after_number(c: Ctrl, w: &[u8], b: u32) -> Ctrl
 
 // A byte that is no digit ends the run.
 pub fn close_run(c: Ctrl, b: u32, w: &mut [u8]) -> Ctrl
-    ensures { λ r. ⌜ mk r (now (w .exit)) ≡ closed c (now (w .entry)) b ⌝ }
+    ensures { λ r. ⌜ mk r (left w) ≡ closed c (was w) b ⌝ }
 {
     let k = fault_of(c, w);
     if goes_on(k) {
@@ -350,7 +351,7 @@ pub fn dash_here(c: Ctrl, b: u32) -> bool
 }
 
 pub fn at_number(c: Ctrl, b: u32, w: &mut [u8]) -> Ctrl
-    ensures { λ r. ⌜ mk r (now (w .exit)) ≡ atNumber c (now (w .entry)) b ⌝ }
+    ensures { λ r. ⌜ mk r (left w) ≡ atNumber c (was w) b ⌝ }
 {
     if is_digit(b) {
         return add_digit(c, digit_of(b));
@@ -362,7 +363,7 @@ pub fn at_number(c: Ctrl, b: u32, w: &mut [u8]) -> Ctrl
 }
 
 pub fn live_step(c: Ctrl, b: u32, w: &mut [u8]) -> Ctrl
-    ensures { λ r. ⌜ mk r (now (w .exit)) ≡ live c (now (w .entry)) b ⌝ }
+    ensures { λ r. ⌜ mk r (left w) ≡ live c (was w) b ⌝ }
 {
     if c.spot.part == PART_KEY {
         return in_key(c, b);
@@ -378,7 +379,7 @@ pub fn live_step(c: Ctrl, b: u32, w: &mut [u8]) -> Ctrl
 
 // One byte; a reading that has stopped stays as it is.
 pub fn step_byte(c: Ctrl, b: u8, w: &mut [u8]) -> Ctrl
-    ensures { λ r. ⌜ mk r (now (w .exit)) ≡ byteRead (mk c (now (w .entry))) b ⌝ }
+    ensures { λ r. ⌜ mk r (left w) ≡ byteRead (mk c (was w)) b ⌝ }
 {
     let k = c.halt;
     if goes_on(k) {
@@ -390,7 +391,7 @@ pub fn step_byte(c: Ctrl, b: u8, w: &mut [u8]) -> Ctrl
 
 // A piece of the text.
 pub fn feed_piece(c: Ctrl, s: &[u8], w: &mut [u8]) -> Ctrl
-    ensures { λ r. ⌜ mk r (now (w .exit)) ≡ feed (mk c (now (w .entry))) (now (s .entry)) ⌝ }
+    ensures { λ r. ⌜ mk r (left w) ≡ feed (mk c (was w)) (was s) ⌝ }
 {
     let mut k = c;
     let mut i = 0;

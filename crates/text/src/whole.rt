@@ -5,6 +5,7 @@ ghost use lib.ListN.{length};
 ghost use Rattle.tables.specs.Layout.{factsRoom, costsRoom, sharesRoom};
 ghost use Rattle.grammar.specs.Fields.{leaves};
 ghost use Rattle.text.specs.Inside.End.{machineRead, readAll};
+ghost use Rattle.tables.specs.Task.{was, left};
 use crate::control::start_of_text;
 use crate::end::finish;
 use crate::names::AREA_ROOM;
@@ -19,7 +20,7 @@ use tables::readers::SHARES_ROOM;
 // What the machine answers to a text, where there is room for every task.
 pub fn run_machine(text: &[u8], facts: &mut [u8], costs: &mut [u32], shares: &mut [u32]) -> Reading
     requires { ⌜ (factsRoom ≤ length (now facts)) × (costsRoom ≤ length (now costs)) × (sharesRoom ≤ length (now shares)) ⌝ }
-    ensures { λ r. ⌜ leaves r (now (facts .exit)) (now (costs .exit)) (now (shares .exit)) ≡ machineRead (now (text .entry)) (now (facts .entry)) (now (costs .entry)) (now (shares .entry)) ⌝ }
+    ensures { λ r. ⌜ leaves r (left facts) (left costs) (left shares) ≡ machineRead (was text) (was facts) (was costs) (was shares) ⌝ }
 {
     let mut w = [0u8; AREA_ROOM];
     let c = feed_piece(start_of_text(), text, &mut w);
@@ -33,7 +34,7 @@ pub fn read_by_machine(
     costs: &mut [u32],
     shares: &mut [u32],
 ) -> Reading
-    ensures { λ r. ⌜ leaves r (now (facts .exit)) (now (costs .exit)) (now (shares .exit)) ≡ readAll (now (text .entry)) (now (facts .entry)) (now (costs .entry)) (now (shares .entry)) ⌝ }
+    ensures { λ r. ⌜ leaves r (left facts) (left costs) (left shares) ≡ readAll (was text) (was facts) (was costs) (was shares) ⌝ }
 {
     if facts.len() < FACTS_ROOM {
         return Reading::Refused(Refusal::TableTooShort);

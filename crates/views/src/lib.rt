@@ -2,7 +2,7 @@
 pub mod sums;
 
 ghost use mathlib.Core.Path.{_≡_};
-ghost use Rattle.tables.specs.Task.{tables, lent};
+ghost use Rattle.tables.specs.Task.{lent, was, left};
 ghost use Rattle.sweep.specs.Said.{said};
 ghost use Rattle.views.specs.Inside.Sums.{sumSaid};
 ghost use Rattle.views.specs.Entries.{askedFault, distanceFault, distanceSaid, boundSaid, DistancesGiven, DistanceGiven, BoundGiven};
@@ -42,7 +42,7 @@ pub enum BoundAnswer {
 
 // The first fault where a map is asked for: the tables', or a map that the task hasn't.
 fn asked_fault(c: Counts, facts: &[u8], costs: &[u32], shares: &[u32], map: u32) -> Found
-    ensures { λ r. ⌜ r ≡ askedFault (lent c (facts .entry) (costs .entry) (shares .entry)) map ⌝ }
+    ensures { λ r. ⌜ r ≡ askedFault (lent c facts costs shares) map ⌝ }
 {
     let found = tables_fault(c, facts, costs, shares);
     let Found::Clean = found else {
@@ -64,7 +64,7 @@ fn distance_fault(
     map: u32,
     s: &[u8],
 ) -> Found
-    ensures { λ r. ⌜ r ≡ distanceFault (lent c (facts .entry) (costs .entry) (shares .entry)) map (now (s .entry)) ⌝ }
+    ensures { λ r. ⌜ r ≡ distanceFault (lent c facts costs shares) map (was s) ⌝ }
 {
     let found = asked_fault(c, facts, costs, shares, map);
     let Found::Clean = found else {
@@ -104,7 +104,7 @@ pub fn distances(
     map: u32,
     out: &mut [u32],
 ) -> DistancesAnswer
-    ensures { λ r. ⌜ DistancesGiven (lent c (facts .entry) (costs .entry) (shares .entry)) map (now (out .entry)) r (now (out .exit)) ⌝ }
+    ensures { λ r. ⌜ DistancesGiven (lent c facts costs shares) map (was out) r (left out) ⌝ }
 {
     if out.len() < STATES_ROOM {
         return DistancesAnswer::Refused(Refusal::TableTooShort);
@@ -128,7 +128,7 @@ pub fn distance_at(
     map: u32,
     s: &[u8],
 ) -> DistanceAnswer
-    ensures { λ r. ⌜ DistanceGiven (lent c (facts .entry) (costs .entry) (shares .entry)) map (now (s .entry)) r ⌝ }
+    ensures { λ r. ⌜ DistanceGiven (lent c facts costs shares) map (was s) r ⌝ }
 {
     let found = distance_fault(c, facts, costs, shares, map, s);
     match found {
@@ -139,7 +139,7 @@ pub fn distance_at(
 
 // The summed bound of a state, or none; or why not.
 pub fn bound(c: Counts, facts: &[u8], costs: &[u32], shares: &[u32], s: &[u8]) -> BoundAnswer
-    ensures { λ r. ⌜ BoundGiven (lent c (facts .entry) (costs .entry) (shares .entry)) (now (s .entry)) r ⌝ }
+    ensures { λ r. ⌜ BoundGiven (lent c facts costs shares) (was s) r ⌝ }
 {
     let found = input_fault(c, facts, costs, shares, s);
     match found {

@@ -5,7 +5,7 @@ ghost use Prim.Native.Nat.{ℕ, _+_, _≤_, _<_};
 ghost use Rattle.meaning.specs.Sas.{IsState};
 ghost use Rattle.meaning.specs.Split.{Valid};
 ghost use Rattle.meaning.specs.Bound.{bound, join};
-ghost use Rattle.tables.specs.Task.{taskOf, tables, stateOf};
+ghost use Rattle.tables.specs.Task.{taskOf, tables, stateOf, was};
 ghost use Rattle.sweep.specs.Said.{NONE, said};
 ghost use Rattle.sweep.specs.Inside.Classes.{unpriced, SharesSmall};
 ghost use Rattle.views.specs.Inside.Sums.{sumSaid, mostTotal};
@@ -43,7 +43,7 @@ fn with_distance(sum: Sum, distance: u32) -> Sum
 // The sum over all maps.
 pub fn sum_of(c: Counts, facts: &[u8], shares: &[u32], s: &[u8]) -> Sum
     requires { ⌜ Valid (unpriced c (now facts)) × ((m : ℕ) → m < c .maps → SharesSmall c (now shares) m) × IsState (unpriced c (now facts) .sas) (stateOf (now s)) ⌝ }
-    ensures { λ r. ⌜ sumSaid r ≡ bound (taskOf (tables c (now (facts .entry)) [] (now (shares .entry)))) (stateOf (now (s .entry))) ⌝ }
+    ensures { λ r. ⌜ sumSaid r ≡ bound (taskOf (tables c (was facts) [] (was shares))) (stateOf (was s)) ⌝ }
 {
     let maps = c.maps;
     let mut sum = Sum {

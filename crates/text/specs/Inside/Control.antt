@@ -3,7 +3,6 @@ use Prim.Native.Nat.{ℕ, _+_, _/_, min}
 use mathlib.Core.List.{List}
 use mathlib.Core.Bool.{Bool, true, false, cond}
 use lib.Dec.{ltb, eqb}
-use Rattle.tables.specs.declared.Counts.{Counts}
 use Rattle.text.specs.declared.Ctrl.{Ctrl}
 use Rattle.text.specs.declared.Spot.{Spot}
 use Rattle.text.specs.declared.Digits.{Digits}

@@ -1,5 +1,5 @@
 -- `text::end::share_total` meets its contract: the invariant is the total of the maps passed, and its bound. Assumes nothing.
-use Prim.Native.Nat.{_+_, _*_, _-_, _≤_, ℕ}
+use Prim.Native.Nat.{_+_, _*_, _-_, _≤_}
 use Rattle.meaning.specs.Split.{sum}
 use native.Mathlib.Numerals.{add-one}
 use Rattle.text.specs.Inside.Area.{wordIn, shareIn}
