@@ -16,7 +16,7 @@ use Rattle.text.specs.Inside.Area.{areaRoom, wordIn, threes}
 use Rattle.text.specs.Inside.Control.{mk, start, stopped, St}
 use Rattle.text.specs.Inside.Fields.{keyByte}
 use Rattle.text.specs.Inside.Steps.{inKey, live, byteRead, feed}
-use Rattle.text.specs.Inside.End.{ended, endFault, lastFault, written, answered, machineEnd, machineRead, readAll}
+use Rattle.text.specs.Inside.End.{ended, endFault, lastFault, written, leftBehind, machineEnd, machineRead, readAll}
 use Rattle.text.proofs.BridgeReading.{tablesOf, told, reading, Bytes, none, byte, off-form, moves, kw}
 use Rattle.text.proofs.BridgeArea.{over-of}
 use Rattle.text.proofs.BridgeRows.{Fits, Known}
@@ -104,7 +104,7 @@ machine-end-is : (s : St) (f c h : List ℕ) → machineEnd s f c h ≡ outcome 
 unfolding machineEnd told outcome settled written tablesOf
 machine-end-is s f c h = split (lastFault s)
   where
-    split : (d : Found) → answered d s f c h ≡ outcome (settled d (tablesOf (s .ctrl .counts) (s .area))) f c h
+    split : (d : Found) → leftBehind d s f c h ≡ outcome (settled d (tablesOf (s .ctrl .counts) (s .area))) f c h
     split (Fault r) = refl
     split Clean = refl
 

@@ -69,12 +69,12 @@ written s f c h =
     (filled sharesRoom (threes sharesRoom sharesByte (s .area)) h)
 
 -- the end of the text: the lent tables are written on acceptance only
-abbrev pub answered : Found → St → List ℕ → List ℕ → List ℕ → Outcome
-answered Clean s f c h = written s f c h
-answered (Fault r) s f c h = leaves (Refused r) f c h
+abbrev pub leftBehind : Found → St → List ℕ → List ℕ → List ℕ → Outcome
+leftBehind Clean s f c h = written s f c h
+leftBehind (Fault r) s f c h = leaves (Refused r) f c h
 
 unfoldable pub machineEnd : St → List ℕ → List ℕ → List ℕ → Outcome
-machineEnd s f c h = answered (lastFault s) s f c h
+machineEnd s f c h = leftBehind (lastFault s) s f c h
 
 -- a whole text by the machine: what it leaves behind, where it is admitted
 unfoldable pub machineRead : List ℕ → List ℕ → List ℕ → List ℕ → Outcome
