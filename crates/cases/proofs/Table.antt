@@ -54,7 +54,8 @@ use Rattle.grammar.proofs.SpellAccepted.{accepted-spells}
 use Rattle.sequences.specs.Stepping.{stepOf}
 use Rattle.meaning.specs.Limits.{mostSteps}
 use Rattle.sequences.specs.Judging.{walked, limited, judgedOf}
-use Rattle.ledger.specs.Ledger.{rest, gain, booked, fresh, advanced, canRun, replayed, given, startAt, startIn, sameTo, sameRun, isRun, oldStep, nextStep, offerJudged, answered, offered, started, begun}
+use Rattle.ledger.specs.Ledger.{rest, gain, booked, fresh, advanced, canRun, replayed, given, startAt, startIn, sameTo, sameRun}
+use Rattle.ledger.specs.Ledger.{isRun, oldStep, nextStep, offerJudged, answered, offered, started, begun}
 use Rattle.cases.specs.Told.{ofText, Claim, EachAt, Holds, Case, AllHold, Right}
 use Rattle.cases.specs.Cases.{table}
 use Rattle.cases.proofs.Tests.{Test, told?, _and_, into, always, each?}

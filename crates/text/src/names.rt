@@ -1,4 +1,7 @@
 // The names of what the control holds, and of the bytes that the text is made of.
+ghost use mathlib.Core.Path.{_≡_};
+ghost use Prim.Native.Nat.{_-_};
+ghost use Rattle.grammar.specs.Fields.{isDigit};
 
 // The parts of a line.
 pub const PART_KEY: u32 = 0;
@@ -98,3 +101,16 @@ pub const COSTS_BYTE: usize = 1624;
 pub const SHARES_BYTE: usize = 1816;
 
 pub const AREA_ROOM: usize = 3352;
+
+// A byte that is a digit, and the number that it is.
+pub fn is_digit(b: u32) -> bool
+    ensures { λ r. ⌜ r ≡ isDigit b ⌝ }
+{
+    if ZERO <= b { b <= NINE } else { false }
+}
+
+pub fn digit_of(b: u32) -> u32
+    ensures { λ r. ⌜ r ≡ b - 48 ⌝ }
+{
+    if ZERO <= b { b - ZERO } else { 0 }
+}

@@ -1,7 +1,7 @@
 // One byte of the text.
 ghost use mathlib.Core.Path.{_≡_};
 ghost use Prim.Native.Nat.{_-_};
-ghost use Rattle.grammar.specs.Fields.{isDigit, lineEnd};
+ghost use Rattle.grammar.specs.Fields.{lineEnd};
 ghost use Rattle.text.specs.Inside.Control.{mk, nextLine};
 ghost use Rattle.tables.specs.Task.{was, left};
 ghost use Rattle.text.specs.Inside.Steps.{
@@ -65,7 +65,6 @@ use crate::names::KIND_SHARE;
 use crate::names::KIND_VAL;
 use crate::names::KIND_VAR;
 use crate::names::LINE_END;
-use crate::names::NINE;
 use crate::names::PART_AFTER_DASH;
 use crate::names::PART_KEY;
 use crate::names::PART_NUMBER;
@@ -75,7 +74,8 @@ use crate::names::RUN_ON;
 use crate::names::RUN_ZERO;
 use crate::names::SEMICOLON;
 use crate::names::SLASH;
-use crate::names::ZERO;
+use crate::names::digit_of;
+use crate::names::is_digit;
 
 pub fn in_key(c: Ctrl, b: u32) -> Ctrl
     ensures { λ r. ⌜ r ≡ inKey c b ⌝ }
@@ -312,18 +312,6 @@ pub fn close_run(c: Ctrl, b: u32, w: &mut [u8]) -> Ctrl
     } else {
         stop(c, k)
     }
-}
-
-pub fn is_digit(b: u32) -> bool
-    ensures { λ r. ⌜ r ≡ isDigit b ⌝ }
-{
-    if ZERO <= b { b <= NINE } else { false }
-}
-
-pub fn digit_of(b: u32) -> u32
-    ensures { λ r. ⌜ r ≡ b - 48 ⌝ }
-{
-    if ZERO <= b { b - ZERO } else { 0 }
 }
 
 // Neither a digit of the number nor a fact of the list stands before.

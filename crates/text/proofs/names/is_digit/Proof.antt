@@ -1,8 +1,8 @@
--- `text::step::is_digit` meets its contract: between the two. Assumes nothing.
+-- `text::names::is_digit` meets its contract: between the two. Assumes nothing.
 use Rattle.grammar.specs.Fields.{isDigit}
 use borrow.Author.Tests.{le-leb, lt-leb}
-use Rattle.text.proofs.step.is_digit.Statement.{statement}
-use Rattle.text.proofs.step.is_digit.Tie as tie
+use Rattle.text.proofs.names.is_digit.Statement.{statement}
+use Rattle.text.proofs.names.is_digit.Tie as tie
 
 pub is-digit-spec : {M : Type 1} → statement M
 unfolding isDigit
