@@ -17,7 +17,7 @@ use Rattle.tables.specs.Task.{sasOf, taskOf, stateOf}
 use Rattle.sequences.specs.Judging.{judgedOf}
 use Rattle.ledger.specs.declared.Run.{Run}
 use Rattle.ledger.specs.Ledger.{offered, begun}
-use Rattle.cases.specs.Told.{ofSequence, ofOffer, Offering, Claim, distances, boundAt, judging, run, EachAt, Tells, Holds}
+use Rattle.cases.specs.Told.{ofSequence, ofOffer, Offering, Claim, distances, boundAt, judging, run, EachAt, SaysThat, ClaimHolds}
 use Rattle.cases.proofs.Tests.{Test, lt?, eq?, same?, told?, list?, _and_, all, into, always, each?}
 use Rattle.cases.proofs.Rounds.{tableOf, table-is, rounds?}
 
@@ -44,7 +44,7 @@ module _ (t : Tables) (ok : Valid (taskOf t)) where
   pub far-is : (m a : ℕ) → m < t .counts .maps → a < graphOf t m .states → farOf t m a ≡ distance (sasOf t) (view (taskOf t) m) a
   far-is m a l h = table-is (graphOf t m) (graph-closed t ok m l) (graphOf t m .states) a h
 
-  abbrev pub distances? : (m : ℕ) (ds : List Cost) (r : ℕ) → Test (Holds t (distances m ds r))
+  abbrev pub distances? : (m : ℕ) (ds : List Cost) (r : ℕ) → Test (ClaimHolds t (distances m ds r))
   distances? m ds r =
       into
       (λ p. (
@@ -57,7 +57,7 @@ module _ (t : Tables) (ok : Valid (taskOf t)) where
       and each? (λ a d. (a < graphOf t m .states) × (farOf t m a ≡ d)) (λ a d. lt? a (graphOf t m .states) and same? (farOf t m a) d) 0 ds
       and rounds? (graphOf t m) r)
 
-  abbrev pub bound? : (s : List ℕ) (v : Cost) → Test (Holds t (boundAt s v))
+  abbrev pub bound? : (s : List ℕ) (v : Cost) → Test (ClaimHolds t (boundAt s v))
   bound? s v =
       into
       (λ p.
@@ -68,7 +68,7 @@ module _ (t : Tables) (ok : Valid (taskOf t)) where
       (all (t .counts .vars) (λ u. lt? (stateOf s u) (sasOf t .dom u))
       and same? (summed (λ m. farOf t m (α (sasOf t) (view (taskOf t) m) (stateOf s))) (t .counts .maps)) v)
 
-  abbrev pub tells? : (r : Run) (xs : List Offering) → Test (Tells t r xs)
+  abbrev pub tells? : (r : Run) (xs : List Offering) → Test (SaysThat t r xs)
   tells? r [] = always tt
   tells? r (x ∷ xs) =
       into (λ p. (p .0, p .1 .0, p .1 .1))
@@ -76,7 +76,7 @@ module _ (t : Tables) (ok : Valid (taskOf t)) where
       and list? (offered t r (x .number) (x .operator) .run .columns) (x .columns)
       and tells? (offered t r (x .number) (x .operator) .run) xs)
 
-  abbrev pub claim? : (c : Claim) → Test (Holds t c)
+  abbrev pub claim? : (c : Claim) → Test (ClaimHolds t c)
   claim? (distances m ds r) = distances? m ds r
   claim? (boundAt s v) = bound? s v
   claim? (judging s os x) = told? (ofSequence (judgedOf t s os)) x

@@ -54,9 +54,9 @@ use Rattle.grammar.proofs.SpellAccepted.{accepted-spells}
 use Rattle.sequences.specs.Stepping.{stepOf}
 use Rattle.meaning.specs.Limits.{mostSteps}
 use Rattle.sequences.specs.Judging.{walked, limited, judgedOf}
-use Rattle.ledger.specs.Ledger.{rest, gain, booked, fresh, advanced, canRun, replayed, given, startAt, startIn, sameTo, sameRun}
-use Rattle.ledger.specs.Ledger.{isRun, oldStep, nextStep, offerJudged, answered, offered, started, begun}
-use Rattle.cases.specs.Told.{ofText, Claim, EachAt, Holds, Case, AllHold, Right}
+use Rattle.ledger.specs.Ledger.{booked, fresh, advanced, canRun, replayed, given, startAt, startIn, sameTo, sameRun, isRun, oldStep, nextStep, offerJudged, answered, offered, started, begun}
+use Rattle.meaning.specs.Columns.{rest, gain}
+use Rattle.cases.specs.Told.{ofText, Claim, EachAt, ClaimHolds, Case, AllHold, Right}
 use Rattle.cases.specs.Cases.{table}
 use Rattle.cases.proofs.Tests.{Test, told?, _and_, into, always, each?}
 use Rattle.cases.proofs.Rounds.{tableOf}
@@ -69,7 +69,7 @@ none? (c ∷ cs) = record { holds = false; so = λ h. absurd (false≢true h) }
 
 -- the claims, of the tables that the text was accepted with
 abbrev claims? : (x : List ℕ) (v : Verdict) → verdict x ≡ v → (cs : List Claim) → Test (AllHold v cs)
-claims? x (accepted t) e cs = each? (λ i c. Holds t c) (λ i c. claim? t (accepted-spells x t e .valid) c) 0 cs
+claims? x (accepted t) e cs = each? (λ i c. ClaimHolds t c) (λ i c. claim? t (accepted-spells x t e .valid) c) 0 cs
 claims? x (refused r) e cs = none? cs
 
 abbrev right? : (c : Case) → Test (Right c)

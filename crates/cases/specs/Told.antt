@@ -63,21 +63,21 @@ EachAt P i [] = Unit {0}
 EachAt P i (x ∷ xs) = P i x × EachAt P (suc i) xs
 
 -- the offers one after another, each to the run that the one before handed back
-abbrev pub Tells : Tables → Run → List Offering → Type 0
-Tells t r [] = Unit {0}
-Tells t r (x ∷ xs) =
+abbrev pub SaysThat : Tables → Run → List Offering → Type 0
+SaysThat t r [] = Unit {0}
+SaysThat t r (x ∷ xs) =
     (ofOffer (offered t r (x .number) (x .operator) .answer) ≡ x .answer)
     × (offered t r (x .number) (x .operator) .run .columns ≡ x .columns)
-    × Tells t (offered t r (x .number) (x .operator) .run) xs
+    × SaysThat t (offered t r (x .number) (x .operator) .run) xs
 
-abbrev pub Holds : Tables → Claim → Type 0
-Holds t (distances m ds r) =
+abbrev pub ClaimHolds : Tables → Claim → Type 0
+ClaimHolds t (distances m ds r) =
     (length ds ≡ abstractStates (sasOf t) (view (taskOf t) m))
     × EachAt (λ a d. distance (sasOf t) (view (taskOf t) m) a ≡ d) 0 ds
     × Rounds (viewGraph (sasOf t) (view (taskOf t) m)) r
-Holds t (boundAt s v) = bound (taskOf t) (stateOf s) ≡ v
-Holds t (judging s os x) = ofSequence (judgedOf t s os) ≡ x
-Holds t (run s xs) = Tells t (begun t s .run) xs
+ClaimHolds t (boundAt s v) = bound (taskOf t) (stateOf s) ≡ v
+ClaimHolds t (judging s os x) = ofSequence (judgedOf t s os) ≡ x
+ClaimHolds t (run s xs) = SaysThat t (begun t s .run) xs
 
 -- a case: a text, what reading it tells, and what is claimed of the task that it spells
 pub record Case : Type 0 where
@@ -87,7 +87,7 @@ pub record Case : Type 0 where
 
 -- claims are made of the tables of an accepted text
 abbrev pub AllHold : Verdict → List Claim → Type 0
-AllHold (accepted t) cs = EachAt (λ i c. Holds t c) 0 cs
+AllHold (accepted t) cs = EachAt (λ i c. ClaimHolds t c) 0 cs
 AllHold (refused r) cs = cs ≡ []
 
 pub record Right (c : Case) : Type 0 where

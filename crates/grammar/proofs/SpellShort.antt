@@ -9,7 +9,7 @@ use lib.ListN.{length, length-append}
 use borrow.Author.Tests.{ltb-true, ltb-false}
 use Rattle.meaning.specs.Sas.{Facts}
 use Rattle.meaning.specs.Split.{Task, Valid}
-use Rattle.tables.proofs.Laws.{by-cases}
+use Rattle.meaning.proofs.Facts.{by-cases}
 use Rattle.grammar.specs.Fields.{edition, bytesOf, comma, slash}
 use Rattle.meaning.specs.Limits.{mostCost}
 use Rattle.grammar.specs.Spelling.{lastDigits, digits, gap, joined, numbers, fact, anotherFact, moreFacts, firstFact, someFacts, keyed, stacked, opText, mapText, shareText, spelled}

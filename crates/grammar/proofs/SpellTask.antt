@@ -20,8 +20,7 @@ use Rattle.scan.specs.Scan.{unless, each, factsFault, operatorFault, mapFault, 
 use Rattle.scan.proofs.Rules.{within-says}
 use Rattle.scan.proofs.Walks.{rule-held, walk-clean}
 use Rattle.grammar.specs.Fields.{edition}
-use Rattle.grammar.specs.Grammar.{accepted, Rest, _▸_, ask, textLine, operatorFields, opLines, mapClasses}
-use Rattle.grammar.specs.Grammar.{mapLines, amounts, shareLines, taskLines, settled, theEnd, noTask, verdict, putCost}
+use Rattle.grammar.specs.Grammar.{accepted, Rest, _▸_, ask, textLine, operatorFields, opLines, mapClasses, mapLines, amounts, shareLines, taskLines, settled, theEnd, noTask, verdict, putCost}
 use Rattle.grammar.specs.Spelling.{digits, numbers, someFacts, keyed, stacked, opText, mapText, shareText, spelled, textOf, changed, rowPut, opRows, mapRows, headRows, tablesOf, canon}
 use Rattle.grammar.proofs.SpellParts.{judged, next, lines-told}
 use Rattle.grammar.proofs.SpellFacts.{on, on-changed, Knows, knows-row, knows-facts, knows-changed}

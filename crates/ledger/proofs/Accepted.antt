@@ -13,13 +13,12 @@ use Rattle.scan.specs.declared.Found.{Found}
 use Rattle.scan.specs.declared.Found.the-variants.{Clean, Fault}
 use Rattle.scan.specs.Scan.{tablesFault}
 use Rattle.tables.specs.Layout.{Tables}
-use Rattle.tables.proofs.Laws.{by-cases}
+use Rattle.meaning.proofs.Facts.{by-cases, by-order}
 use Rattle.ledger.specs.declared.Run.{Run}
 use Rattle.ledger.specs.declared.Answer.{Answer}
 use Rattle.ledger.specs.declared.Answer.the-variants.{Accepted, Repeated, Refused}
 use Rattle.ledger.specs.Ledger.{canRun, isRun, oldStep, nextStep, offerJudged, refusedOr, answered, advanced, moved, offered}
 use Rattle.ledger.proofs.Answers.{next-full, next-not}
-use Rattle.ledger.proofs.Gains.{by-order}
 
 -- ---- an accepting answer passed by every refusal before it
 

@@ -9,14 +9,14 @@ use borrow.Author.Tests.{lt-ltb, eq-eqb}
 use Rattle.meaning.specs.Limits.{mostVars}
 use Rattle.meaning.specs.Sas.{IsState}
 use Rattle.meaning.specs.Split.{Valid}
-use Rattle.meaning.proofs.Facts.{true-every}
+use Rattle.meaning.proofs.Facts.{true-every, by-order}
 use Rattle.tables.specs.Layout.{Tables, domAt}
 use Rattle.tables.specs.Task.{taskOf, sasOf, stateOf}
 use Rattle.tables.proofs.Laws.{filled-at, filled-later, length-filled}
 use Rattle.tables.specs.Steps.{copied}
 use Rattle.ledger.specs.Ledger.{startsAt, startIn}
 use Rattle.ledger.proofs.Answers.{start-within, start-beyond}
-use Rattle.ledger.proofs.Gains.{by-order, zeros-at}
+use Rattle.ledger.proofs.Gains.{zeros-at}
 
 -- the start that is taken from a lent state
 abbrev pub startOf : Tables → List ℕ → List ℕ

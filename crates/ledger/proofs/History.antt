@@ -13,12 +13,13 @@ use Rattle.scan.specs.Scan.{tablesFault}
 use Rattle.scan.proofs.Validity.{clean-valid}
 use Rattle.tables.specs.Layout.{Tables}
 use Rattle.tables.specs.Task.{taskOf, sasOf, stateOf}
-use Rattle.tables.proofs.Laws.{by-cases}
+use Rattle.meaning.proofs.Facts.{by-cases}
 use Rattle.ledger.specs.declared.Run.{Run}
 use Rattle.ledger.specs.declared.Answer.the-variants.{Accepted}
-use Rattle.ledger.specs.Ledger.{costColumns, unshared, rest, gain, fresh, offered, begun}
+use Rattle.ledger.specs.Ledger.{fresh, offered, begun}
+use Rattle.meaning.specs.Columns.{costColumns, unshared, rest, gain}
 use Rattle.ledger.specs.History.{Offer, reallyRuns, added, reallyRun, ran, runAfter, Tells, Between}
-use Rattle.ledger.proofs.Gains.{sum-same, gain-map, gain-rest, gain-all}
+use Rattle.meaning.proofs.Columns.{sum-same, gain-map, gain-rest, gain-all}
 use Rattle.ledger.proofs.Sequences.{end-append, end-same, runs-later, runs-same, paid-append, paid-same, paid-sum}
 use Rattle.ledger.proofs.Entries.{Began, accepted-began}
 use Rattle.ledger.proofs.Begun.{startOf}

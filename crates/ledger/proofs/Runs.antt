@@ -11,17 +11,17 @@ use lib.Seq.{drop-cons, getD-take}
 use borrow.Author.Tests.{lt-leb, le-leb, eq-eqb, ne-eqb, leb-true, eqb-true, ltb-true}
 use Rattle.meaning.specs.Limits.{mostVars, mostSteps}
 use Rattle.meaning.specs.Split.{Valid}
-use Rattle.meaning.proofs.Facts.{and-left, and-right, every-true, true-every}
+use Rattle.meaning.proofs.Facts.{and-left, and-right, every-true, true-every, by-cases}
 use Rattle.tables.specs.declared.Counts.{Counts}
 use Rattle.tables.specs.Layout.{Tables}
 use Rattle.tables.specs.Task.{taskOf}
 use Rattle.tables.specs.Steps.{mayRun}
-use Rattle.tables.proofs.Laws.{by-cases}
 use Rattle.ledger.specs.declared.Run.{Run}
 use Rattle.ledger.specs.declared.Tried.{Tried}
 use Rattle.ledger.specs.Ledger.{allColumns, fresh, advanced, canRun, replayed, given, startIn, sameAt, sameTo, sameRun, isRun}
 use Rattle.ledger.specs.Inside.Bounded.{Bounded}
-use Rattle.ledger.proofs.Gains.{gain-small, booked-most, fresh-bounded}
+use Rattle.ledger.proofs.Gains.{booked-most, fresh-bounded}
+use Rattle.meaning.proofs.Columns.{gain-small}
 
 -- ---- several tests that all hold
 

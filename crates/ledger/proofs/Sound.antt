@@ -12,19 +12,17 @@ use borrow.Author.Tests.{lt-ltb, eqb-true, ltb-true}
 use Rattle.meaning.specs.Limits.{mostVars, mostSteps}
 use Rattle.meaning.specs.Sas.{State, IsState, Runs, end}
 use Rattle.meaning.specs.Split.{Task, Valid}
-use Rattle.meaning.proofs.Facts.{every-true, true-complies}
+use Rattle.meaning.proofs.Facts.{every-true, true-complies, by-cases, by-order}
 use Rattle.scan.specs.declared.Found.the-variants.{Clean}
 use Rattle.scan.specs.Scan.{tablesFault}
 use Rattle.scan.proofs.Validity.{clean-valid}
 use Rattle.tables.specs.Layout.{Tables, domAt}
 use Rattle.tables.specs.Task.{taskOf, sasOf, stateOf}
-use Rattle.tables.proofs.Laws.{by-cases}
 use Rattle.ledger.specs.declared.Run.{Run}
 use Rattle.ledger.specs.declared.Tried.{Tried}
 use Rattle.ledger.specs.Ledger.{allColumns, fresh, advanced, canRun, replayed, given, startsAt, startIn, sameRun, isRun}
 use Rattle.ledger.specs.History.{mayFollow, Tells, Sized}
 use Rattle.ledger.proofs.Answers.{start-within, start-beyond}
-use Rattle.ledger.proofs.Gains.{by-order}
 use Rattle.ledger.proofs.Runs.{SamePlaces, same-places, replayed-yes, replayed-no, run-tested}
 use Rattle.ledger.proofs.Begun.{startOf, from-at, from-beyond, from-size}
 use Rattle.ledger.proofs.Sequences.{end-append}

@@ -13,7 +13,7 @@ use Rattle.meaning.specs.Limits.{mostSteps}
 use Rattle.meaning.specs.Sas.{State, IsState, end}
 use Rattle.meaning.specs.Views.{complies}
 use Rattle.meaning.specs.Split.{Valid}
-use Rattle.meaning.proofs.Facts.{and-right, complies-true, complies-same}
+use Rattle.meaning.proofs.Facts.{and-right, complies-true, complies-same, by-cases}
 use Rattle.meaning.proofs.Space.{after-same}
 use Rattle.scan.specs.declared.Found.the-variants.{Clean}
 use Rattle.scan.specs.Scan.{tablesFault}
@@ -21,12 +21,12 @@ use Rattle.scan.proofs.Validity.{clean-valid}
 use Rattle.tables.specs.Layout.{Tables}
 use Rattle.tables.specs.Task.{taskOf, sasOf, stateOf}
 use Rattle.tables.specs.Steps.{stepped}
-use Rattle.tables.proofs.Laws.{by-cases}
 use Rattle.tables.proofs.Meant.{may-run-is, stepped-is, stepped-beyond, stepped-length}
 use Rattle.ledger.specs.declared.Run.{Run}
 use Rattle.ledger.specs.declared.Tried.{Tried}
 use Rattle.ledger.specs.declared.Answer.the-variants.{Accepted}
-use Rattle.ledger.specs.Ledger.{allColumns, gain, fresh, advanced, canRun, replayed, given, startIn, isRun, answered, offered}
+use Rattle.ledger.specs.Ledger.{allColumns, fresh, advanced, canRun, replayed, given, startIn, isRun, answered, offered}
+use Rattle.meaning.specs.Columns.{gain}
 use Rattle.ledger.specs.History.{Offer, mayFollow, reallyRuns, Tells, Sized}
 use Rattle.ledger.proofs.Gains.{zeros-at, booked-at, booked-length}
 use Rattle.ledger.proofs.Answers.{next-go, judged-next}

@@ -12,7 +12,8 @@ use Rattle.tables.specs.Layout.{Tables}
 use Rattle.tables.specs.Task.{stateOf}
 use Rattle.ledger.specs.declared.Run.{Run}
 use Rattle.meaning.specs.Limits.{mostVars, mostSteps}
-use Rattle.ledger.specs.Ledger.{allColumns, gain, offered, begun}
+use Rattle.ledger.specs.Ledger.{allColumns, offered, begun}
+use Rattle.meaning.specs.Columns.{gain}
 
 -- an offer: a step number and an operator
 pub record Offer : Type 0 where

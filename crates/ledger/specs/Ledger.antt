@@ -6,7 +6,8 @@ use lib.Dec.{ltb, leb, eqb}
 use lib.ListN.{getD, set, take, replicate}
 use Rattle.refusals.specs.declared.Refusal.the-variants.{NoSuchOperator, MayNotRun, NotTheNext, OtherOperator, RunFull, NotARun}
 use Rattle.meaning.specs.Views.{every}
-use Rattle.meaning.specs.Split.{Task, sum}
+use Rattle.meaning.specs.Split.{Task}
+use Rattle.meaning.specs.Columns.{costColumns, gain}
 use Rattle.tables.specs.declared.Counts.{Counts}
 use Rattle.scan.specs.declared.Found.{Found}
 use Rattle.scan.specs.declared.Found.the-variants.{Clean, Fault}
@@ -14,32 +15,16 @@ use Rattle.tables.specs.Layout.{Tables, domAt}
 use Rattle.tables.specs.Task.{taskOf}
 use Rattle.tables.specs.Steps.{mayRun, overwritten, stepped, copied}
 use Rattle.scan.specs.Scan.{tablesFault, inputFault}
-use Rattle.meaning.specs.Limits.{mostVars, mostMaps, mostSteps}
+use Rattle.meaning.specs.Limits.{mostVars, mostSteps}
 use Rattle.ledger.specs.declared.Run.{Run}
 use Rattle.ledger.specs.declared.Tried.{Tried}
 use Rattle.ledger.specs.declared.Answer.{Answer}
 use Rattle.ledger.specs.declared.Answer.the-variants.{Accepted, Repeated, Refused}
 use Rattle.ledger.specs.declared.Offered.{Offered}
 
--- columns 0 to 7 are what the maps were paid, column 8 is the unshared one
-abbrev pub unshared : ℕ
-unshared = mostMaps
-
--- these together are the steps' cost
-abbrev pub costColumns : ℕ
-costColumns = unshared + 1
-
 -- all columns that a run has: for now there is none that is no payment
 abbrev pub allColumns : ℕ
 allColumns = costColumns
-
--- cost less shares
-unfoldable pub rest : Task → ℕ → ℕ
-rest T o = T .sas .cost o - sum (λ m. T .share m o) (T .maps)
-
--- what operator o adds to a column: to a map's its share, to the unshared one cost less shares, to an unused one nothing
-unfoldable pub gain : Task → ℕ → ℕ → ℕ
-gain T column o = cond (ltb column (T .maps)) (T .share column o) (cond (eqb column unshared) (rest T o) 0)
 
 abbrev pub bookedAt : Task → List ℕ → ℕ → ℕ → ℕ
 bookedAt T columns o column = getD columns column 0 + gain T column o

@@ -5,9 +5,21 @@ use mathlib.Core.Bool.{Bool, true, false, _&&_, false≢true}
 use Prim.Native.Nat.{ℕ, zero, suc, _≤_, _<_}
 use native.Mathlib.Nat.{le-refl, le-of-suc-le-suc, not-suc-le-zero, eq-or-lt-of-le}
 use native.Mathlib.Omega.{arith}
-use borrow.Author.Tests.{eq-eqb, eqb-true}
+use lib.Dec.{ltb}
+use borrow.Author.Tests.{eq-eqb, eqb-true, ltb-true, ltb-false}
 use Rattle.meaning.specs.Sas.{State, Facts, Sas, Holds, Complies, put}
 use Rattle.meaning.specs.Views.{holds, every, complies}
+
+-- ---- by cases
+
+-- on a test, with the equation
+pub by-cases : {A : Type 0} (b : Bool) → (b ≡ true → A) → (b ≡ false → A) → A
+by-cases true t e = t refl
+by-cases false t e = e refl
+
+-- below, or not
+pub by-order : {A : Type 0} (k n : ℕ) → (k < n → A) → (n ≤ k → A) → A
+by-order k n l g = by-cases (ltb k n) (λ e. l (ltb-true k n e)) (λ e. g (ltb-false k n e))
 
 -- ---- facts and values
 

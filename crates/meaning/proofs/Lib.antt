@@ -6,3 +6,4 @@ pub mod Distances
 pub mod Sums
 pub mod Bounds
 pub mod Theorems
+pub mod Columns

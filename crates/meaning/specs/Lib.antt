@@ -4,3 +4,4 @@ pub mod Numbering
 pub mod Views
 pub mod Split
 pub mod Bound
+pub mod Columns

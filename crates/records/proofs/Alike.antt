@@ -12,7 +12,7 @@ use Rattle.meaning.specs.Numbering.{size}
 use Rattle.meaning.specs.Sas.{State, Facts, put, after}
 use Rattle.meaning.specs.Views.{holds, every, complies}
 use Rattle.meaning.specs.Split.{Task, countOf, sum}
-use Rattle.meaning.proofs.Facts.{every-same}
+use Rattle.meaning.proofs.Facts.{every-same, by-cases}
 use Rattle.tables.specs.declared.Counts.{Counts}
 use Rattle.scan.specs.declared.Found.{Found}
 use Rattle.scan.specs.declared.Found.the-variants.{Clean, Fault}
@@ -20,7 +20,6 @@ use Rattle.tables.specs.Layout.{domRow, initRow, goalRow, rowAt, preAt, effAt, 
 use Rattle.tables.specs.Task.{tables, taskOf, stateOf}
 use Rattle.scan.specs.Scan.{unless, _then_, each, within, factsFault, operatorFault, classesFault, mapFault, sharesFault, splitFault, taskFault, roomy, tablesFault, stateFault, inputFault}
 use Rattle.tables.specs.Classes.{someHas, noneMissing}
-use Rattle.tables.proofs.Laws.{by-cases}
 use Rattle.scan.proofs.Walks.{clean-first, clean-next, rule-held, tests-held}
 use Rattle.scan.proofs.Rules.{within-says}
 use Rattle.sequences.specs.declared.stepping.Stepped.{Stepped}

@@ -11,7 +11,7 @@ use lib.Seq.{length-take-le, take-all, getD-take, ext-getD}
 use native.Mathlib.Nat.{le-refl}
 use borrow.Author.Tests.{le-leb, lt-leb, leb-true, leb-false}
 use mathlib.Core.Bool.{true, _&&_}
-use Rattle.meaning.proofs.Facts.{and-left}
+use Rattle.meaning.proofs.Facts.{and-left, by-cases}
 use Rattle.meaning.specs.Limits.{mostVars, mostOps}
 use Rattle.refusals.specs.declared.Refusal.the-variants.{TableTooShort}
 use Rattle.tables.specs.declared.Counts.{Counts}
@@ -19,7 +19,7 @@ use Rattle.tables.specs.Layout.{preRow, effRow, factsRoom, costsRoom, place, Ta
 use Rattle.tables.specs.Task.{stateOf, tables}
 use Rattle.tables.specs.Steps.{overwritten}
 use Rattle.scan.specs.Scan.{roomy, tablesFault, inputFault}
-use Rattle.tables.proofs.Laws.{by-cases, filled-end, filled-at, length-filled}
+use Rattle.tables.proofs.Laws.{filled-end, filled-at, length-filled}
 use Rattle.sequences.specs.declared.judging.Judged.{Judged}
 use Rattle.sequences.specs.declared.judging.Judged.the-variants.{Refused}
 use Rattle.sequences.specs.Judging.{judgedOf}

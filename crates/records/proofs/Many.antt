@@ -11,7 +11,7 @@ use Rattle.tables.specs.declared.Counts.{Counts}
 use Rattle.scan.specs.declared.Found.{Found}
 use Rattle.tables.specs.Task.{tables}
 use Rattle.scan.specs.Scan.{_then_, factsFault, taskFault, roomy, tablesFault, stateFault, inputFault}
-use Rattle.tables.proofs.Laws.{by-cases}
+use Rattle.meaning.proofs.Facts.{by-cases}
 use Rattle.scan.proofs.Validity.{clean-valid}
 use Rattle.sequences.specs.Judging.{judgedOf}
 use Rattle.sequences.proofs.Passing.{input-clean}

@@ -14,7 +14,7 @@ use Rattle.tables.specs.declared.Counts.{Counts}
 use Rattle.tables.specs.Layout.{place, factsRoom, costsRoom, sharesRoom, preAt, effAt, costAt, prePlace, effPlace, classPlace}
 use Rattle.tables.specs.Task.{tables}
 use Rattle.scan.specs.Scan.{roomy}
-use Rattle.tables.proofs.Laws.{by-cases}
+use Rattle.meaning.proofs.Facts.{by-cases}
 use Rattle.sequences.specs.Judging.{judgedOf}
 use Rattle.records.specs.declared.OpRecord.{OpRecord}
 use Rattle.records.specs.declared.laying.Laid.{Laid}

@@ -12,14 +12,13 @@ use Rattle.meaning.specs.Sas.{Facts, IsState}
 use Rattle.meaning.specs.Limits.{mostVars, mostValues, mostOps, mostCost, mostMaps, mostStates}
 use Rattle.meaning.specs.Views.{abstractStates}
 use Rattle.meaning.specs.Split.{Task, countOf, sum, view}
-use Rattle.meaning.proofs.Facts.{and-left, and-right, every-true, true-every}
+use Rattle.meaning.proofs.Facts.{and-left, and-right, every-true, true-every, by-cases}
 use Rattle.scan.specs.declared.Found.the-variants.{Clean}
 use Rattle.scan.specs.Scan.{_then_, within, factsFault, operatorFault, classesFault, mapFault, sharesFault, splitFault, taskFault}
 use Rattle.scan.specs.Inside.Parts.{headFault, linesFault, chargesFault, bodyFault}
 use Rattle.scan.proofs.Walks.{then-then, rule-is, then-is, walk-is}
 use Rattle.tables.specs.Classes.{someHas, noneMissing}
 use Rattle.tables.specs.Lines.{lineOfVars, lineOfDom, lineOfInit, lineOfGoal, lineOfOps, lineOfOp, lineOfMaps, lineOfMap, lineOfShares}
-use Rattle.tables.proofs.Laws.{by-cases}
 
 -- ---- tests and what they say
 

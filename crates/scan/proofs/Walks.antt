@@ -15,7 +15,8 @@ use Rattle.meaning.specs.Views.{every}
 use Rattle.scan.specs.declared.Found.{Found}
 use Rattle.scan.specs.declared.Found.the-variants.{Clean, Fault}
 use Rattle.scan.specs.Scan.{unless, _then_, each}
-use Rattle.tables.proofs.Laws.{by-cases, never}
+use Rattle.tables.proofs.Laws.{never}
+use Rattle.meaning.proofs.Facts.{by-cases}
 
 -- ---- one rule after another
 

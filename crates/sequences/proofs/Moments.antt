@@ -9,8 +9,7 @@ use lib.ListN.{length, take}
 use borrow.Author.Tests.{leb-true, leb-false, le-leb}
 use Rattle.meaning.specs.Sas.{State, Sas, after, Passes, paid}
 use Rattle.meaning.specs.Views.{complies}
-use Rattle.meaning.proofs.Facts.{complies-true, true-complies}
-use Rattle.tables.proofs.Laws.{by-cases}
+use Rattle.meaning.proofs.Facts.{complies-true, true-complies, by-cases}
 use Rattle.sequences.specs.declared.stepping.Stepped.the-variants.{Ran}
 use Rattle.sequences.specs.declared.choosing.Reached.the-variants.{After, Out}
 use Rattle.sequences.specs.Stepping.{stepOf}

@@ -12,12 +12,8 @@ use lib.Seq.{getD-set-same, getD-set-other}
 use borrow.Author.Tests.{ltb-true, ltb-false, eqb-true, eqb-false}
 use Rattle.meaning.specs.Sas.{put}
 use Rattle.meaning.specs.Views.{holds, every}
+use Rattle.meaning.proofs.Facts.{by-cases}
 use Rattle.tables.specs.Steps.{overwritten}
-
--- by cases on a test, with the equation
-pub by-cases : {A : Type 0} (b : Bool) → (b ≡ true → A) → (b ≡ false → A) → A
-by-cases true t e = t refl
-by-cases false t e = e refl
 
 -- from two constructors that are said to be equal
 pub never : {A : Type 0} → _≡_ {A = ℕ} 0 1 → A

@@ -27,8 +27,7 @@ use Rattle.sequences.specs.declared.choosing.Choice.the-variants.{FirstPart, Se
 use Rattle.sequences.specs.Choosing.{listOf, stepsOf}
 use Rattle.ledger.specs.declared.Answer.{Answer}
 use Rattle.ledger.specs.declared.Answer.the-variants as ledger
-use Rattle.words.specs.Words.{word, done, first, second, refusedWord, foundWord, distancesWord, distanceWord}
-use Rattle.words.specs.Words.{boundWord, judgedWord, cheaperWord, openingWord, answerWord}
+use Rattle.words.specs.Words.{word, done, first, second, refusedWord, foundWord, distancesWord, distanceWord, boundWord, judgedWord, cheaperWord, openingWord, answerWord}
 
 -- ---- a word
 

@@ -8,8 +8,10 @@ use Rattle.tables.specs.Layout.{shareAt}
 use Rattle.tables.specs.Steps.{overwritten}
 use Rattle.tables.specs.Task.{tables, taskOf}
 use Rattle.tables.proofs.Laws.{filled-end, filled-still}
-use Rattle.ledger.specs.Ledger.{unshared, bookedAt}
-use Rattle.ledger.proofs.Gains.{sum-more, sum-end, gain-map, rest-is, shares-fit, booked-turn, booked-end, unshared-still}
+use Rattle.ledger.specs.Ledger.{bookedAt}
+use Rattle.meaning.specs.Columns.{unshared}
+use Rattle.ledger.proofs.Gains.{booked-turn, booked-end, unshared-still}
+use Rattle.meaning.proofs.Columns.{sum-more, sum-end, gain-map, rest-is, shares-fit}
 use Rattle.ledger.proofs.columns.columns_after.Statement.{statement}
 use Rattle.ledger.proofs.columns.columns_after.Tie as tie
 
