@@ -12,7 +12,8 @@ use Rattle.meaning.specs.Split.{Task}
 use Rattle.tables.specs.Layout.{Tables, factsRoom, domAt, domPlace, initPlace, goalPlace, prePlace, effPlace, classPlace, sharePlace}
 use Rattle.grammar.specs.Fields.{edition, slash}
 use Rattle.meaning.specs.Limits.{mostVars, mostValues, mostOps, mostMaps}
-use Rattle.grammar.specs.Grammar.{accepted, Rest, Part, _▸_, nothing, ask, keep, fits, numeral, textLine, textLines, factList, withCounts, putCost, editionLine, varsLine, domLine, initLine, goalLine, operatorFields, opsLine, opLines, mapClasses, mapsLine, mapLines, amounts, shareLines, taskLines, theEnd, noTask, verdict}
+use Rattle.grammar.specs.Grammar.{accepted, Rest, Part, _▸_, nothing, ask, keep, fits, numeral, textLine, textLines, factList, withCounts, putCost, editionLine, varsLine}
+use Rattle.grammar.specs.Grammar.{domLine, initLine, goalLine, operatorFields, opsLine, opLines, mapClasses, mapsLine, mapLines, amounts, shareLines, taskLines, theEnd, noTask, verdict}
 use Rattle.grammar.specs.Spelling.{digits, joined, numbers, someFacts, keyed, stacked, opText, mapText, shareText, spelled, changed, rowPut, factRow}
 use Rattle.tables.specs.Lines.{lineOfVars, lineOfDom, lineOfInit, lineOfGoal, lineOfOps}
 use Rattle.grammar.proofs.SpellTask.{linesText, spelled-lines}

@@ -15,7 +15,8 @@ use Rattle.tables.specs.Layout.{Tables, domAt, domPlace, initPlace, goalPlace, 
 use Rattle.scan.specs.Scan.{unless, _then_, each, factsFault, operatorFault, mapFault, sharesFault, within as scanWithin}
 use Rattle.grammar.specs.Fields.{edition, isDigit, lineEnd, dash, semicolon}
 use Rattle.meaning.specs.Limits.{mostValues, mostCost, mostVars, mostOps, mostMaps}
-use Rattle.grammar.specs.Grammar.{Rest, Part, _▸_, nothing, keep, lit, fits, numeral, textLine, factList, withCounts, putCost, putShare, editionLine, varsLine, domLine, initLine, goalLine, opsLine, operatorFields, mapsLine, mapClasses, amounts}
+use Rattle.grammar.specs.Grammar.{Rest, Part, _▸_, nothing, keep, lit, fits, numeral, textLine, factList, withCounts, putCost}
+use Rattle.grammar.specs.Grammar.{putShare, editionLine, varsLine, domLine, initLine, goalLine, opsLine, operatorFields, mapsLine, mapClasses, amounts}
 use Rattle.grammar.specs.Spelling.{digits, numbers, someFacts, keyed, opText, mapText, shareText, changed, rowPut, factRow, opRows, mapRows}
 use Rattle.grammar.proofs.Runs.{other}
 use Rattle.grammar.proofs.SpellParts.{judged, next, Told, ToldLine, lit-told, number-told, row-told, line-told}

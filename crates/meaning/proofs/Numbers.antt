@@ -2,7 +2,8 @@
 use mathlib.Core.Path.{_≡_, refl, sym, ap, ap₂, _∙_, subst}
 use mathlib.Core.Logic.{⊎-elim}
 use Prim.Native.Nat.{ℕ, zero, suc, _+_, _*_, _/_, _%_, _<_}
-use native.Mathlib.Nat.{le-refl, le-of-suc-le-suc, not-suc-le-zero, eq-or-lt-of-le, mul-le-mul-right, mul-assoc, mul-one, mod-lt, mod-eq-of-lt, mod-one, div-add-mod', div-eq-of-lt, add-mul-div-right, add-mul-mod-self-right, mul-add-mod-self-right}
+use native.Mathlib.Nat.{le-refl, le-of-suc-le-suc, not-suc-le-zero, eq-or-lt-of-le, mul-le-mul-right, mul-assoc, mul-one, mod-lt}
+use native.Mathlib.Nat.{mod-eq-of-lt, mod-one, div-add-mod', div-eq-of-lt, add-mul-div-right, add-mul-mod-self-right, mul-add-mod-self-right}
 use native.Mathlib.Omega.{arith}
 use Rattle.meaning.specs.Numbering.{size, number, digit, Positive, Digits}
 
