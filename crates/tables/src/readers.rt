@@ -14,6 +14,13 @@ pub const INIT_ROW: u32 = 1;
 
 pub const GOAL_ROW: u32 = 2;
 
+// The first row of the operators' preconditions, of their effects, and of the maps' classes.
+pub const PRE_ROWS: u32 = 3;
+
+pub const EFF_ROWS: u32 = 67;
+
+pub const CLASS_ROWS: u32 = 131;
+
 // The room for the largest task, in places.
 pub const FACTS_ROOM: usize = 1624;
 
@@ -26,7 +33,7 @@ pub fn pre_row(o: OpNo) -> u32
     requires { ⌜ o .0 < mostOps ⌝ }
     ensures { λ r. ⌜ r ≡ preRow (o .0) ⌝ }
 {
-    3 + o.0
+    PRE_ROWS + o.0
 }
 
 // The row of an operator's effects.
@@ -34,7 +41,7 @@ pub fn eff_row(o: OpNo) -> u32
     requires { ⌜ o .0 < mostOps ⌝ }
     ensures { λ r. ⌜ r ≡ effRow (o .0) ⌝ }
 {
-    67 + o.0
+    EFF_ROWS + o.0
 }
 
 // The row of a variable's classes in a map.
@@ -42,7 +49,7 @@ pub fn class_row(m: u32, v: u32) -> u32
     requires { ⌜ (m < mostMaps) × (v < mostVars) ⌝ }
     ensures { λ r. ⌜ r ≡ classRow m v ⌝ }
 {
-    131 + (m * 8 + v)
+    CLASS_ROWS + (m * 8 + v)
 }
 
 // The byte at a place.

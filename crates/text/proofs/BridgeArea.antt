@@ -17,7 +17,7 @@ use Rattle.scan.specs.Scan.{unless, each, splitFault}
 use Rattle.grammar.proofs.SpellClasses.{sum-same, each-same}
 use lib.Dec.{leb}
 use Rattle.grammar.specs.Grammar.{putFact, putCost, putShare}
-use Rattle.text.specs.Inside.Area.{costsByte, sharesByte, putByte, wordIn, putWord, threes, costByte, shareByte, domIn}
+use Rattle.text.specs.Inside.Area.{costsByte, sharesByte, putByte, wordIn, putWord, threes, costByte, shareByte, domIn, areaRoom}
 use Rattle.text.specs.Inside.Control.{mk}
 use Rattle.text.specs.Inside.End.{over}
 use Rattle.text.proofs.BridgeReading.{tablesOf}
@@ -119,27 +119,28 @@ threes-get (suc n) i w zero p e h = let z : p ≡ i = omega arith in rw z
 threes-get (suc n) i w (suc o) p e h = threes-get n (i + 3) w o p (omega arith) (omega arith)
 
 -- ---- the three laws
-module _ (n : Counts) (w : List ℕ) (long : length w ≡ 3352) where
+module _ (n : Counts) (w : List ℕ) (long : length w ≡ areaRoom) where
   pub fact-kept : (p v : ℕ) → p < factsRoom → v < 256 → tablesOf n (putByte w p v) ≡ putFact p v (tablesOf n w)
   unfolding tablesOf putByte
   fact-kept p v h q =
       let e : v % 256 ≡ v = omega arith in
-      rw e (simp (take-set-lt 1624 w p v h, threes-low 64 1624 w p v h, threes-low 512 1816 w p v (omega arith)))
+      rw e (simp (take-set-lt factsRoom w p v h, threes-low costsRoom costsByte w p v h, threes-low sharesRoom sharesByte w p v (omega arith)))
 
-  pub cost-kept : (o v : ℕ) → o < 64 → v < 16777216 → tablesOf n (putWord w (costByte o) v) ≡ putCost o v (tablesOf n w)
+  pub cost-kept : (o v : ℕ) → o < costsRoom → v < 16777216 → tablesOf n (putWord w (costByte o) v) ≡ putCost o v (tablesOf n w)
   unfolding tablesOf
   cost-kept o v h q =
-      simp (put3-take w (costByte o) v 1624 (omega arith), threes-set 64 1624 w o v (costByte o) refl h (omega arith) q, put3-low w (costByte o) v 512 1816 (omega arith))
+      simp (put3-take w (costByte o) v factsRoom (omega arith), threes-set costsRoom costsByte w o v (costByte o) refl h (omega arith) q, put3-low w (costByte o) v sharesRoom sharesByte (omega arith))
 
-  pub share-kept : (i v : ℕ) → i < 512 → v < 16777216 → tablesOf n (putWord w (1816 + 3 * i) v) ≡ putShare i v (tablesOf n w)
+  pub share-kept : (i v : ℕ) → i < sharesRoom → v < 16777216 → tablesOf n (putWord w (sharesByte + 3 * i) v) ≡ putShare i v (tablesOf n w)
   unfolding tablesOf
   share-kept i v h q =
-      simp (put3-take w (1816 + 3 * i) v 1624 (omega arith), put3-high w (1816 + 3 * i) v 64 1624 (omega arith), threes-set 512 1816 w i v (1816 + 3 * i) refl h (omega arith) q)
+      let p = sharesByte + 3 * i in
+      simp (put3-take w p v factsRoom (omega arith), put3-high w p v costsRoom costsByte (omega arith), threes-set sharesRoom sharesByte w i v p refl h (omega arith) q)
 
 -- what stands in the tables
-pub dom-of : (n : Counts) (w : List ℕ) (v : ℕ) → v < 1624 → domAt (tablesOf n w .facts) v ≡ domIn w v
+pub dom-of : (n : Counts) (w : List ℕ) (v : ℕ) → v < factsRoom → domAt (tablesOf n w .facts) v ≡ domIn w v
 unfolding tablesOf
-dom-of n w v h = ap (λ (i : ℕ). getD (take 1624 w) i 0) (zero-add v) ∙ getD-take 1624 w v 0 h
+dom-of n w v h = ap (λ (i : ℕ). getD (take factsRoom w) i 0) (zero-add v) ∙ getD-take factsRoom w v 0 h
 
 -- shares above costs, in the area and in its tables
 pub over-of : (c : Ctrl) (w : List ℕ) (n : Counts) → c .counts ≡ n → n .ops ≤ mostOps → n .maps ≤ mostMaps

@@ -15,17 +15,17 @@ use Rattle.text.specs.declared.Halt.the-variants.{Going, Order}
 use Rattle.grammar.specs.Fields.{isDigit, comma, dash, colon}
 use Rattle.grammar.specs.Grammar.{Verdict, refused, Rest, Part, _▸_, nothing, ask, keep, demand, lit, choice, fits, numeral, putFact, factsFrom, factList}
 use Rattle.text.specs.Inside.Area.{putByte, domIn}
-use Rattle.text.specs.Inside.Control.{mk, up, partBegun, withDigit, dashed}
+use Rattle.text.specs.Inside.Control.{mk, up, partBegun, withDigit, dashed, fieldClass, fieldEnd}
 use Rattle.text.specs.Inside.Fields.{leasts, limit, countsWith, seenWith, noted, fault, stored}
-use Rattle.text.specs.Inside.Steps.{mark, listEnd, afterNumber, dashHere, atNumber, live, byteRead}
+use Rattle.text.specs.Inside.Steps.{mark, listEnd, afterNumber, dashHere, atNumber, live, byteRead, valueCap}
 use Rattle.text.proofs.BridgeReading.{tablesOf, reading, Bytes, byte, cut-short, moves, marked}
 use Rattle.grammar.proofs.Runs.{within-both, Stop, nil, other}
 use Rattle.text.proofs.BridgeNumbers.{beginsDash, pick-same, faulty, sound-end, sound-byte, number-ok}
 use Rattle.text.proofs.BridgeArea.{fact-kept, dom-of}
-use Rattle.text.proofs.BridgeRows.{num, then-mark, fault-plain, no-fault, Fits, Known, known-put}
+use Rattle.text.proofs.BridgeRows.{num, then-mark, fault-plain, no-fault, Fits, Known, known-put, ofVar, fromVar}
 
 -- a number, with its range named
-module _ (c : Ctrl) (w : List ℕ) (lo lim : ℕ) (e : getD leasts (c .spot .field) 0 ≡ lo) (q : limit c w ≡ lim) (h : c .spot .field ≡ 15 → ⊥) (low : lo ≤ 4294967295) (cap : lim ≤ 4294967295)
+module _ (c : Ctrl) (w : List ℕ) (lo lim : ℕ) (e : getD leasts (c .spot .field) 0 ≡ lo) (q : limit c w ≡ lim) (h : c .spot .field ≡ fieldEnd → ⊥) (low : lo ≤ valueCap) (cap : lim ≤ valueCap)
     (p : ℕ → Part) (T : Tables) (k : Rest)
     (ok : (r v : ℕ) (t : List ℕ) → (r ≡ 0 → ⊥) → Stop t → Bytes t → fits v (getD leasts (c .spot .field) 0) (limit c w) ≡ true → fits v lo lim ≡ true
     → reading (withDigit c r v) w t ≡ p v t (c .line) T k) where
@@ -43,24 +43,24 @@ bare-least c (b ∷ t) h = simp (ne-eqb (c .turn .least) 0 h, pick-same)
 
 -- what the machine does with the numbers of a list: variables in field f, values in field g, kept at their places; the mark x ends it, and then d is the control
 pub record FactList (l f g r : ℕ) (n : Counts) (place : ℕ → ℕ) (x : ℕ) (d : Ctrl) : Type 0 where
-  pub var15 : f ≡ 15 → ⊥
-  pub var13 : f ≡ 13 → ⊥
-  pub val15 : g ≡ 15 → ⊥
-  pub val13 : g ≡ 13 → ⊥
+  pub var-goes : f ≡ fieldEnd → ⊥
+  pub var-plain : f ≡ fieldClass → ⊥
+  pub val-goes : g ≡ fieldEnd → ⊥
+  pub val-plain : g ≡ fieldClass → ⊥
   pub var-least : getD leasts f 0 ≡ 0
   pub val-least : getD leasts g 0 ≡ 0
-  pub var-limit : (m : ℕ) (w : List ℕ) → limit (num l f 0 m 0 r 0 1 n) w ≡ n .vars
-  pub val-limit : (v : ℕ) (w : List ℕ) → limit (num l g v 0 0 r 0 1 n) w ≡ domIn w v
-  pub var-kept : (m z v : ℕ) (w : List ℕ) → stored (withDigit (num l f 0 m 0 r 0 1 n) z v) w ≡ w
-  pub val-kept : (v z y : ℕ) (w : List ℕ) → stored (withDigit (num l g v 0 0 r 0 1 n) z y) w ≡ putByte w (place v) (up y)
+  pub var-limit : (m : ℕ) (w : List ℕ) → limit (fromVar l f m r n) w ≡ n .vars
+  pub val-limit : (v : ℕ) (w : List ℕ) → limit (ofVar l g v r n) w ≡ domIn w v
+  pub var-kept : (m z v : ℕ) (w : List ℕ) → stored (withDigit (fromVar l f m r n) z v) w ≡ w
+  pub val-kept : (v z y : ℕ) (w : List ℕ) → stored (withDigit (ofVar l g v r n) z y) w ≡ putByte w (place v) (up y)
   pub var-after : (m z v b : ℕ) (w : List ℕ)
-      → afterNumber (noted (withDigit (num l f 0 m 0 r 0 1 n) z v)) w b ≡ mark (noted (withDigit (num l f 0 m 0 r 0 1 n) z v)) b colon (num l g v 0 0 r 0 1 n)
+      → afterNumber (noted (withDigit (fromVar l f m r n) z v)) w b ≡ mark (noted (withDigit (fromVar l f m r n) z v)) b colon (ofVar l g v r n)
   pub val-after : (v z y b : ℕ) (w : List ℕ)
-      → afterNumber (noted (withDigit (num l g v 0 0 r 0 1 n) z y)) w b
-      ≡ cond (eqb b comma) (num l f 0 (up v) 0 r 0 1 n) (mark (noted (withDigit (num l g v 0 0 r 0 1 n) z y)) b x d)
-  pub val-bare : (v : ℕ) (t : List ℕ) → beginsDash (num l g v 0 0 r 0 1 n) t ≡ false
-  pub var-dash : (b : ℕ) → dashHere (withDigit (num l f 0 0 0 r 0 1 n) 0 0) b ≡ eqb b dash
-  pub dash-ends : (b : ℕ) → listEnd (dashed (num l f 0 0 0 r 0 1 n)) b ≡ mark (dashed (num l f 0 0 0 r 0 1 n)) b x d
+      → afterNumber (noted (withDigit (ofVar l g v r n) z y)) w b
+      ≡ cond (eqb b comma) (fromVar l f (up v) r n) (mark (noted (withDigit (ofVar l g v r n) z y)) b x d)
+  pub val-bare : (v : ℕ) (t : List ℕ) → beginsDash (ofVar l g v r n) t ≡ false
+  pub var-dash : (b : ℕ) → dashHere (withDigit (fromVar l f 0 r n) 0 0) b ≡ eqb b dash
+  pub dash-ends : (b : ℕ) → listEnd (dashed (fromVar l f 0 r n)) b ≡ mark (dashed (fromVar l f 0 r n)) b x d
   pub room : (v : ℕ) → v < 8 → (8 ≤ place v) × (place v < 1624)
 
 module _ (l f g r : ℕ) (n : Counts) (place : ℕ → ℕ) (x : ℕ) (d : Ctrl) (L : FactList l f g r n place x d) (sized : Fits n) (k : Rest)
@@ -69,18 +69,18 @@ module _ (l f g r : ℕ) (n : Counts) (place : ℕ → ℕ) (x : ℕ) (d : Ctrl)
   ends : Rest
   ends u m U = lit (x ∷ []) u m U k
 
-  rising : (m z v : ℕ) (w t : List ℕ) → (z ≡ 0 → ⊥) → Stop t → fits v (getD leasts f 0) (limit (num l f 0 m 0 r 0 1 n) w) ≡ true → v < m
-      → reading (withDigit (num l f 0 m 0 r 0 1 n) z v) w t ≡ refused (NotRising l)
+  rising : (m z v : ℕ) (w t : List ℕ) → (z ≡ 0 → ⊥) → Stop t → fits v (getD leasts f 0) (limit (fromVar l f m r n) w) ≡ true → v < m
+      → reading (withDigit (fromVar l f m r n) z v) w t ≡ refused (NotRising l)
   rising m z v w t y o s h =
-      faulty (num l f 0 m 0 r 0 1 n) w z v Order (NotRising l) (L .var15) y o (fault-plain (num l f 0 m 0 r 0 1 n) w z v y (L .var13) s ∙ rw (lt-leb m v h)) refl refl
+      faulty (fromVar l f m r n) w z v Order (NotRising l) (L .var-goes) y o (fault-plain (fromVar l f m r n) w z v y (L .var-plain) s ∙ rw (lt-leb m v h)) refl refl
 
   module _ (N v : ℕ) (hv : v < n .vars)
-      (rest : (w : List ℕ) → Known (n .vars) w → (t : List ℕ) → Bytes t → reading (num l f 0 (v + 1) 0 r 0 1 n) w t ≡ factsFrom place N (v + 1) t l (tablesOf n w) ends) where
+      (rest : (w : List ℕ) → Known (n .vars) w → (t : List ℕ) → Bytes t → reading (fromVar l f (v + 1) r n) w t ≡ factsFrom place N (v + 1) t l (tablesOf n w) ends) where
     -- after a value: a comma means one more fact, anything else ends the list
-    more-or-end : (z y : ℕ) (w u : List ℕ) → Known (n .vars) w → (z ≡ 0 → ⊥) → Stop u → Bytes u → y < 8 → fault (withDigit (num l g v 0 0 r 0 1 n) z y) w ≡ Going
-        → reading (withDigit (num l g v 0 0 r 0 1 n) z y) w u ≡ choice comma (factsFrom place N (v + 1)) nothing u l (tablesOf n (putByte w (place v) (up y))) ends
+    more-or-end : (z y : ℕ) (w u : List ℕ) → Known (n .vars) w → (z ≡ 0 → ⊥) → Stop u → Bytes u → y < 8 → fault (withDigit (ofVar l g v r n) z y) w ≡ Going
+        → reading (withDigit (ofVar l g v r n) z y) w u ≡ choice comma (factsFrom place N (v + 1)) nothing u l (tablesOf n (putByte w (place v) (up y))) ends
     unfolding choice nothing lit ends noted withDigit seenWith countsWith
-    more-or-end z y w u p q nil a h e = sound-end (num l g v 0 0 r 0 1 n) w z y (L .val15) e
+    more-or-end z y w u p q nil a h e = sound-end (ofVar l g v r n) w z y (L .val-goes) e
     more-or-end z y w u p q (other {b = b} {t = t} o) (byte b₁ a) h e = move ∙ split (eqb b comma) refl
       where
         w₁ : List ℕ
@@ -89,89 +89,89 @@ module _ (l f g r : ℕ) (n : Counts) (place : ℕ → ℕ) (x : ℕ) (d : Ctrl)
         known : Known (n .vars) w₁
         known = let j = sized .high in let i = L .room v (omega arith) in known-put p (place v) (up y) (omega arith)
 
-        move : reading (withDigit (num l g v 0 0 r 0 1 n) z y) w (b ∷ t)
-            ≡ reading (cond (eqb b comma) (num l f 0 (up v) 0 r 0 1 n) (mark (noted (withDigit (num l g v 0 0 r 0 1 n) z y)) b x d)) w₁ t
+        move : reading (withDigit (ofVar l g v r n) z y) w (b ∷ t)
+            ≡ reading (cond (eqb b comma) (fromVar l f (up v) r n) (mark (noted (withDigit (ofVar l g v r n) z y)) b x d)) w₁ t
         move =
-            sound-byte (num l g v 0 0 r 0 1 n) w z y b t q o e
-            ∙ ap (λ (c : Ctrl). reading c (stored (withDigit (num l g v 0 0 r 0 1 n) z y) w) t) (L .val-after v z y b w)
-            ∙ ap (λ (u₁ : List ℕ). reading (cond (eqb b comma) (num l f 0 (up v) 0 r 0 1 n) (mark (noted (withDigit (num l g v 0 0 r 0 1 n) z y)) b x d)) u₁ t) (L .val-kept v z y w)
+            sound-byte (ofVar l g v r n) w z y b t q o e
+            ∙ ap (λ (c : Ctrl). reading c (stored (withDigit (ofVar l g v r n) z y) w) t) (L .val-after v z y b w)
+            ∙ ap (λ (u₁ : List ℕ). reading (cond (eqb b comma) (fromVar l f (up v) r n) (mark (noted (withDigit (ofVar l g v r n) z y)) b x d)) u₁ t) (L .val-kept v z y w)
 
         split : (s : Bool) → eqb b comma ≡ s
-            → reading (cond (eqb b comma) (num l f 0 (up v) 0 r 0 1 n) (mark (noted (withDigit (num l g v 0 0 r 0 1 n) z y)) b x d)) w₁ t
+            → reading (cond (eqb b comma) (fromVar l f (up v) r n) (mark (noted (withDigit (ofVar l g v r n) z y)) b x d)) w₁ t
             ≡ cond {A = List ℕ → Verdict} (eqb b comma) (λ u₁. factsFrom place N (v + 1) u₁ l (tablesOf n w₁) ends) (λ u₁. lit (x ∷ []) (b ∷ u₁) l (tablesOf n w₁) k) t
         split true j =
             rw j
-            (ap (λ (m : ℕ). reading (num l f 0 m 0 r 0 1 n) w₁ t) (let i = sized .high in let e₁ : up v ≡ v + 1 = omega arith in e₁) ∙ rest w₁ known t a)
-        split false j = rw j (marked (noted (withDigit (num l g v 0 0 r 0 1 n) z y)) d w₁ b x [] t (tablesOf n w₁) k (λ i. ok w₁ known t a))
+            (ap (λ (m : ℕ). reading (fromVar l f m r n) w₁ t) (let i = sized .high in let e₁ : up v ≡ v + 1 = omega arith in e₁) ∙ rest w₁ known t a)
+        split false j = rw j (marked (noted (withDigit (ofVar l g v r n) z y)) d w₁ b x [] t (tablesOf n w₁) k (λ i. ok w₁ known t a))
 
     value-ok : (w : List ℕ) → Known (n .vars) w → (t : List ℕ) → Bytes t
-        → reading (num l g v 0 0 r 0 1 n) w t
+        → reading (ofVar l g v r n) w t
         ≡ numeral 0 (domAt (tablesOf n w .facts) v) (λ y. keep (putFact (place v) (y + 1)) ▸ choice comma (factsFrom place N (v + 1)) nothing) t l (tablesOf n w) ends
     unfolding keep _▸_ withDigit
     value-ok w p t a =
         let j = sized .high in
         let i = p .doms v hv in
         let e : domIn w v ≡ domAt (tablesOf n w .facts) v = sym (dom-of n w v (omega arith)) in
-        number-at (num l g v 0 0 r 0 1 n) w 0 (domAt (tablesOf n w .facts) v) (L .val-least) (L .val-limit v w ∙ e) (L .val15) (omega arith) (omega arith) _ (tablesOf n w) ends
+        number-at (ofVar l g v r n) w 0 (domAt (tablesOf n w .facts) v) (L .val-least) (L .val-limit v w ∙ e) (L .val-goes) (omega arith) (omega arith) _ (tablesOf n w) ends
         (λ z y u q o b s s₁.
         let h : y < 8 = omega (arith, within-both y 0 (domAt (tablesOf n w .facts) v) s₁) in
         let e₁ : up y ≡ y + 1 = omega arith in
         let m = L .room v (omega arith) in
-        more-or-end z y w u p q o b h (no-fault (num l g v 0 0 r 0 1 n) w z y q (L .val13) s zero-le)
+        more-or-end z y w u p q o b h (no-fault (ofVar l g v r n) w z y q (L .val-plain) s zero-le)
         ∙ ap (λ (T : Tables). choice comma (factsFrom place N (v + 1)) nothing u l T ends)
         (ap (λ (i₁ : ℕ). tablesOf n (putByte w (place v) i₁)) e₁ ∙ fact-kept n w (p .long) (place v) (y + 1) (m .1) (omega arith)))
         t a (L .val-bare v t)
 
   -- a variable: its order, its colon, its value
   variable-ok : (N m : ℕ) (w : List ℕ) → Known (n .vars) w
-      → ((v : ℕ) → m ≤ v → (w₁ : List ℕ) → Known (n .vars) w₁ → (t : List ℕ) → Bytes t → reading (num l f 0 (v + 1) 0 r 0 1 n) w₁ t ≡ factsFrom place N (v + 1) t l (tablesOf n w₁) ends)
-      → (z v : ℕ) (u : List ℕ) → (z ≡ 0 → ⊥) → Stop u → Bytes u → fits v (getD leasts f 0) (limit (num l f 0 m 0 r 0 1 n) w) ≡ true → v < n .vars
+      → ((v : ℕ) → m ≤ v → (w₁ : List ℕ) → Known (n .vars) w₁ → (t : List ℕ) → Bytes t → reading (fromVar l f (v + 1) r n) w₁ t ≡ factsFrom place N (v + 1) t l (tablesOf n w₁) ends)
+      → (z v : ℕ) (u : List ℕ) → (z ≡ 0 → ⊥) → Stop u → Bytes u → fits v (getD leasts f 0) (limit (fromVar l f m r n) w) ≡ true → v < n .vars
       → (j : Bool) → leb m v ≡ j
-      → reading (withDigit (num l f 0 m 0 r 0 1 n) z v) w u
+      → reading (withDigit (fromVar l f m r n) z v) w u
       ≡ demand (leb m v) NotRising u l (tablesOf n w) (λ u₁ l₁ T. lit (colon ∷ []) u₁ l₁ T
       (λ u₂ l₂ T₂. numeral 0 (domAt (tablesOf n w .facts) v) (λ y. keep (putFact (place v) (y + 1)) ▸ choice comma (factsFrom place N (v + 1)) nothing) u₂ l₂ T₂ ends))
   unfolding demand
   variable-ok N m w p again z v u y o b s i true j =
       rw j
-      (then-mark (num l f 0 m 0 r 0 1 n) w z v colon (num l g v 0 0 r 0 1 n) (tablesOf n w) _ (L .var15) y (no-fault (num l f 0 m 0 r 0 1 n) w z v y (L .var13) s (leb-true m v j))
+      (then-mark (fromVar l f m r n) w z v colon (ofVar l g v r n) (tablesOf n w) _ (L .var-goes) y (no-fault (fromVar l f m r n) w z v y (L .var-plain) s (leb-true m v j))
       (λ x₁. L .var-after m z v x₁ w)
       (λ u₁ b₁. rw (L .var-kept m z v w) (value-ok N v i (again v (leb-true m v j)) w p u₁ b₁)) o b)
   variable-ok N m w p again z v u y o b s i false j = rw j (rising m z v w u y o s (leb-false m v j))
 
-  facts-ok : (N m : ℕ) → n .vars ≤ N + m → (w : List ℕ) → Known (n .vars) w → (t : List ℕ) → Bytes t → beginsDash (num l f 0 m 0 r 0 1 n) t ≡ false
-      → reading (num l f 0 m 0 r 0 1 n) w t ≡ factsFrom place N m t l (tablesOf n w) ends
+  facts-ok : (N m : ℕ) → n .vars ≤ N + m → (w : List ℕ) → Known (n .vars) w → (t : List ℕ) → Bytes t → beginsDash (fromVar l f m r n) t ≡ false
+      → reading (fromVar l f m r n) w t ≡ factsFrom place N m t l (tablesOf n w) ends
   unfolding factsFrom demand tablesOf withDigit _▸_
   facts-ok zero m h w p t a e =
-      number-at (num l f 0 m 0 r 0 1 n) w 0 (n .vars) (L .var-least) (L .var-limit m w) (L .var15) (omega arith) (let y = sized .high in omega arith) _ (tablesOf n w) ends
+      number-at (fromVar l f m r n) w 0 (n .vars) (L .var-least) (L .var-limit m w) (L .var-goes) (omega arith) (let y = sized .high in omega arith) _ (tablesOf n w) ends
       (λ z v u y o b s q. let j = within-both v 0 (n .vars) q in rising m z v w u y o s (omega arith)) t a e
   facts-ok (suc N) m h w p t a e =
-      number-at (num l f 0 m 0 r 0 1 n) w 0 (n .vars) (L .var-least) (L .var-limit m w) (L .var15) (omega arith) (let y = sized .high in omega arith) _ (tablesOf n w) ends
+      number-at (fromVar l f m r n) w 0 (n .vars) (L .var-least) (L .var-limit m w) (L .var-goes) (omega arith) (let y = sized .high in omega arith) _ (tablesOf n w) ends
       (λ z v u y o b s q.
-      variable-ok N m w p (λ v₁ i w₁ p₁ u₁ b₁. facts-ok N (v₁ + 1) (omega arith) w₁ p₁ u₁ b₁ (bare-least (num l f 0 (v₁ + 1) 0 r 0 1 n) u₁ (λ q₁. omega arith)))
+      variable-ok N m w p (λ v₁ i w₁ p₁ u₁ b₁. facts-ok N (v₁ + 1) (omega arith) w₁ p₁ u₁ b₁ (bare-least (fromVar l f (v₁ + 1) r n) u₁ (λ q₁. omega arith)))
       z v u y o b s (within-both v 0 (n .vars) q .1) (leb m v) refl)
       t a e
 
   -- the dash of an empty list, and what ends it
-  dash-step : (w : List ℕ) → byteRead (mk (num l f 0 0 0 r 0 1 n) w) dash ≡ mk (dashed (num l f 0 0 0 r 0 1 n)) w
+  dash-step : (w : List ℕ) → byteRead (mk (fromVar l f 0 r n) w) dash ≡ mk (dashed (fromVar l f 0 r n)) w
   unfolding byteRead live atNumber withDigit isDigit
   dash-step w = rw (L .var-dash dash)
 
-  dash-ok : (w t : List ℕ) → Known (n .vars) w → Bytes t → reading (dashed (num l f 0 0 0 r 0 1 n)) w t ≡ ends t l (tablesOf n w)
+  dash-ok : (w t : List ℕ) → Known (n .vars) w → Bytes t → reading (dashed (fromVar l f 0 r n)) w t ≡ ends t l (tablesOf n w)
   unfolding ends lit dashed partBegun byteRead live
-  dash-ok w [] p a = cut-short (dashed (num l f 0 0 0 r 0 1 n)) w refl (L .var15) refl
+  dash-ok w [] p a = cut-short (dashed (fromVar l f 0 r n)) w refl (L .var-goes) refl
   dash-ok w (b ∷ t) p (byte h a) =
-      moves (dashed (num l f 0 0 0 r 0 1 n)) _ w w b t (ap (λ (c : Ctrl). mk c w) (L .dash-ends b))
-      ∙ marked (dashed (num l f 0 0 0 r 0 1 n)) d w b x [] t (tablesOf n w) k (λ q. ok w p t a)
+      moves (dashed (fromVar l f 0 r n)) _ w w b t (ap (λ (c : Ctrl). mk c w) (L .dash-ends b))
+      ∙ marked (dashed (fromVar l f 0 r n)) d w b x [] t (tablesOf n w) k (λ q. ok w p t a)
 
   pub list-ok : (w : List ℕ) → Known (n .vars) w → (t : List ℕ) → Bytes t
-      → reading (num l f 0 0 0 r 0 1 n) w t ≡ factList place t l (tablesOf n w) (λ u m U. lit (x ∷ []) u m U k)
+      → reading (fromVar l f 0 r n) w t ≡ factList place t l (tablesOf n w) (λ u m U. lit (x ∷ []) u m U k)
   unfolding factList choice ask nothing ends tablesOf
   list-ok w p [] a = facts-ok (n .vars) 0 (omega arith) w p [] a refl
   list-ok w p (b ∷ t) (byte h a) = split (eqb b dash) refl
     where
       split : (q : Bool) → eqb b dash ≡ q
-          → reading (num l f 0 0 0 r 0 1 n) w (b ∷ t)
+          → reading (fromVar l f 0 r n) w (b ∷ t)
           ≡ cond {A = List ℕ → Verdict} (eqb b dash) (λ u. ends u l (tablesOf n w)) (λ u. factsFrom place (n .vars) 0 (b ∷ u) l (tablesOf n w) ends) t
       split true q =
-          rw (eqb-true b dash q) (moves (num l f 0 0 0 r 0 1 n) (dashed (num l f 0 0 0 r 0 1 n)) w w dash t (dash-step w) ∙ dash-ok w t p a)
+          rw (eqb-true b dash q) (moves (fromVar l f 0 r n) (dashed (fromVar l f 0 r n)) w w dash t (dash-step w) ∙ dash-ok w t p a)
       split false q = rw q (facts-ok (n .vars) 0 (omega arith) w p (b ∷ t) (byte h a) (L .var-dash b ∙ q))

@@ -27,41 +27,41 @@ use Rattle.grammar.specs.Fields.{comma, slash, lineEnd}
 use Rattle.grammar.specs.Grammar.{Rest, _▸_, nothing, ask, keep, demand, lit, fits, parted, putFact, numberRow, classList, classLists, mapClasses}
 use Rattle.grammar.proofs.SpellClasses.{count-same, size-same}
 use Rattle.text.specs.Inside.Area.{areaRoom, putByte, domIn}
-use Rattle.text.specs.Inside.Control.{up, due, withDigit, partBegun, toLine, rowOr, nextLine}
-use Rattle.text.specs.Inside.Fields.{limit, withClass, width, gapless, times, countsWith, seenWith, noted, lastClass, lastVar, classFault, before, fault, stored, kind}
+use Rattle.text.specs.Inside.Control.{up, due, withDigit, partBegun, toLine, rowOr, nextLine, fieldClass, fieldShare}
+use Rattle.text.specs.Inside.Fields.{limit, withClass, width, gapless, times, countsWith, seenWith, noted, lastClass, lastVar, classFault, before, fault, stored, kind, statesOver}
 use Rattle.text.specs.Inside.Steps.{mark, afterClass, afterNumber}
 use Rattle.text.proofs.BridgeReading.{tablesOf, reading, Bytes}
 use Rattle.text.proofs.BridgeNumbers.{run-of, faulty}
 use Rattle.grammar.proofs.Runs.{within-both, Stop}
 use Rattle.text.proofs.BridgeArea.{fact-kept, dom-of, put-getD}
-use Rattle.text.proofs.BridgeRows.{num, then-mark, judged-in, Fits, Known, known-put}
+use Rattle.text.proofs.BridgeRows.{num, then-mark, judged-in, Fits, Known, known-put, aClass}
 use Rattle.text.proofs.BridgeLines.{eol, bare}
 use Rattle.text.proofs.BridgeFacts.{number-at}
 use Rattle.text.proofs.BridgeOps.{afterRow}
 
 -- ---- the abstract states so far, capped
-times-cap : (s c : ℕ) → 1 ≤ c → times (min s 4097) c ≡ min (s * c) 4097
+times-cap : (s c : ℕ) → 1 ≤ c → times (min s statesOver) c ≡ min (s * c) statesOver
 unfolding times
 times-cap s zero h = let n : ⊥ = omega arith in absurd n
-times-cap s (suc c) h = split (ltb 4096 (min s 4097)) refl
+times-cap s (suc c) h = split (ltb mostStates (min s statesOver)) refl
   where
-    split : (q : Bool) → ltb 4096 (min s 4097) ≡ q → cond (ltb 4096 (min s 4097)) 4097 (min (min s 4097 * suc c) 4097) ≡ min (s * suc c) 4097
-    split true e = let g = ltb-true 4096 (min s 4097) e in rw e (omega arith)
+    split : (q : Bool) → ltb mostStates (min s statesOver) ≡ q → cond (ltb mostStates (min s statesOver)) statesOver (min (min s statesOver * suc c) statesOver) ≡ min (s * suc c) statesOver
+    split true e = let g = ltb-true mostStates (min s statesOver) e in rw e (omega arith)
     split false e =
-        let g = ltb-false 4096 (min s 4097) e in
-        let y : min s 4097 ≡ s = omega arith in
+        let g = ltb-false mostStates (min s statesOver) e in
+        let y : min s statesOver ≡ s = omega arith in
         rw e (rw y)
 
 -- ---- the byte after a class
 module _ (l v i r m p : ℕ) (n : Counts) (z x b : ℕ) (w : List ℕ) where
   class-more : i + 1 < domIn w v → i < 8
-      → afterNumber (noted (withDigit (num l 13 v 0 i r m p n) z x)) w b ≡ mark (noted (withDigit (num l 13 v 0 i r m p n) z x)) b comma (num l 13 v 0 (i + 1) r (withClass m x) p n)
+      → afterNumber (noted (withDigit (aClass l v i r m p n) z x)) w b ≡ mark (noted (withDigit (aClass l v i r m p n) z x)) b comma (aClass l v (i + 1) r (withClass m x) p n)
   unfolding afterNumber kind afterClass lastClass noted withDigit due seenWith countsWith
   class-more h g = let e : up i ≡ i + 1 = omega arith in rw (e, ne-eqb (i + 1) (domIn w v) (λ q. omega arith))
 
   class-slash : i + 1 ≡ domIn w v → i < 8 → v + 1 < n .vars → v < 8
-      → afterNumber (noted (withDigit (num l 13 v 0 i r m p n) z x)) w b
-      ≡ mark (noted (withDigit (num l 13 v 0 i r m p n) z x)) b slash (num l 13 (v + 1) 0 0 r 0 (times p (width (withClass m x))) n)
+      → afterNumber (noted (withDigit (aClass l v i r m p n) z x)) w b
+      ≡ mark (noted (withDigit (aClass l v i r m p n) z x)) b slash (aClass l (v + 1) 0 r 0 (times p (width (withClass m x))) n)
   unfolding afterNumber kind afterClass lastClass lastVar noted withDigit due seenWith countsWith
   class-slash h g e y =
       let q : up i ≡ domIn w v = omega arith in
@@ -69,7 +69,7 @@ module _ (l v i r m p : ℕ) (n : Counts) (z x b : ℕ) (w : List ℕ) where
       rw (eq-eqb (up i) (domIn w v) q, s, ne-eqb (v + 1) (n .vars) (λ o. omega arith))
 
   class-end : i + 1 ≡ domIn w v → i < 8 → v + 1 ≡ n .vars → v < 8
-      → afterNumber (noted (withDigit (num l 13 v 0 i r m p n) z x)) w b ≡ mark (noted (withDigit (num l 13 v 0 i r m p n) z x)) b lineEnd (afterRow l 13 14 r (n .maps) n)
+      → afterNumber (noted (withDigit (aClass l v i r m p n) z x)) w b ≡ mark (noted (withDigit (aClass l v i r m p n) z x)) b lineEnd (afterRow l fieldClass fieldShare r (n .maps) n)
   unfolding afterNumber kind afterClass lastClass lastVar noted withDigit nextLine rowOr toLine partBegun seenWith countsWith
   class-end h g e y =
       let q : up i ≡ domIn w v = omega arith in
@@ -78,16 +78,16 @@ module _ (l v i r m p : ℕ) (n : Counts) (z x b : ℕ) (w : List ℕ) where
 
 -- ---- the fault told after a class
 module _ (l v i r m p : ℕ) (n : Counts) (z x : ℕ) (w : List ℕ) (y : z ≡ 0 → ⊥) (s : fits x 0 (domIn w v) ≡ true) where
-  class-fault : fault (withDigit (num l 13 v 0 i r m p n) z x) w ≡ before (noted (withDigit (num l 13 v 0 i r m p n) z x)) w
+  class-fault : fault (withDigit (aClass l v i r m p n) z x) w ≡ before (noted (withDigit (aClass l v i r m p n) z x)) w
   unfolding fault limit
-  class-fault = rw (judged-in (num l 13 v 0 i r m p n) w z x s, run-of (num l 13 v 0 i r m p n) z x, ne-eqb z 0 y, le-leb 0 x zero-le)
+  class-fault = rw (judged-in (aClass l v i r m p n) w z x s, run-of (aClass l v i r m p n) z x, ne-eqb z 0 y, le-leb 0 x zero-le)
 
-  none-yet : i + 1 < domIn w v → i < 8 → fault (withDigit (num l 13 v 0 i r m p n) z x) w ≡ Going
+  none-yet : i + 1 < domIn w v → i < 8 → fault (withDigit (aClass l v i r m p n) z x) w ≡ Going
   unfolding before lastClass noted withDigit seenWith countsWith
   none-yet h g = class-fault ∙ (let e : up i ≡ i + 1 = omega arith in rw (e, ne-eqb (i + 1) (domIn w v) (λ q. omega arith)))
 
   told-last : i + 1 ≡ domIn w v → i < 8
-      → fault (withDigit (num l 13 v 0 i r m p n) z x) w
+      → fault (withDigit (aClass l v i r m p n) z x) w
       ≡ cond (gapless (withClass m x)) (cond (eqb (up v) (n .vars)) (cond (ltb mostStates (times p (width (withClass m x)))) States Going) Going) Missing
   unfolding before lastClass classFault lastVar noted withDigit seenWith countsWith
   told-last h g = class-fault ∙ (let e : up i ≡ domIn w v = omega arith in rw (eq-eqb (up i) (domIn w v) e))
@@ -154,7 +154,7 @@ module _ (n : Counts) (r v i x : ℕ) (w : List ℕ) (long : length w ≡ areaRo
 record At (n : Counts) (r v i p : ℕ) (w : List ℕ) : Type 0 where
   known : Known (n .vars) w
   below : (j : ℕ) → j < i → cls n w r v j < domIn w v
-  prod : p ≡ min (size (counted n w r) v) 4097
+  prod : p ≡ min (size (counted n w r) v) statesOver
 
 module _ (n : Counts) (sized : Fits n) (r v i x p : ℕ) (hr : r < 8) (hv : v < n .vars) (w : List ℕ) (g : At n r v i p w) (hi : i < domIn w v)
     (hx : x < domIn w v) where
@@ -195,48 +195,48 @@ module _ (n : Counts) (sized : Fits n) (r v i x p : ℕ) (hr : r < 8) (hv : v < 
       record {
         known = known-put (g .known) (classPlace r v i) x (let y = sized .high in omega arith);
         below = λ j l. rw dom-same (kept-below j l);
-        prod = g .prod ∙ ap (λ (s : ℕ). min s 4097) (sym sizes-stay);
+        prod = g .prod ∙ ap (λ (s : ℕ). min s statesOver) (sym sizes-stay);
       }
 
 -- ---- the classes of one variable; `last` reads its last class and what follows
 module _ (l r v : ℕ) (n : Counts) (sized : Fits n) (hr : r < 8) (hv : v < n .vars) (p : ℕ) (K : Rest)
     (last : (i z x : ℕ) (w u : List ℕ) → At n r v i p w → i + 1 ≡ domIn w v → (z ≡ 0 → ⊥) → fits x 0 (domIn w v) ≡ true → Stop u → Bytes u
-    → reading (withDigit (num l 13 v 0 i r (maskOf (cls n w r v) i) p n) z x) w u ≡ K u l (tablesOf n (putByte w (classPlace r v i) x))) where
+    → reading (withDigit (aClass l v i r (maskOf (cls n w r v) i) p n) z x) w u ≡ K u l (tablesOf n (putByte w (classPlace r v i) x))) where
   classes-ok : (m i : ℕ) (w : List ℕ) → At n r v i p w → i + suc m ≡ domIn w v → (t : List ℕ) → Bytes t
-      → reading (num l 13 v 0 i r (maskOf (cls n w r v) i) p n) w t
+      → reading (aClass l v i r (maskOf (cls n w r v) i) p n) w t
       ≡ numberRow 0 (λ x U. domAt (U .facts) v) (λ x c. putFact (classPlace r v x) c) (suc m) i t l (tablesOf n w) K
   unfolding numberRow keep parted _▸_ limit stored withDigit kind
   classes-ok zero i w g e t a =
       let h = sized .high in
       let d = g .known .doms v hv in
       let q : domIn w v ≡ domAt (tablesOf n w .facts) v = sym (dom-of n w v (omega arith)) in
-      number-at (num l 13 v 0 i r (maskOf (cls n w r v) i) p n) w 0 (domAt (tablesOf n w .facts) v) refl q (λ z. omega arith) (omega arith) (omega arith) _ (tablesOf n w) K
+      number-at (aClass l v i r (maskOf (cls n w r v) i) p n) w 0 (domAt (tablesOf n w .facts) v) refl q (λ z. omega arith) (omega arith) (omega arith) _ (tablesOf n w) K
       (λ z x u y o b s s₁.
       let j = within-both x 0 (domIn w v) s in
       last i z x w u g (omega arith) y s o b ∙ ap (λ (T : Tables). K u l T) (fact-kept n w (g .known .long) (classPlace r v i) x (omega arith) (omega arith)))
-      t a (bare (num l 13 v 0 i r (maskOf (cls n w r v) i) p n) t refl)
+      t a (bare (aClass l v i r (maskOf (cls n w r v) i) p n) t refl)
   classes-ok (suc m) i w g e t a =
       let h = sized .high in
       let d = g .known .doms v hv in
       let q : domIn w v ≡ domAt (tablesOf n w .facts) v = sym (dom-of n w v (omega arith)) in
-      number-at (num l 13 v 0 i r (maskOf (cls n w r v) i) p n) w 0 (domAt (tablesOf n w .facts) v) refl q (λ z. omega arith) (omega arith) (omega arith) _ (tablesOf n w) K
+      number-at (aClass l v i r (maskOf (cls n w r v) i) p n) w 0 (domAt (tablesOf n w .facts) v) refl q (λ z. omega arith) (omega arith) (omega arith) _ (tablesOf n w) K
       (λ z x u y o b s s₁.
       let j = within-both x 0 (domIn w v) s in
       let w₁ = putByte w (classPlace r v i) x in
       let rest : Rest = λ u₁ m₁ U. numberRow 0 (λ x₁ U₁. domAt (U₁ .facts) v) (λ x₁ c. putFact (classPlace r v x₁) c) (suc m) (i + 1) u₁ m₁ U K in
-      then-mark (num l 13 v 0 i r (maskOf (cls n w r v) i) p n) w z x comma (num l 13 v 0 (i + 1) r (maskOf (cls n w₁ r v) (i + 1)) p n) (tablesOf n w₁) rest (λ f. omega arith) y
+      then-mark (aClass l v i r (maskOf (cls n w r v) i) p n) w z x comma (aClass l v (i + 1) r (maskOf (cls n w₁ r v) (i + 1)) p n) (tablesOf n w₁) rest (λ f. omega arith) y
       (none-yet l v i r (maskOf (cls n w r v) i) p n z x w y s (omega arith) (omega arith))
       (λ c. class-more l v i r (maskOf (cls n w r v) i) p n z x c w (omega arith) (omega arith)
-      ∙ ap (λ (c₁ : ℕ). mark (noted (withDigit (num l 13 v 0 i r (maskOf (cls n w r v) i) p n) z x)) c comma (num l 13 v 0 (i + 1) r c₁ p n))
+      ∙ ap (λ (c₁ : ℕ). mark (noted (withDigit (aClass l v i r (maskOf (cls n w r v) i) p n) z x)) c comma (aClass l v (i + 1) r c₁ p n))
       (mask-goes n sized r v i x p hr hv w g (omega arith) (j .1)))
       (classes-ok m (i + 1) w₁ (next-at n sized r v i x p hr hv w g (omega arith) (j .1))
       (let f : domIn w₁ v ≡ domIn w v = dom-same n sized r v i x p hr hv w g (omega arith) (j .1) in omega arith)) o b
       ∙ ap (λ (T : Tables). lit (comma ∷ []) u l T rest) (fact-kept n w (g .known .long) (classPlace r v i) x (omega arith) (omega arith)))
-      t a (bare (num l 13 v 0 i r (maskOf (cls n w r v) i) p n) t refl)
+      t a (bare (aClass l v i r (maskOf (cls n w r v) i) p n) t refl)
 
 -- ---- the variables of one map
 module _ (l r : ℕ) (n : Counts) (sized : Fits n) (hr : r < 8) (k : Rest)
-    (ok : (w : List ℕ) → Known (n .vars) w → (t : List ℕ) → Bytes t → reading (afterRow l 13 14 r (n .maps) n) w t ≡ k t (l + 1) (tablesOf n w)) where
+    (ok : (w : List ℕ) → Known (n .vars) w → (t : List ℕ) → Bytes t → reading (afterRow l fieldClass fieldShare r (n .maps) n) w t ≡ k t (l + 1) (tablesOf n w)) where
   -- what a map is asked at its end
   few-states : Rest
   few-states u m U = demand (leb (abstractStates (sasOf U) (view (taskOf U) r)) mostStates) TooManyStates u m U (eol k)
@@ -245,7 +245,7 @@ module _ (l r : ℕ) (n : Counts) (sized : Fits n) (hr : r < 8) (k : Rest)
   module _ (v p : ℕ) (hv : v < n .vars) (i z x : ℕ) (w u : List ℕ) (g : At n r v i p w) (e : i + 1 ≡ domIn w v) (y : z ≡ 0 → ⊥)
       (q : fits x 0 (domIn w v) ≡ true) (o : Stop u) (b : Bytes u) where
     c : Ctrl
-    c = num l 13 v 0 i r (maskOf (cls n w r v) i) p n
+    c = aClass l v i r (maskOf (cls n w r v) i) p n
 
     w₁ : List ℕ
     w₁ = putByte w (classPlace r v i) x
@@ -299,17 +299,17 @@ module _ (l r : ℕ) (n : Counts) (sized : Fits n) (hr : r < 8) (k : Rest)
     states : ℕ
     states = size (counted n w₁ r) (v + 1)
 
-    product : times p (width (withClass (maskOf (cls n w r v) i) x)) ≡ min states 4097
+    product : times p (width (withClass (maskOf (cls n w r v) i) x)) ≡ min states statesOver
     unfolding states
     product =
         ap₂ times (next .prod) wide
         ∙ times-cap (size (counted n w₁ r) v) (counted n w₁ r v) (count-some (cls n w₁ r v) i (domAt (tablesOf n w₁ .facts) v) dom-now)
-        ∙ ap (λ (s : ℕ). min s 4097) (sym (ap (size (counted n w₁ r)) (add-one v)))
+        ∙ ap (λ (s : ℕ). min s statesOver) (sym (ap (size (counted n w₁ r)) (add-one v)))
 
     gaps : Bool
     gaps = noneMissing (cls n w₁ r v) (domAt (tablesOf n w₁ .facts) v)
 
-    fault-is : fault (withDigit c z x) w ≡ cond gaps (cond (eqb (up v) (n .vars)) (cond (ltb mostStates (min states 4097)) States Going) Going) Missing
+    fault-is : fault (withDigit c z x) w ≡ cond gaps (cond (eqb (up v) (n .vars)) (cond (ltb mostStates (min states statesOver)) States Going) Going) Missing
     unfolding c gaps
     fault-is = told-last l v i r (maskOf (cls n w r v) i) p n z x w y q e (let h = small in omega arith) ∙ rw (product, whole)
 
@@ -320,26 +320,26 @@ module _ (l r : ℕ) (n : Counts) (sized : Fits n) (hr : r < 8) (k : Rest)
     last-end h f true j =
         let d : up v ≡ n .vars = let m = small in omega arith in
         rw j
-        (then-mark c w z x lineEnd (afterRow l 13 14 r (n .maps) n) (tablesOf n w₁) (λ u₁ m₁ U. k u₁ (m₁ + 1) U) (λ m. omega arith) y
-        (fault-is ∙ rw (f, eq-eqb (up v) (n .vars) d, le-ltb mostStates (min states 4097) (omega (arith, leb-true states mostStates j))))
+        (then-mark c w z x lineEnd (afterRow l fieldClass fieldShare r (n .maps) n) (tablesOf n w₁) (λ u₁ m₁ U. k u₁ (m₁ + 1) U) (λ m. omega arith) y
+        (fault-is ∙ rw (f, eq-eqb (up v) (n .vars) d, le-ltb mostStates (min states statesOver) (omega (arith, leb-true states mostStates j))))
         (λ m. class-end l v i r (maskOf (cls n w r v) i) p n z x m w e (let s = small in omega arith) h (small .0)) (ok _ (next .known)) o b)
     last-end h f false j =
         let d : up v ≡ n .vars = let m = small in omega arith in
         rw j
         (faulty c w z x States (TooManyStates l) (λ m. omega arith) y o
-        (fault-is ∙ rw (f, eq-eqb (up v) (n .vars) d, lt-ltb mostStates (min states 4097) (omega (arith, leb-false states mostStates j)))) refl refl)
+        (fault-is ∙ rw (f, eq-eqb (up v) (n .vars) d, lt-ltb mostStates (min states statesOver) (omega (arith, leb-false states mostStates j)))) refl refl)
 
     -- of any other variable: the slash
     last-slash : v + 1 < n .vars → gaps ≡ true → (go : Rest)
-        → ((u₁ : List ℕ) → Bytes u₁ → reading (num l 13 (v + 1) 0 0 r 0 (min states 4097) n) w₁ u₁ ≡ go u₁ l (tablesOf n w₁))
+        → ((u₁ : List ℕ) → Bytes u₁ → reading (aClass l (v + 1) 0 r 0 (min states statesOver) n) w₁ u₁ ≡ go u₁ l (tablesOf n w₁))
         → reading (withDigit c z x) w u ≡ lit (slash ∷ []) u l (tablesOf n w₁) go
     unfolding c w₁ stored withDigit
     last-slash h f go again =
         let d : up v ≡ n .vars → ⊥ = λ m. let j = small in omega arith in
-        then-mark c w z x slash (num l 13 (v + 1) 0 0 r 0 (min states 4097) n) (tablesOf n w₁) go (λ m. omega arith) y
+        then-mark c w z x slash (aClass l (v + 1) 0 r 0 (min states statesOver) n) (tablesOf n w₁) go (λ m. omega arith) y
         (fault-is ∙ rw (f, ne-eqb (up v) (n .vars) d))
         (λ m. class-slash l v i r (maskOf (cls n w r v) i) p n z x m w e (let s = small in omega arith) h (small .0)
-        ∙ ap (λ (j : ℕ). mark (noted (withDigit c z x)) m slash (num l 13 (v + 1) 0 0 r 0 j n)) product)
+        ∙ ap (λ (j : ℕ). mark (noted (withDigit c z x)) m slash (aClass l (v + 1) 0 r 0 j n)) product)
         again o b
 
     gaps-first : (go : Rest) (j : Bool) → gaps ≡ j → (gaps ≡ true → reading (withDigit c z x) w u ≡ go u l (tablesOf n w₁))
@@ -351,10 +351,10 @@ module _ (l r : ℕ) (n : Counts) (sized : Fits n) (hr : r < 8) (k : Rest)
   -- a variable's list from its first class on
   list-of : (v p : ℕ) (hv : v < n .vars) (w : List ℕ) → At n r v 0 p w → (K : Rest)
       → ((i z x : ℕ) (w₁ u : List ℕ) → At n r v i p w₁ → i + 1 ≡ domIn w₁ v → (z ≡ 0 → ⊥) → fits x 0 (domIn w₁ v) ≡ true → Stop u → Bytes u
-      → reading (withDigit (num l 13 v 0 i r (maskOf (cls n w₁ r v) i) p n) z x) w₁ u
+      → reading (withDigit (aClass l v i r (maskOf (cls n w₁ r v) i) p n) z x) w₁ u
       ≡ demand (noneMissing (cls n (putByte w₁ (classPlace r v i) x) r v) (domAt (tablesOf n (putByte w₁ (classPlace r v i) x) .facts) v)) ClassMissing u l
       (tablesOf n (putByte w₁ (classPlace r v i) x)) K)
-      → (t : List ℕ) → Bytes t → reading (num l 13 v 0 0 r 0 p n) w t ≡ classList r v t l (tablesOf n w) K
+      → (t : List ℕ) → Bytes t → reading (aClass l v 0 r 0 p n) w t ≡ classList r v t l (tablesOf n w) K
   unfolding classList ask _▸_
   list-of v p hv w g K last t a =
       let h = sized .high in
@@ -366,7 +366,7 @@ module _ (l r : ℕ) (n : Counts) (sized : Fits n) (hr : r < 8) (k : Rest)
       ∙ ap (λ (N : ℕ). numberRow 0 (λ x U. domAt (U .facts) v) (λ x c. putFact (classPlace r v x) c) N 0 t l (tablesOf n w) rest) f
 
   variables-ok : (m v p : ℕ) → v + suc m ≡ n .vars → (w : List ℕ) → At n r v 0 p w → (t : List ℕ) → Bytes t
-      → reading (num l 13 v 0 0 r 0 p n) w t ≡ classLists r (suc m) v t l (tablesOf n w) few-states
+      → reading (aClass l v 0 r 0 p n) w t ≡ classLists r (suc m) v t l (tablesOf n w) few-states
   unfolding classLists parted nothing _▸_ c w₁ gaps states few-states tablesOf
   variables-ok zero v p e w g =
       list-of v p (omega arith) w g few-states
@@ -380,7 +380,7 @@ module _ (l r : ℕ) (n : Counts) (sized : Fits n) (hr : r < 8) (k : Rest)
       (λ i z x w₁ u g₁ e₁ y q o b.
       gaps-first v p (omega arith) i z x w₁ u g₁ e₁ y q o b _ _ refl
       (λ j. last-slash v p (omega arith) i z x w₁ u g₁ e₁ y q o b (omega arith) j (λ u₁ m₁ U. classLists r (suc m) (v + 1) u₁ m₁ U few-states)
-      (variables-ok m (v + 1) (min (size (counted n (putByte w₁ (classPlace r v i) x) r) (v + 1)) 4097) (omega arith) (putByte w₁ (classPlace r v i) x)
+      (variables-ok m (v + 1) (min (size (counted n (putByte w₁ (classPlace r v i) x) r) (v + 1)) statesOver) (omega arith) (putByte w₁ (classPlace r v i) x)
       (record {
         known = known-put (g₁ .known) (classPlace r v i) x (let h = sized .high in omega arith);
         below = λ j₁ l₁. let f : ⊥ = omega arith in absurd f;
@@ -388,7 +388,7 @@ module _ (l r : ℕ) (n : Counts) (sized : Fits n) (hr : r < 8) (k : Rest)
       }))))
 
   -- the whole map
-  pub map-classes-ok : (w : List ℕ) → Known (n .vars) w → (t : List ℕ) → Bytes t → reading (num l 13 0 0 0 r 0 1 n) w t ≡ mapClasses r t l (tablesOf n w) (eol k)
+  pub map-classes-ok : (w : List ℕ) → Known (n .vars) w → (t : List ℕ) → Bytes t → reading (aClass l 0 0 r 0 1 n) w t ≡ mapClasses r t l (tablesOf n w) (eol k)
   unfolding mapClasses ask _▸_ few-states tablesOf
   map-classes-ok w g t a =
       let h = sized .low in

@@ -16,9 +16,9 @@ use Rattle.text.specs.declared.Halt.the-variants.{Going, Form, Range}
 use Rattle.scan.specs.declared.Found.the-variants.{Fault}
 use Rattle.grammar.specs.Fields.{isDigit}
 use Rattle.grammar.specs.Grammar.{Verdict, refused, settled, Rest, Part, _▸_, demand, runLen, decimal, formed, fits, numeral}
-use Rattle.text.specs.Inside.Control.{mk, runZero, runOn, going, stopped, withDigit}
+use Rattle.text.specs.Inside.Control.{mk, runZero, runOn, going, stopped, withDigit, fieldEnd}
 use Rattle.text.specs.Inside.Fields.{leasts, limit, inRange, numberFault, noted, fault, stored}
-use Rattle.text.specs.Inside.Steps.{more, runWith, digitRead, afterNumber, closed, dashHere, atNumber, live, byteRead, feed}
+use Rattle.text.specs.Inside.Steps.{more, runWith, digitRead, afterNumber, closed, dashHere, atNumber, live, byteRead, feed, valueCap}
 use Rattle.text.specs.Inside.End.{ended, refusalOf, endFault, lastFault}
 use Rattle.grammar.proofs.Runs.{
   within-both,
@@ -39,19 +39,19 @@ use Rattle.grammar.proofs.Runs.{
 use Rattle.text.proofs.BridgeReading.{told, reading, Bytes, byte, bytes-drop, stops, off-form, moves, cut-short}
 
 -- ---- a run's value, capped
-value-min : (t : List ℕ) (v : ℕ) → min (decimal (min v 4294967295) t) 4294967295 ≡ min (decimal v t) 4294967295
+value-min : (t : List ℕ) (v : ℕ) → min (decimal (min v valueCap) t) valueCap ≡ min (decimal v t) valueCap
 unfolding decimal
 value-min [] v = omega arith
 value-min (b ∷ t) v =
-    sym (value-min t (10 * min v 4294967295 + (b - 48)))
-    ∙ ap (λ (x : ℕ). min (decimal x t) 4294967295) (omega arith)
+    sym (value-min t (10 * min v valueCap + (b - 48)))
+    ∙ ap (λ (x : ℕ). min (decimal x t) valueCap) (omega arith)
     ∙ value-min t (10 * v + (b - 48))
 
-more-low : (v d : ℕ) → more v d ≤ 4294967295
+more-low : (v d : ℕ) → more v d ≤ valueCap
 unfolding more
 more-low v d = omega arith
 
-more-value : (v d : ℕ) (t : List ℕ) → min (decimal (more v d) t) 4294967295 ≡ min (decimal (10 * v + d) t) 4294967295
+more-value : (v d : ℕ) (t : List ℕ) → min (decimal (more v d) t) valueCap ≡ min (decimal (10 * v + d) t) valueCap
 unfolding more
 more-value v d t = value-min t (10 * v + d)
 
@@ -66,25 +66,25 @@ run-one : (d : ℕ) → d ≡ 0 → runWith 0 d ≡ runZero
 run-one d h = simp (eq-eqb (0 + d) 0 (omega arith))
 
 -- a capped value is in a range below the cap exactly if the value is
-leb-cap : (v lo : ℕ) → lo ≤ 4294967295 → leb lo (min v 4294967295) ≡ leb lo v
+leb-cap : (v lo : ℕ) → lo ≤ valueCap → leb lo (min v valueCap) ≡ leb lo v
 leb-cap v lo a = go (leb lo v) refl
   where
-    go : (q : Bool) → leb lo v ≡ q → leb lo (min v 4294967295) ≡ q
-    go true e = le-leb lo (min v 4294967295) (omega (arith, leb-true lo v e))
-    go false e = lt-leb lo (min v 4294967295) (omega (arith, leb-false lo v e))
+    go : (q : Bool) → leb lo v ≡ q → leb lo (min v valueCap) ≡ q
+    go true e = le-leb lo (min v valueCap) (omega (arith, leb-true lo v e))
+    go false e = lt-leb lo (min v valueCap) (omega (arith, leb-false lo v e))
 
-ltb-cap : (v lim : ℕ) → lim ≤ 4294967295 → ltb (min v 4294967295) lim ≡ ltb v lim
+ltb-cap : (v lim : ℕ) → lim ≤ valueCap → ltb (min v valueCap) lim ≡ ltb v lim
 ltb-cap v lim a = go (ltb v lim) refl
   where
-    go : (q : Bool) → ltb v lim ≡ q → ltb (min v 4294967295) lim ≡ q
-    go true e = lt-ltb (min v 4294967295) lim (omega (arith, ltb-true v lim e))
-    go false e = le-ltb (min v 4294967295) lim (omega (arith, ltb-false v lim e))
+    go : (q : Bool) → ltb v lim ≡ q → ltb (min v valueCap) lim ≡ q
+    go true e = lt-ltb (min v valueCap) lim (omega (arith, ltb-true v lim e))
+    go false e = le-ltb (min v valueCap) lim (omega (arith, ltb-false v lim e))
 
-within-cap : (v lo lim : ℕ) → lo ≤ 4294967295 → lim ≤ 4294967295 → fits (min v 4294967295) lo lim ≡ fits v lo lim
+within-cap : (v lo lim : ℕ) → lo ≤ valueCap → lim ≤ valueCap → fits (min v valueCap) lo lim ≡ fits v lo lim
 unfolding fits
 within-cap v lo lim a b = rw (leb-cap v lo a, ltb-cap v lim b)
 
-within-low : (v lo lim : ℕ) → lim ≤ 4294967295 → v < lim → min v 4294967295 ≡ v
+within-low : (v lo lim : ℕ) → lim ≤ valueCap → v < lim → min v valueCap ≡ v
 within-low v lo lim a h = omega arith
 
 -- ---- the grammar's number, by the run's length
@@ -140,15 +140,15 @@ module _ (c : Ctrl) (w : List ℕ) where
   digit-off v b e = simp e
 
   -- the digits of a run after one that is no leading zero
-  run-on : (t : List ℕ) (v : ℕ) → v ≤ 4294967295
-      → reading (withDigit c 2 v) w t ≡ reading (withDigit c 2 (min (decimal v (take (runLen t) t)) 4294967295)) w (drop (runLen t) t)
+  run-on : (t : List ℕ) (v : ℕ) → v ≤ valueCap
+      → reading (withDigit c 2 v) w t ≡ reading (withDigit c 2 (min (decimal v (take (runLen t) t)) valueCap)) w (drop (runLen t) t)
   unfolding decimal runLen
   run-on [] v h = ap (λ (x : ℕ). reading (withDigit c 2 x) w []) (omega arith)
   run-on (b ∷ t) v h = split (isDigit b) refl (run-on t (more v (b - 48)) (more-low v (b - 48)))
     where
       split : (q : Bool) → isDigit b ≡ q
-          → reading (withDigit c 2 (more v (b - 48))) w t ≡ reading (withDigit c 2 (min (decimal (more v (b - 48)) (take (runLen t) t)) 4294967295)) w (drop (runLen t) t)
-          → reading (withDigit c 2 v) w (b ∷ t) ≡ reading (withDigit c 2 (min (decimal v (take (runLen (b ∷ t)) (b ∷ t))) 4294967295)) w (drop (runLen (b ∷ t)) (b ∷ t))
+          → reading (withDigit c 2 (more v (b - 48))) w t ≡ reading (withDigit c 2 (min (decimal (more v (b - 48)) (take (runLen t) t)) valueCap)) w (drop (runLen t) t)
+          → reading (withDigit c 2 v) w (b ∷ t) ≡ reading (withDigit c 2 (min (decimal v (take (runLen (b ∷ t)) (b ∷ t))) valueCap)) w (drop (runLen (b ∷ t)) (b ∷ t))
       split true q r = rw (run-hit b t q) (moves _ _ w w b t (digit-step 2 v b q (λ z. omega arith))
           ∙ ap (λ (x : ℕ). reading (withDigit c x (more v (b - 48))) w t) (run-two 2 (b - 48) (λ z. omega arith))
           ∙ r
@@ -165,17 +165,17 @@ module _ (c : Ctrl) (w : List ℕ) where
   closes r v b z o = simp (o, no-dash r v b z)
 
   -- a run with a fault of its own
-  pub faulty : (r v : ℕ) (k : Halt) (f : Refusal) {t : List ℕ} → (c .spot .field ≡ 15 → ⊥) → (r ≡ 0 → ⊥) → Stop t → fault (withDigit c r v) w ≡ k → going k ≡ false
+  pub faulty : (r v : ℕ) (k : Halt) (f : Refusal) {t : List ℕ} → (c .spot .field ≡ fieldEnd → ⊥) → (r ≡ 0 → ⊥) → Stop t → fault (withDigit c r v) w ≡ k → going k ≡ false
       → refusalOf k (c .line) ≡ Fault f → reading (withDigit c r v) w t ≡ refused f
   unfolding reading told feed lastFault endFault ended settled withDigit closed
-  faulty r v k f h z nil e n q = simp (ne-eqb (c .spot .field) 15 h, e, n, q)
+  faulty r v k f h z nil e n q = simp (ne-eqb (c .spot .field) fieldEnd h, e, n, q)
   faulty r v k f h z (other {b = b} {t = t} o) e n q =
       moves (withDigit c r v) (stopped (withDigit c r v) k) w w b t (closes r v b z o ∙ simp (e, n)) ∙ stops (withDigit c r v) k f w t n q
 
   -- a run without a fault: the text must go on, and the byte is judged by `after`
-  pub sound-end : (r v : ℕ) → (c .spot .field ≡ 15 → ⊥) → fault (withDigit c r v) w ≡ Going → reading (withDigit c r v) w [] ≡ refused (OffForm (c .line))
+  pub sound-end : (r v : ℕ) → (c .spot .field ≡ fieldEnd → ⊥) → fault (withDigit c r v) w ≡ Going → reading (withDigit c r v) w [] ≡ refused (OffForm (c .line))
   unfolding reading told feed lastFault endFault ended settled withDigit
-  sound-end r v h e = simp (ne-eqb (c .spot .field) 15 h, e)
+  sound-end r v h e = simp (ne-eqb (c .spot .field) fieldEnd h, e)
 
   pub sound-byte : (r v b : ℕ) (t : List ℕ) → (r ≡ 0 → ⊥) → isDigit b ≡ false → fault (withDigit c r v) w ≡ Going
       → reading (withDigit c r v) w (b ∷ t) ≡ reading (afterNumber (noted (withDigit c r v)) w b) (stored (withDigit c r v) w) t
@@ -195,7 +195,7 @@ module _ (c : Ctrl) (w : List ℕ) where
   unfolding byteRead live atNumber closed fault withDigit
   empty-byte b t o d = moves (withDigit c 0 0) (stopped (withDigit c 0 0) Form) w w b t (simp (o, d)) ∙ off-form (withDigit c 0 0) w t
 
-module _ (c : Ctrl) (w : List ℕ) (h : c .spot .field ≡ 15 → ⊥) (low : getD leasts (c .spot .field) 0 ≤ 4294967295) (cap : limit c w ≤ 4294967295)
+module _ (c : Ctrl) (w : List ℕ) (h : c .spot .field ≡ fieldEnd → ⊥) (low : getD leasts (c .spot .field) 0 ≤ valueCap) (cap : limit c w ≤ valueCap)
     (p : ℕ → Part) (T : Tables) (k : Rest)
     (ok : (r v : ℕ) (t : List ℕ) → (r ≡ 0 → ⊥) → Stop t → Bytes t → fits v (getD leasts (c .spot .field) 0) (limit c w) ≡ true
     → reading (withDigit c r v) w t ≡ p v t (c .line) T k) where
@@ -203,16 +203,16 @@ module _ (c : Ctrl) (w : List ℕ) (h : c .spot .field ≡ 15 → ⊥) (low : ge
   lo = getD leasts (c .spot .field) 0
 
   -- where a run has ended
-  closing : (r v : ℕ) (t : List ℕ) → (r ≡ 0 → ⊥) → Stop t → Bytes t → reading (withDigit c r (min v 4294967295)) w t ≡ ranged lo (limit c w) p (c .line) T k v t
+  closing : (r v : ℕ) (t : List ℕ) → (r ≡ 0 → ⊥) → Stop t → Bytes t → reading (withDigit c r (min v valueCap)) w t ≡ ranged lo (limit c w) p (c .line) T k v t
   unfolding ranged demand lo
   closing r v t z o a = split (fits v lo (limit c w)) refl
     where
-      same : fits (min v 4294967295) lo (limit c w) ≡ fits v lo (limit c w)
+      same : fits (min v valueCap) lo (limit c w) ≡ fits v lo (limit c w)
       same = within-cap v lo (limit c w) low cap
 
-      split : (q : Bool) → fits v lo (limit c w) ≡ q → reading (withDigit c r (min v 4294967295)) w t ≡ demand (fits v lo (limit c w)) OutOfRange t (c .line) T (λ u₁ m U. p v u₁ m U k)
+      split : (q : Bool) → fits v lo (limit c w) ≡ q → reading (withDigit c r (min v valueCap)) w t ≡ demand (fits v lo (limit c w)) OutOfRange t (c .line) T (λ u₁ m U. p v u₁ m U k)
       split true q = rw q (ap (λ (x : ℕ). reading (withDigit c r x) w t) (within-low v lo (limit c w) cap (within-both v lo (limit c w) q .1)) ∙ ok r v t z o a q)
-      split false q = rw q (faulty c w r (min v 4294967295) Range (OutOfRange (c .line)) h z o (fault-range c w r (min v 4294967295) z (same ∙ q)) refl refl)
+      split false q = rw q (faulty c w r (min v valueCap) Range (OutOfRange (c .line)) h z o (fault-range c w r (min v valueCap) z (same ∙ q)) refl refl)
 
   -- after a leading zero
   zero-then : (b : ℕ) (t : List ℕ) → isDigit b ≡ true → b ≡ 48 → Bytes t → reading (withDigit c 1 0) w t ≡ numeral lo (limit c w) p (b ∷ t) (c .line) T k

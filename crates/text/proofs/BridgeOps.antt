@@ -9,7 +9,7 @@ use borrow.Author.Tests.{eq-eqb, ne-eqb, lt-ltb, le-ltb}
 use Rattle.tables.specs.declared.Counts.{Counts}
 use Rattle.tables.specs.Layout.{Tables, goalPlace, prePlace, effPlace}
 use Rattle.text.specs.declared.Ctrl.{Ctrl}
-use Rattle.grammar.specs.Fields.{lineEnd, semicolon, bytesOf}
+use Rattle.grammar.specs.Fields.{lineEnd, semicolon, bytesOf, dash}
 use Rattle.grammar.specs.Grammar.{
   Rest,
   Part,
@@ -28,29 +28,32 @@ use Rattle.grammar.specs.Grammar.{
   opLines,
 }
 use Rattle.text.specs.Inside.Area.{putWord, costByte}
-use Rattle.text.specs.Inside.Control.{up, partBegun, due, opened, withDigit, dashed, toLine, rowOr, nextLine}
+use Rattle.text.specs.Inside.Control.{up, partBegun, due, opened, withDigit, dashed, toLine, rowOr, nextLine, countCap}
+use Rattle.text.specs.Inside.Control.{fieldGoalVar, fieldGoalVal, fieldOps, fieldCost, fieldPreVar, fieldPreVal, fieldEffVar, fieldEffVal, fieldMaps}
 use Rattle.text.specs.Inside.Fields.{keyByte, limit, countsWith, seenWith, noted, stored, kind}
 use Rattle.text.specs.Inside.Steps.{listEnd, afterValue, afterNumber, dashHere}
 use Rattle.text.proofs.BridgeReading.{tablesOf, reading, Bytes, kw, spelled, key-ok}
 use Rattle.grammar.proofs.Runs.{within-both}
 use Rattle.text.proofs.BridgeArea.{cost-kept}
-use Rattle.text.proofs.BridgeRows.{num, then-mark, no-fault, Fits, Known, known-put3}
+use Rattle.text.proofs.BridgeRows.{num, then-mark, no-fault, Fits, Known, known-put3, ofVar, ofRow, fromVar}
 use Rattle.text.proofs.BridgeLines.{eol, bare, single-ok}
 use Rattle.text.proofs.BridgeFacts.{number-at, FactList, list-ok}
+use Rattle.tables.specs.Lines.{lineOfGoal, lineOfOps, lineOfOp, lineOfMaps}
+use Rattle.meaning.specs.Limits.{mostCost}
 
 pick-self : (q : Bool) → cond q true false ≡ q
 pick-self true = refl
 pick-self false = refl
 
 -- ---- the three lists of facts: the goal's, and an operator's preconditions and effects
-goal-list : (n : Counts) → FactList 5 4 5 0 n goalPlace lineEnd (kw 6 6 0 n 0)
+goal-list : (n : Counts) → FactList lineOfGoal fieldGoalVar fieldGoalVal 0 n goalPlace lineEnd (kw lineOfOps fieldOps 0 n 0)
 unfolding limit stored withDigit noted afterNumber kind afterValue listEnd nextLine toLine due dashHere dashed partBegun seenWith countsWith
 goal-list n =
     record {
-      var15 = λ z. omega arith;
-      var13 = λ z. omega arith;
-      val15 = λ z. omega arith;
-      val13 = λ z. omega arith;
+      var-goes = λ z. omega arith;
+      var-plain = λ z. omega arith;
+      val-goes = λ z. omega arith;
+      val-plain = λ z. omega arith;
       var-least = refl;
       val-least = refl;
       var-limit = λ m w. refl;
@@ -59,20 +62,20 @@ goal-list n =
       val-kept = λ v z y w. refl;
       var-after = λ m z v b w. refl;
       val-after = λ v z y b w. refl;
-      val-bare = λ v t. bare (num 5 5 v 0 0 0 0 1 n) t refl;
-      var-dash = λ b. pick-self (eqb b 45);
+      val-bare = λ v t. bare (ofVar lineOfGoal fieldGoalVal v 0 n) t refl;
+      var-dash = λ b. pick-self (eqb b dash);
       dash-ends = λ b. refl;
       room = λ v q. (omega arith, omega arith);
     }
 
-pre-list : (l r : ℕ) (n : Counts) → r < 64 → FactList l 8 9 r n (prePlace r) semicolon (num l 10 0 0 0 r 0 1 n)
+pre-list : (l r : ℕ) (n : Counts) → r < 64 → FactList l fieldPreVar fieldPreVal r n (prePlace r) semicolon (fromVar l fieldEffVar 0 r n)
 unfolding limit stored withDigit noted afterNumber kind afterValue listEnd due dashHere dashed partBegun seenWith countsWith
 pre-list l r n h =
     record {
-      var15 = λ z. omega arith;
-      var13 = λ z. omega arith;
-      val15 = λ z. omega arith;
-      val13 = λ z. omega arith;
+      var-goes = λ z. omega arith;
+      var-plain = λ z. omega arith;
+      val-goes = λ z. omega arith;
+      val-plain = λ z. omega arith;
       var-least = refl;
       val-least = refl;
       var-limit = λ m w. refl;
@@ -81,8 +84,8 @@ pre-list l r n h =
       val-kept = λ v z y w. refl;
       var-after = λ m z v b w. refl;
       val-after = λ v z y b w. refl;
-      val-bare = λ v t. bare (num l 9 v 0 0 r 0 1 n) t refl;
-      var-dash = λ b. pick-self (eqb b 45);
+      val-bare = λ v t. bare (ofVar l fieldPreVal v r n) t refl;
+      var-dash = λ b. pick-self (eqb b dash);
       dash-ends = λ b. refl;
       room = λ v q. (omega arith, omega arith);
     }
@@ -91,14 +94,14 @@ pre-list l r n h =
 abbrev pub afterRow : ℕ → ℕ → ℕ → ℕ → ℕ → Counts → Ctrl
 afterRow l f g r N n = cond (ltb (up r) N) (kw (up l) f (up r) n 0) (kw (up l) g 0 n 0)
 
-eff-list : (l r : ℕ) (n : Counts) → r < 64 → FactList l 10 11 r n (effPlace r) lineEnd (afterRow l 7 12 r (n .ops) n)
+eff-list : (l r : ℕ) (n : Counts) → r < 64 → FactList l fieldEffVar fieldEffVal r n (effPlace r) lineEnd (afterRow l fieldCost fieldMaps r (n .ops) n)
 unfolding limit stored withDigit noted afterNumber kind afterValue listEnd nextLine toLine rowOr due dashHere dashed partBegun seenWith countsWith
 eff-list l r n h =
     record {
-      var15 = λ z. omega arith;
-      var13 = λ z. omega arith;
-      val15 = λ z. omega arith;
-      val13 = λ z. omega arith;
+      var-goes = λ z. omega arith;
+      var-plain = λ z. omega arith;
+      val-goes = λ z. omega arith;
+      val-plain = λ z. omega arith;
       var-least = refl;
       val-least = refl;
       var-limit = λ m w. refl;
@@ -107,20 +110,20 @@ eff-list l r n h =
       val-kept = λ v z y w. refl;
       var-after = λ m z v b w. refl;
       val-after = λ v z y b w. refl;
-      val-bare = λ v t. bare (num l 11 v 0 0 r 0 1 n) t refl;
-      var-dash = λ b. pick-self (eqb b 45);
+      val-bare = λ v t. bare (ofVar l fieldEffVal v r n) t refl;
+      var-dash = λ b. pick-self (eqb b dash);
       dash-ends = λ b. refl;
       room = λ v q. (omega arith, omega arith);
     }
 
 -- goal=
 pub goal-ok : (n : Counts) → Fits n → (w : List ℕ) → Known (n .vars) w → (k : Rest)
-    → ((u : List ℕ) → Known (n .vars) u → (t : List ℕ) → Bytes t → reading (kw 6 6 0 n 0) u t ≡ k t 6 (tablesOf n u))
-    → (t : List ℕ) → Bytes t → reading (kw 5 4 0 n 0) w t ≡ goalLine t 5 (tablesOf n w) k
+    → ((u : List ℕ) → Known (n .vars) u → (t : List ℕ) → Bytes t → reading (kw lineOfOps fieldOps 0 n 0) u t ≡ k t lineOfOps (tablesOf n u))
+    → (t : List ℕ) → Bytes t → reading (kw lineOfGoal fieldGoalVar 0 n 0) w t ≡ goalLine t lineOfGoal (tablesOf n w) k
 unfolding goalLine textLine endOfLine _▸_ opened partBegun spelled keyByte
 goal-ok n sized w p k ok =
-    key-ok 5 4 0 n w (λ z. omega arith) (tablesOf n w) _
-    (list-ok 5 4 5 0 n goalPlace lineEnd (kw 6 6 0 n 0) (goal-list n) sized (λ u m U. k u (m + 1) U) ok w p)
+    key-ok lineOfGoal fieldGoalVar 0 n w (λ z. omega arith) (tablesOf n w) _
+    (list-ok lineOfGoal fieldGoalVar fieldGoalVal 0 n goalPlace lineEnd (kw lineOfOps fieldOps 0 n 0) (goal-list n) sized (λ u m U. k u (m + 1) U) ok w p)
     0 (bytesOf "goal=") refl
 
 -- ops=
@@ -128,41 +131,41 @@ abbrev pub withOps : ℕ → Counts → Counts
 withOps v n = record { vars = n .vars; ops = v; maps = n .maps }
 
 pub ops-ok : (n : Counts) (w : List ℕ) (k : Rest)
-    → ((v : ℕ) → v ≤ 64 → (t : List ℕ) → Bytes t → reading (kw 7 (cond (eqb v 0) 12 7) 0 (withOps v n) 0) w t ≡ k t 7 (tablesOf (withOps v n) w))
-    → (t : List ℕ) → Bytes t → reading (kw 6 6 0 n 0) w t ≡ opsLine t 6 (tablesOf n w) k
+    → ((v : ℕ) → v ≤ 64 → (t : List ℕ) → Bytes t → reading (kw (lineOfOp 0) (cond (eqb v 0) fieldMaps fieldCost) 0 (withOps v n) 0) w t ≡ k t (lineOfOp 0) (tablesOf (withOps v n) w))
+    → (t : List ℕ) → Bytes t → reading (kw lineOfOps fieldOps 0 n 0) w t ≡ opsLine t lineOfOps (tablesOf n w) k
 unfolding opsLine textLine endOfLine _▸_ keep opened partBegun limit stored withDigit noted afterNumber kind nextLine toLine spelled keyByte tablesOf seenWith countsWith
 ops-ok n w k ok =
-    key-ok 6 6 0 n w (λ z. omega arith) (tablesOf n w) _
-    (single-ok 6 6 n w (λ z. omega arith) (λ z. omega arith) (omega arith) (omega arith) refl
-    (λ v T. withCounts (T .counts .vars) v (T .counts .maps) T) k (λ v. kw 7 (cond (eqb v 0) 12 7) 0 (withOps v n) 0) (λ z v. refl) (λ z v b. refl)
+    key-ok lineOfOps fieldOps 0 n w (λ z. omega arith) (tablesOf n w) _
+    (single-ok lineOfOps fieldOps n w (λ z. omega arith) (λ z. omega arith) (omega arith) (omega arith) refl
+    (λ v T. withCounts (T .counts .vars) v (T .counts .maps) T) k (λ v. kw (lineOfOp 0) (cond (eqb v 0) fieldMaps fieldCost) 0 (withOps v n) 0) (λ z v. refl) (λ z v b. refl)
     (λ v q. let g = within-both v 0 65 q in ok v (omega arith)))
     0 (bytesOf "ops=") refl
 
 -- op=
 operator-ok : (l r : ℕ) (n : Counts) → Fits n → r < 64 → (w : List ℕ) → Known (n .vars) w → (k : Rest)
-    → ((u : List ℕ) → Known (n .vars) u → (t : List ℕ) → Bytes t → reading (afterRow l 7 12 r (n .ops) n) u t ≡ k t (l + 1) (tablesOf n u))
-    → (t : List ℕ) → Bytes t → reading (kw l 7 r n 0) w t ≡ textLine "op=" (operatorFields r) t l (tablesOf n w) k
+    → ((u : List ℕ) → Known (n .vars) u → (t : List ℕ) → Bytes t → reading (afterRow l fieldCost fieldMaps r (n .ops) n) u t ≡ k t (l + 1) (tablesOf n u))
+    → (t : List ℕ) → Bytes t → reading (kw l fieldCost r n 0) w t ≡ textLine "op=" (operatorFields r) t l (tablesOf n w) k
 unfolding textLine operatorFields endOfLine _▸_ keep opened partBegun limit stored withDigit noted afterNumber kind due spelled keyByte seenWith countsWith
 operator-ok l r n sized h w p k ok =
-    key-ok l 7 r n w (λ z. omega arith) (tablesOf n w) _
+    key-ok l fieldCost r n w (λ z. omega arith) (tablesOf n w) _
     (λ t a.
-    number-at (num l 7 0 0 0 r 0 1 n) w 0 1000001 refl refl (λ z. omega arith) (omega arith) (omega arith) _ (tablesOf n w) _
+    number-at (ofRow l fieldCost r n) w 0 (mostCost + 1) refl refl (λ z. omega arith) (omega arith) (omega arith) _ (tablesOf n w) _
     (λ z v u y o b s q.
     let x = sized .high in
-    then-mark (num l 7 0 0 0 r 0 1 n) w z v semicolon (num l 8 0 0 0 r 0 1 n) _ _ (λ i. omega arith) y
-    (no-fault (num l 7 0 0 0 r 0 1 n) w z v y (λ i. omega arith) s zero-le)
+    then-mark (ofRow l fieldCost r n) w z v semicolon (fromVar l fieldPreVar 0 r n) _ _ (λ i. omega arith) y
+    (no-fault (ofRow l fieldCost r n) w z v y (λ i. omega arith) s zero-le)
     (λ i. refl)
-    (list-ok l 8 9 r n (prePlace r) semicolon (num l 10 0 0 0 r 0 1 n) (pre-list l r n h) sized (λ u₁ m₁ U. factList (effPlace r) u₁ m₁ U (eol k))
-    (list-ok l 10 11 r n (effPlace r) lineEnd (afterRow l 7 12 r (n .ops) n) (eff-list l r n h) sized (λ u₁ m₁ U. k u₁ (m₁ + 1) U) ok)
+    (list-ok l fieldPreVar fieldPreVal r n (prePlace r) semicolon (fromVar l fieldEffVar 0 r n) (pre-list l r n h) sized (λ u₁ m₁ U. factList (effPlace r) u₁ m₁ U (eol k))
+    (list-ok l fieldEffVar fieldEffVal r n (effPlace r) lineEnd (afterRow l fieldCost fieldMaps r (n .ops) n) (eff-list l r n h) sized (λ u₁ m₁ U. k u₁ (m₁ + 1) U) ok)
     (putWord w (costByte r) v) (known-put3 p (costByte r) v (omega arith)))
     o b
     ∙ ap (λ (T : Tables). lit (semicolon ∷ []) u l T (λ u₁ m₁ U. factList (prePlace r) u₁ m₁ U (λ u₂ m₂ U₂. lit (semicolon ∷ []) u₂ m₂ U₂ (λ u₃ m₃ U₃. factList (effPlace r) u₃ m₃ U₃ (eol k)))))
-    (cost-kept n w (p .long) r v h (omega (arith, within-both v 0 1000001 q))))
-    t a (bare (num l 7 0 0 0 r 0 1 n) t refl))
+    (cost-kept n w (p .long) r v h (omega (arith, within-both v 0 (mostCost + 1) q))))
+    t a (bare (ofRow l fieldCost r n) t refl))
     0 (bytesOf "op=") refl
 
 -- ---- lines of one kind: N rows of field f, each read by `one`, up to line E, where field g follows
-module _ (f g N E : ℕ) (n : Counts) (j : ℕ) (p : ℕ → Part) (k : Rest) (few : N ≤ 64) (low : E ≤ 999999)
+module _ (f g N E : ℕ) (n : Counts) (j : ℕ) (p : ℕ → Part) (k : Rest) (few : N ≤ 64) (low : E < countCap)
     (one : (l r : ℕ) → r < N → (w : List ℕ) → Known j w → (k₁ : Rest)
     → ((u : List ℕ) → Known j u → (t : List ℕ) → Bytes t → reading (afterRow l f g r N n) u t ≡ k₁ t (l + 1) (tablesOf n u))
     → (t : List ℕ) → Bytes t → reading (kw l f r n 0) w t ≡ p r t l (tablesOf n w) k₁)
@@ -189,24 +192,25 @@ module _ (f g N E : ℕ) (n : Counts) (j : ℕ) (p : ℕ → Part) (k : Rest) (f
       (λ u i t₁ a₁. rw (after-more l r (omega arith) (omega arith)) (lines-ok m (r + 1) (l + 1) (omega arith) (omega arith) u i t₁ a₁)) t a
 
 pub op-lines-ok : (n : Counts) → Fits n → (w : List ℕ) → Known (n .vars) w → (k : Rest)
-    → ((u : List ℕ) → Known (n .vars) u → (t : List ℕ) → Bytes t → reading (kw (7 + n .ops) 12 0 n 0) u t ≡ k t (7 + n .ops) (tablesOf n u))
-    → (t : List ℕ) → Bytes t → reading (kw 7 (cond (eqb (n .ops) 0) 12 7) 0 n 0) w t ≡ opLines t 7 (tablesOf n w) k
+    → ((u : List ℕ) → Known (n .vars) u → (t : List ℕ) → Bytes t → reading (kw (lineOfMaps (n .ops)) fieldMaps 0 n 0) u t ≡ k t (lineOfMaps (n .ops)) (tablesOf n u))
+    → (t : List ℕ) → Bytes t → reading (kw (lineOfOp 0) (cond (eqb (n .ops) 0) fieldMaps fieldCost) 0 n 0) w t ≡ opLines t (lineOfOp 0) (tablesOf n w) k
 unfolding opLines ask tablesOf textLines
 op-lines-ok n sized w p k ok t a = split (n .ops) refl
   where
     part : ℕ → Part
     part r = textLine "op=" (operatorFields r)
 
-    split : (N : ℕ) → n .ops ≡ N → reading (kw 7 (cond (eqb (n .ops) 0) 12 7) 0 n 0) w t ≡ textLines part (n .ops) 0 t 7 (tablesOf n w) k
+    split : (N : ℕ) → n .ops ≡ N → reading (kw (lineOfOp 0) (cond (eqb (n .ops) 0) fieldMaps fieldCost) 0 n 0) w t ≡ textLines part (n .ops) 0 t (lineOfOp 0) (tablesOf n w) k
     split zero e =
-        let f : _≡_ {A = ℕ} (cond (eqb (n .ops) 0) 12 7) 12 = rw (eq-eqb (n .ops) 0 e) in
-        let y : 7 + n .ops ≡ 7 = omega arith in
-        ap (λ (x : ℕ). reading (kw 7 x 0 n 0) w t) f
+        let f : _≡_ {A = ℕ} (cond (eqb (n .ops) 0) fieldMaps fieldCost) fieldMaps = rw (eq-eqb (n .ops) 0 e) in
+        let y : lineOfMaps (n .ops) ≡ lineOfOp 0 = omega arith in
+        ap (λ (x : ℕ). reading (kw (lineOfOp 0) x 0 n 0) w t) f
         ∙ (rw y at (ok w p t a))
-        ∙ sym (ap (λ (m : ℕ). textLines part m 0 t 7 (tablesOf n w) k) e)
+        ∙ sym (ap (λ (m : ℕ). textLines part m 0 t (lineOfOp 0) (tablesOf n w) k) e)
     split (suc m) e =
-        let f : _≡_ {A = ℕ} (cond (eqb (n .ops) 0) 12 7) 7 = rw (ne-eqb (n .ops) 0 (λ z. omega arith)) in
+        let f : _≡_ {A = ℕ} (cond (eqb (n .ops) 0) fieldMaps fieldCost) fieldCost = rw (ne-eqb (n .ops) 0 (λ z. omega arith)) in
         let y = sized .ops in
-        ap (λ (x : ℕ). reading (kw 7 x 0 n 0) w t) f
-        ∙ lines-ok 7 12 (n .ops) (7 + n .ops) n (n .vars) part k y (omega arith) (λ l r h. operator-ok l r n sized (omega arith)) ok m 0 7 (omega arith) (omega arith) w p t a
-        ∙ sym (ap (λ (x : ℕ). textLines part x 0 t 7 (tablesOf n w) k) e)
+        ap (λ (x : ℕ). reading (kw (lineOfOp 0) x 0 n 0) w t) f
+        ∙ lines-ok fieldCost fieldMaps (n .ops) (lineOfMaps (n .ops)) n (n .vars) part k y (omega arith)
+        (λ l r h. operator-ok l r n sized (omega arith)) ok m 0 (lineOfOp 0) (omega arith) (omega arith) w p t a
+        ∙ sym (ap (λ (x : ℕ). textLines part x 0 t (lineOfOp 0) (tablesOf n w) k) e)

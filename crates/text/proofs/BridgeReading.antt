@@ -17,7 +17,7 @@ use Rattle.text.specs.declared.Halt.the-variants.{Going, Form}
 use Rattle.scan.specs.declared.Found.the-variants.{Fault}
 use Rattle.grammar.specs.Grammar.{Verdict, refused, Rest, _▸_, demand, lit, settled}
 use Rattle.text.specs.Inside.Area.{costsByte, sharesByte, threes}
-use Rattle.text.specs.Inside.Control.{mk, partKey, going, up, spotAt, noDigits, firstTurn, noneSeen, stopped, partBegun, nextKey, opened, St}
+use Rattle.text.specs.Inside.Control.{mk, partKey, going, up, spotAt, noDigits, firstTurn, noneSeen, stopped, partBegun, nextKey, opened, St, fieldEnd}
 use Rattle.text.specs.Inside.Fields.{keyByte, fault}
 use Rattle.text.specs.Inside.Steps.{equals, inKey, mark, live, byteRead, feed}
 use Rattle.text.specs.Inside.End.{ended, refusalOf, endFault, lastFault}
@@ -71,9 +71,9 @@ unfolding reading feed
 moves c d w u b t e = ap (λ (s : St). told (feed s t)) e
 
 -- the text ends in a state that neither accepts nor has a number in hand
-pub cut-short : (c : Ctrl) (w : List ℕ) → c .halt ≡ Going → (c .spot .field ≡ 15 → ⊥) → c .digits .run ≡ 0 → reading c w [] ≡ refused (OffForm (c .line))
+pub cut-short : (c : Ctrl) (w : List ℕ) → c .halt ≡ Going → (c .spot .field ≡ fieldEnd → ⊥) → c .digits .run ≡ 0 → reading c w [] ≡ refused (OffForm (c .line))
 unfolding reading told feed lastFault endFault ended settled fault
-cut-short c w e h r = simp (e, ne-eqb (c .spot .field) 15 h, eq-eqb (c .digits .run) 0 r)
+cut-short c w e h r = simp (e, ne-eqb (c .spot .field) fieldEnd h, eq-eqb (c .digits .run) 0 r)
 
 -- a mark that must stand here, and the first byte of a literal
 pub marked : (c d : Ctrl) (u : List ℕ) (b x : ℕ) (bs t : List ℕ) (T : Tables) (k : Rest) → (b ≡ x → reading d u t ≡ lit bs t (c .line) T k)
@@ -96,7 +96,7 @@ spelled f k [] = false
 spelled f k (b ∷ []) = cond (eqb b equals) (eqb (keyByte f k) b) false
 spelled f k (b ∷ x ∷ bs) = cond (eqb b equals) false (cond (eqb (keyByte f k) b) (spelled f (up k) (x ∷ bs)) false)
 
-module _ (l f r : ℕ) (n : Counts) (w : List ℕ) (h : f ≡ 15 → ⊥) (T : Tables) (go : Rest)
+module _ (l f r : ℕ) (n : Counts) (w : List ℕ) (h : f ≡ fieldEnd → ⊥) (T : Tables) (go : Rest)
     (ok : (t : List ℕ) → Bytes t → reading (opened (kw l f r n 0)) w t ≡ go t l T) where
   key-move : (k b : ℕ) (t : List ℕ) → reading (kw l f r n k) w (b ∷ t) ≡ reading (mark (kw l f r n k) b (keyByte f k) (cond (eqb b equals) (opened (kw l f r n 0)) (kw l f r n (up k)))) w t
   unfolding byteRead live inKey mark nextKey opened partBegun

@@ -14,21 +14,47 @@ use Rattle.text.specs.declared.Halt.the-variants.{Going, Order}
 use Rattle.grammar.specs.Fields.{comma}
 use Rattle.grammar.specs.Grammar.{Rest, _▸_, keep, lit, fits, numeral, parted, numberRow}
 use Rattle.text.specs.Inside.Area.{areaRoom, putByte, putWord, domIn}
-use Rattle.text.specs.Inside.Control.{partNumber, going, spotAt, noDigits, turnOf, seenOf, withDigit}
+use Rattle.text.specs.Inside.Control.{partNumber, going, spotAt, noDigits, turnOf, seenOf, withDigit, fieldClass, fieldShare, fieldEnd, noneSeen}
 use Rattle.text.specs.Inside.Fields.{leasts, limit, numberFault, countsWith, seenWith, noted, lastClass, before, fault, stored}
-use Rattle.text.specs.Inside.Steps.{mark, afterNumber}
+use Rattle.text.specs.Inside.Steps.{mark, afterNumber, valueCap}
 use Rattle.text.proofs.BridgeReading.{tablesOf, reading, Bytes, byte, marked}
 use Rattle.grammar.proofs.Runs.{Stop, nil, other}
 use Rattle.text.proofs.BridgeNumbers.{beginsDash, sound-end, sound-byte, in-range, run-of, number-ok}
 use Rattle.text.proofs.BridgeArea.{put-getD, put-same, put-length, put3-length, put3-getD}
+use Rattle.text.specs.declared.Turn.{Turn}
+use Rattle.text.specs.declared.Seen.{Seen}
 
--- a number is due: of field f in line l and row r, for variable v, at least n, the i-th, with the classes seen and the abstract states so far
-abbrev pub num : ℕ → ℕ → ℕ → ℕ → ℕ → ℕ → ℕ → ℕ → Counts → Ctrl
-num l f v n i r m p c =
-    record { halt = Going; line = l; spot = spotAt partNumber f 0 r; digits = noDigits; turn = turnOf v n i; seen = seenOf m p; counts = c }
+-- a number of field f is due in line l and row r: whose it is, and the classes and abstract states seen so far
+abbrev pub num : ℕ → ℕ → ℕ → Turn → Seen → Counts → Ctrl
+num l f r t s c =
+    record { halt = Going; line = l; spot = spotAt partNumber f 0 r; digits = noDigits; turn = t; seen = s; counts = c }
+
+-- that of variable v and item i; of variable v alone; of the row; of the line
+abbrev pub ofItem : ℕ → ℕ → ℕ → ℕ → ℕ → Counts → Ctrl
+ofItem l f v i r n = num l f r (turnOf v 0 i) noneSeen n
+
+abbrev pub ofVar : ℕ → ℕ → ℕ → ℕ → Counts → Ctrl
+ofVar l f v r n = ofItem l f v 0 r n
+
+abbrev pub ofRow : ℕ → ℕ → ℕ → Counts → Ctrl
+ofRow l f r n = ofVar l f 0 r n
+
+abbrev pub lone : ℕ → ℕ → Counts → Ctrl
+lone l f n = ofRow l f 0 n
+
+-- a fact's variable, m or a later one
+abbrev pub fromVar : ℕ → ℕ → ℕ → ℕ → Counts → Ctrl
+fromVar l f m r n = num l f r (turnOf 0 m 0) noneSeen n
+
+-- the class of variable v's value i in map r, where the mask is m and the abstract states so far are p; map r's share of operator i
+abbrev pub aClass : ℕ → ℕ → ℕ → ℕ → ℕ → ℕ → Counts → Ctrl
+aClass l v i r m p n = num l fieldClass r (turnOf v 0 i) (seenOf m p) n
+
+abbrev pub aShare : ℕ → ℕ → ℕ → Counts → Ctrl
+aShare l i r n = ofItem l fieldShare 0 i r n
 
 -- ---- the mark after a number without a fault
-pub then-mark : (c : Ctrl) (w : List ℕ) (r v x : ℕ) (d : Ctrl) (T : Tables) (k : Rest) → (c .spot .field ≡ 15 → ⊥) → (r ≡ 0 → ⊥) → fault (withDigit c r v) w ≡ Going
+pub then-mark : (c : Ctrl) (w : List ℕ) (r v x : ℕ) (d : Ctrl) (T : Tables) (k : Rest) → (c .spot .field ≡ fieldEnd → ⊥) → (r ≡ 0 → ⊥) → fault (withDigit c r v) w ≡ Going
     → ((b : ℕ) → afterNumber (noted (withDigit c r v)) w b ≡ mark (noted (withDigit c r v)) b x d)
     → ((t : List ℕ) → Bytes t → reading d (stored (withDigit c r v) w) t ≡ k t (c .line) T)
     → {t : List ℕ} → Stop t → Bytes t → reading (withDigit c r v) w t ≡ lit (x ∷ []) t (c .line) T k
@@ -47,17 +73,17 @@ order-only : (y : Bool) → cond (going (cond y Going Order)) Going (cond y Goin
 order-only true = refl
 order-only false = refl
 
-before-plain : (c : Ctrl) (w : List ℕ) (r v : ℕ) → (c .spot .field ≡ 13 → ⊥) → before (noted (withDigit c r v)) w ≡ Going
+before-plain : (c : Ctrl) (w : List ℕ) (r v : ℕ) → (c .spot .field ≡ fieldClass → ⊥) → before (noted (withDigit c r v)) w ≡ Going
 unfolding before lastClass noted withDigit seenWith countsWith
-before-plain c w r v f = simp (ne-eqb (c .spot .field) 13 f)
+before-plain c w r v f = simp (ne-eqb (c .spot .field) fieldClass f)
 
 -- a number in its range, of no class: only its order can be a fault
-pub fault-plain : (c : Ctrl) (w : List ℕ) (r v : ℕ) → (r ≡ 0 → ⊥) → (c .spot .field ≡ 13 → ⊥) → fits v (getD leasts (c .spot .field) 0) (limit c w) ≡ true
+pub fault-plain : (c : Ctrl) (w : List ℕ) (r v : ℕ) → (r ≡ 0 → ⊥) → (c .spot .field ≡ fieldClass → ⊥) → fits v (getD leasts (c .spot .field) 0) (limit c w) ≡ true
     → fault (withDigit c r v) w ≡ cond (leb (c .turn .least) v) Going Order
 unfolding fault
 fault-plain c w r v z f q = rw (judged-in c w r v q, before-plain c w r v f, run-of c r v, ne-eqb r 0 z) (order-only (leb (c .turn .least) v))
 
-pub no-fault : (c : Ctrl) (w : List ℕ) (r v : ℕ) → (r ≡ 0 → ⊥) → (c .spot .field ≡ 13 → ⊥) → fits v (getD leasts (c .spot .field) 0) (limit c w) ≡ true → c .turn .least ≤ v
+pub no-fault : (c : Ctrl) (w : List ℕ) (r v : ℕ) → (r ≡ 0 → ⊥) → (c .spot .field ≡ fieldClass → ⊥) → fits v (getD leasts (c .spot .field) 0) (limit c w) ≡ true → c .turn .least ≤ v
     → fault (withDigit c r v) w ≡ Going
 no-fault c w r v z f q h = fault-plain c w r v z f q ∙ rw (le-leb (c .turn .least) v h)
 
@@ -100,41 +126,41 @@ known-dom {j} {w} g v h a b =
     split i false e q = let n : i ≡ j → ⊥ = eqb-false i j e in rw (put-getD w j v i (omega arith)) (g .doms i (omega arith))
 
 -- ---- a row of numbers of field f, the i-th of them for variable (vi i) and item (it i)
-module _ (l f r : ℕ) (n : Counts) (vi it : ℕ → ℕ) (N : ℕ) (h : f ≡ 15 → ⊥) (c : f ≡ 13 → ⊥) (low : getD leasts f 0 ≤ 4294967295)
+module _ (l f r : ℕ) (n : Counts) (vi it : ℕ → ℕ) (N : ℕ) (h : f ≡ fieldEnd → ⊥) (c : f ≡ fieldClass → ⊥) (low : getD leasts f 0 ≤ valueCap)
     (lim : ℕ → Tables → ℕ) (keeps : ℕ → ℕ → Tables → Tables) (P : ℕ → List ℕ → Type 0) (k : Rest)
-    (bare : (i : ℕ) (t : List ℕ) → beginsDash (num l f (vi i) 0 (it i) r 0 1 n) t ≡ false)
-    (limits : (i : ℕ) (w : List ℕ) → i < N → P i w → (limit (num l f (vi i) 0 (it i) r 0 1 n) w ≡ lim i (tablesOf n w)) × (lim i (tablesOf n w) ≤ 4294967295))
+    (bare : (i : ℕ) (t : List ℕ) → beginsDash (ofItem l f (vi i) (it i) r n) t ≡ false)
+    (limits : (i : ℕ) (w : List ℕ) → i < N → P i w → (limit (ofItem l f (vi i) (it i) r n) w ≡ lim i (tablesOf n w)) × (lim i (tablesOf n w) ≤ valueCap))
     (kept : (i z v : ℕ) (w : List ℕ) → i < N → P i w → fits v (getD leasts f 0) (lim i (tablesOf n w)) ≡ true
-    → (tablesOf n (stored (withDigit (num l f (vi i) 0 (it i) r 0 1 n) z v) w) ≡ keeps i v (tablesOf n w))
-    × P (i + 1) (stored (withDigit (num l f (vi i) 0 (it i) r 0 1 n) z v) w))
+    → (tablesOf n (stored (withDigit (ofItem l f (vi i) (it i) r n) z v) w) ≡ keeps i v (tablesOf n w))
+    × P (i + 1) (stored (withDigit (ofItem l f (vi i) (it i) r n) z v) w))
     (more : (i z v b : ℕ) (w : List ℕ) → i + 1 < N
-    → afterNumber (noted (withDigit (num l f (vi i) 0 (it i) r 0 1 n) z v)) w b
-    ≡ mark (noted (withDigit (num l f (vi i) 0 (it i) r 0 1 n) z v)) b comma (num l f (vi (i + 1)) 0 (it (i + 1)) r 0 1 n))
-    (last : (i z v : ℕ) (w u : List ℕ) → i + 1 ≡ N → (z ≡ 0 → ⊥) → Stop u → Bytes u → P (i + 1) (stored (withDigit (num l f (vi i) 0 (it i) r 0 1 n) z v) w)
-    → fault (withDigit (num l f (vi i) 0 (it i) r 0 1 n) z v) w ≡ Going
-    → reading (withDigit (num l f (vi i) 0 (it i) r 0 1 n) z v) w u ≡ k u l (tablesOf n (stored (withDigit (num l f (vi i) 0 (it i) r 0 1 n) z v) w))) where
+    → afterNumber (noted (withDigit (ofItem l f (vi i) (it i) r n) z v)) w b
+    ≡ mark (noted (withDigit (ofItem l f (vi i) (it i) r n) z v)) b comma (ofItem l f (vi (i + 1)) (it (i + 1)) r n))
+    (last : (i z v : ℕ) (w u : List ℕ) → i + 1 ≡ N → (z ≡ 0 → ⊥) → Stop u → Bytes u → P (i + 1) (stored (withDigit (ofItem l f (vi i) (it i) r n) z v) w)
+    → fault (withDigit (ofItem l f (vi i) (it i) r n) z v) w ≡ Going
+    → reading (withDigit (ofItem l f (vi i) (it i) r n) z v) w u ≡ k u l (tablesOf n (stored (withDigit (ofItem l f (vi i) (it i) r n) z v) w))) where
   pub row-ok : (m i : ℕ) → i + suc m ≡ N → (w : List ℕ) → P i w → (t : List ℕ) → Bytes t
-      → reading (num l f (vi i) 0 (it i) r 0 1 n) w t ≡ numberRow (getD leasts f 0) lim keeps (suc m) i t l (tablesOf n w) k
+      → reading (ofItem l f (vi i) (it i) r n) w t ≡ numberRow (getD leasts f 0) lim keeps (suc m) i t l (tablesOf n w) k
   unfolding numberRow parted keep _▸_ withDigit
   row-ok zero i e w p t a =
       let g : i < N = omega arith in
       let q = limits i w g p in
-      number-ok (num l f (vi i) 0 (it i) r 0 1 n) w h low (rw (q .0) (q .1)) _ (tablesOf n w) k
+      number-ok (ofItem l f (vi i) (it i) r n) w h low (rw (q .0) (q .1)) _ (tablesOf n w) k
       (λ z v u y o b s.
       let s₁ : fits v (getD leasts f 0) (lim i (tablesOf n w)) ≡ true = rw (q .0) at s in
       let d = kept i z v w g p s₁ in
-      last i z v w u (omega arith) y o b (d .1) (no-fault (num l f (vi i) 0 (it i) r 0 1 n) w z v y c s zero-le) ∙ ap (λ (T : Tables). k u l T) (d .0))
+      last i z v w u (omega arith) y o b (d .1) (no-fault (ofItem l f (vi i) (it i) r n) w z v y c s zero-le) ∙ ap (λ (T : Tables). k u l T) (d .0))
       t a (bare i t)
       ∙ ap (λ (x : ℕ). numeral (getD leasts f 0) x (λ v. keep (keeps i v) ▸ parted zero comma ▸ numberRow (getD leasts f 0) lim keeps zero (i + 1)) t l (tablesOf n w) k) (q .0)
   row-ok (suc m) i e w p t a =
       let g : i < N = omega arith in
       let q = limits i w g p in
-      number-ok (num l f (vi i) 0 (it i) r 0 1 n) w h low (rw (q .0) (q .1)) _ (tablesOf n w) k
+      number-ok (ofItem l f (vi i) (it i) r n) w h low (rw (q .0) (q .1)) _ (tablesOf n w) k
       (λ z v u y o b s.
       let s₁ : fits v (getD leasts f 0) (lim i (tablesOf n w)) ≡ true = rw (q .0) at s in
       let d = kept i z v w g p s₁ in
-      then-mark (num l f (vi i) 0 (it i) r 0 1 n) w z v comma _ _ (λ u₁ m₁ U. numberRow (getD leasts f 0) lim keeps (suc m) (i + 1) u₁ m₁ U k) h y
-      (no-fault (num l f (vi i) 0 (it i) r 0 1 n) w z v y c s zero-le) (λ x. more i z v x w (omega arith))
+      then-mark (ofItem l f (vi i) (it i) r n) w z v comma _ _ (λ u₁ m₁ U. numberRow (getD leasts f 0) lim keeps (suc m) (i + 1) u₁ m₁ U k) h y
+      (no-fault (ofItem l f (vi i) (it i) r n) w z v y c s zero-le) (λ x. more i z v x w (omega arith))
       (λ u₁ b₁. row-ok m (i + 1) (omega arith) _ (d .1) u₁ b₁) o b
       ∙ ap (λ (T : Tables). lit (comma ∷ []) u l T (λ u₁ m₁ U. numberRow (getD leasts f 0) lim keeps (suc m) (i + 1) u₁ m₁ U k)) (d .0))
       t a (bare i t)

@@ -9,11 +9,11 @@ use Rattle.tables.specs.declared.Counts.{Counts}
 use Rattle.scan.specs.declared.Found.{Found}
 use Rattle.scan.specs.declared.Found.the-variants.{Clean, Fault}
 use Rattle.text.specs.declared.Halt.the-variants.{Form}
-use Rattle.tables.specs.Layout.{Tables}
+use Rattle.tables.specs.Layout.{Tables, factsRoom, costsRoom, sharesRoom}
 use Rattle.grammar.specs.Fields.{Outcome, admitted}
 use Rattle.grammar.specs.Grammar.{Verdict, _▸_, domLine, initLine, goalLine, opsLine, opLines, mapsLine, mapLines, shareLines, taskLines, settled, theEnd, noTask, verdict, outcome, readText}
-use Rattle.text.specs.Inside.Area.{areaRoom, wordIn, threes}
-use Rattle.text.specs.Inside.Control.{mk, start, stopped, St}
+use Rattle.text.specs.Inside.Area.{areaRoom, wordIn, threes, costsByte, sharesByte}
+use Rattle.text.specs.Inside.Control.{mk, start, stopped, St, fieldEdition, fieldDom, fieldMaps, fieldEnd}
 use Rattle.text.specs.Inside.Fields.{keyByte}
 use Rattle.text.specs.Inside.Steps.{inKey, live, byteRead, feed}
 use Rattle.text.specs.Inside.End.{ended, endFault, lastFault, written, leftBehind, machineEnd, machineRead, readAll}
@@ -23,16 +23,17 @@ use Rattle.text.proofs.BridgeRows.{Fits, Known}
 use Rattle.text.proofs.BridgeLines.{edition-ok, vars-ok, dom-ok, init-ok, withVars}
 use Rattle.text.proofs.BridgeOps.{goal-ok, ops-ok, op-lines-ok, withOps}
 use Rattle.text.proofs.BridgeShares.{maps-ok, map-lines-ok, share-lines-ok, withMaps}
+use Rattle.tables.specs.Lines.{lineOfDom, lineOfMaps}
 
 -- ---- after the last line
-stop-end : (l b : ℕ) (n : Counts) (w : List ℕ) → b < 256 → byteRead (mk (kw l 15 0 n 0) w) b ≡ mk (stopped (kw l 15 0 n 0) Form) w
+stop-end : (l b : ℕ) (n : Counts) (w : List ℕ) → b < 256 → byteRead (mk (kw l fieldEnd 0 n 0) w) b ≡ mk (stopped (kw l fieldEnd 0 n 0) Form) w
 unfolding byteRead live inKey keyByte
 stop-end l b n w h = rw (ne-eqb b 256 (λ q. omega arith))
 
-end-ok : (l : ℕ) (n : Counts) → Fits n → (w t : List ℕ) → Bytes t → reading (kw l 15 0 n 0) w t ≡ theEnd t l (tablesOf n w)
+end-ok : (l : ℕ) (n : Counts) → Fits n → (w t : List ℕ) → Bytes t → reading (kw l fieldEnd 0 n 0) w t ≡ theEnd t l (tablesOf n w)
 unfolding reading told feed lastFault endFault ended theEnd tablesOf
-end-ok l n sized w [] a = ap (λ (o : Found). settled o (tablesOf n w)) (over-of (kw l 15 0 n 0) w n refl (sized .ops) (sized .maps))
-end-ok l n sized w (b ∷ t) (byte h a) = moves (kw l 15 0 n 0) (stopped (kw l 15 0 n 0) Form) w w b t (stop-end l b n w h) ∙ off-form (kw l 15 0 n 0) w t
+end-ok l n sized w [] a = ap (λ (o : Found). settled o (tablesOf n w)) (over-of (kw l fieldEnd 0 n 0) w n refl (sized .ops) (sized .maps))
+end-ok l n sized w (b ∷ t) (byte h a) = moves (kw l fieldEnd 0 n 0) (stopped (kw l fieldEnd 0 n 0) Form) w w b t (stop-end l b n w h) ∙ off-form (kw l fieldEnd 0 n 0) w t
 
 -- ---- before the first line
 zeros-at : (n i : ℕ) → _≡_ {A = ℕ} (getD (replicate n 0) i 0) 0
@@ -57,13 +58,13 @@ zeros-threes (suc n) i m = rw (zeros-get3 m i, zeros-threes n (i + 3) m)
 noCounts : Counts
 noCounts = record { vars = 0; ops = 0; maps = 0 }
 
-empty-area : (m : ℕ) → 1624 ≤ m → tablesOf noCounts (replicate m 0) ≡ noTask
+empty-area : (m : ℕ) → factsRoom ≤ m → tablesOf noCounts (replicate m 0) ≡ noTask
 unfolding tablesOf noTask noCounts
-empty-area m h = rw (zeros-take 1624 m h, zeros-threes 64 1624 m, zeros-threes 512 1816 m)
+empty-area m h = rw (zeros-take factsRoom m h, zeros-threes costsRoom costsByte m, zeros-threes sharesRoom sharesByte m)
 
 -- ---- all lines of a text
 from-maps : (l : ℕ) (n : Counts) → Fits n → l ≤ 80 → (w : List ℕ) → Known (n .vars) w → (t : List ℕ) → Bytes t
-    → reading (kw l 12 0 n 0) w t ≡ (mapsLine ▸ mapLines ▸ shareLines) t l (tablesOf n w) theEnd
+    → reading (kw l fieldMaps 0 n 0) w t ≡ (mapsLine ▸ mapLines ▸ shareLines) t l (tablesOf n w) theEnd
 unfolding _▸_
 from-maps l n sized h w g =
     maps-ok l n w _ (omega arith)
@@ -74,7 +75,7 @@ from-maps l n sized h w g =
     (λ u g₁. share-lines-ok (l + 1 + v) n₁ f low (omega arith) u g₁ theEnd (λ u₁ g₂. end-ok (l + 1 + v + v) n₁ f u₁)))
 
 from-dom : (n : Counts) → Fits n → (w : List ℕ) → Known 0 w → (t : List ℕ) → Bytes t
-    → reading (kw 3 2 0 n 0) w t ≡ (domLine ▸ initLine ▸ goalLine ▸ opsLine ▸ opLines ▸ mapsLine ▸ mapLines ▸ shareLines) t 3 (tablesOf n w) theEnd
+    → reading (kw lineOfDom fieldDom 0 n 0) w t ≡ (domLine ▸ initLine ▸ goalLine ▸ opsLine ▸ opLines ▸ mapsLine ▸ mapLines ▸ shareLines) t lineOfDom (tablesOf n w) theEnd
 unfolding _▸_
 from-dom n sized w g =
     dom-ok n sized w g _
@@ -84,9 +85,9 @@ from-dom n sized w g =
     (λ v h.
     let n₁ = withOps v n in
     let f : Fits n₁ = record { low = sized .low; high = sized .high; ops = h; maps = sized .maps } in
-    op-lines-ok n₁ f u₃ g₃ _ (λ u₄ g₄. from-maps (7 + v) n₁ f (omega arith) u₄ g₄)))))
+    op-lines-ok n₁ f u₃ g₃ _ (λ u₄ g₄. from-maps (lineOfMaps v) n₁ f (omega arith) u₄ g₄)))))
 
-lines-all : (w : List ℕ) → Known 0 w → (t : List ℕ) → Bytes t → reading (kw 1 0 0 noCounts 0) w t ≡ taskLines t 1 (tablesOf noCounts w) theEnd
+lines-all : (w : List ℕ) → Known 0 w → (t : List ℕ) → Bytes t → reading (kw 1 fieldEdition 0 noCounts 0) w t ≡ taskLines t 1 (tablesOf noCounts w) theEnd
 unfolding taskLines _▸_ noCounts
 lines-all w g =
     edition-ok noCounts w _

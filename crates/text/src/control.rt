@@ -27,6 +27,7 @@ use crate::Halt;
 use crate::Seen;
 use crate::Spot;
 use crate::Turn;
+use crate::names::COUNT_CAP;
 use crate::names::EFF_LIST;
 use crate::names::FIELD_CLASS;
 use crate::names::FIELD_COST;
@@ -70,11 +71,11 @@ pub fn goes_on(k: Halt) -> bool
     }
 }
 
-// One more, up to a million.
+// One more, for counts that stay far below a cap.
 pub fn one_more(x: u32) -> u32
     ensures { λ r. ⌜ r ≡ up x ⌝ }
 {
-    if x < 999999 { x + 1 } else { 1000000 }
+    if x < COUNT_CAP { x + 1 } else { COUNT_CAP }
 }
 
 // The control before the first byte.

@@ -36,6 +36,7 @@ use crate::mask::none_missing;
 use crate::mask::width_of;
 use crate::names::BY_VALUES;
 use crate::names::BY_VARS;
+use crate::names::EDITION;
 use crate::names::FIELD_CLASS;
 use crate::names::FIELD_COST;
 use crate::names::FIELD_DOM;
@@ -47,6 +48,13 @@ use crate::names::FIELD_OPS;
 use crate::names::FIELD_PRE_VAL;
 use crate::names::FIELD_SHARE;
 use crate::names::FIELD_VARS;
+use crate::names::KIND_CLASS;
+use crate::names::KIND_COST;
+use crate::names::KIND_LINE;
+use crate::names::KIND_ROW;
+use crate::names::KIND_SHARE;
+use crate::names::KIND_VAL;
+use crate::names::KIND_VAR;
 use crate::names::RUN_NONE;
 use crate::places::class_place;
 use crate::places::cost_byte;
@@ -71,7 +79,7 @@ const LEASTS: [u32; 16] = [1, 1, 1, 0, 0, 0, 0, 0, 0, 0, 0, 0, 1, 0, 0, 0];
 
 // The first number beyond a field's range.
 const LIMITS: [u32; 16] = [
-    2,
+    EDITION + 1,
     VARS_MOST + 1,
     VALUES_MOST + 1,
     BY_VALUES,
@@ -89,7 +97,24 @@ const LIMITS: [u32; 16] = [
     BY_VALUES,
 ];
 
-const KINDS: [u32; 16] = [0, 0, 1, 1, 2, 3, 0, 4, 2, 3, 2, 3, 0, 5, 6, 0];
+const KINDS: [u32; 16] = [
+    KIND_LINE,
+    KIND_LINE,
+    KIND_ROW,
+    KIND_ROW,
+    KIND_VAR,
+    KIND_VAL,
+    KIND_LINE,
+    KIND_COST,
+    KIND_VAR,
+    KIND_VAL,
+    KIND_VAR,
+    KIND_VAL,
+    KIND_LINE,
+    KIND_CLASS,
+    KIND_SHARE,
+    KIND_LINE,
+];
 
 pub fn key_byte(f: u32, k: u32) -> u32
     ensures { λ r. ⌜ r ≡ keyByte f k ⌝ }

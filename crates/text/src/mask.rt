@@ -2,6 +2,7 @@
 ghost use mathlib.Core.Path.{_≡_};
 ghost use Rattle.text.specs.Inside.Fields.{withClass, width, gapless, times};
 use crate::area::wide;
+use crate::names::STATES_OVER;
 use meaning::limits::STATES_MOST;
 
 pub fn add_class(m: u32, x: u32) -> u32
@@ -22,13 +23,17 @@ pub fn none_missing(m: u32) -> bool
     width_of(m) == u32::count_ones(m)
 }
 
-// The abstract states with one variable more, which has n classes; counted up to 4,097.
+// The abstract states with one variable more, which has n classes; counted up to one too many.
 pub fn multiply(p: u32, n: u32) -> u32
     ensures { λ r. ⌜ r ≡ times p n ⌝ }
 {
     if STATES_MOST < p {
-        return 4097;
+        return STATES_OVER;
     }
     let x = wide(p) * wide(n);
-    if x < 4097 { x as u32 } else { 4097 }
+    if x < STATES_OVER as usize {
+        x as u32
+    } else {
+        STATES_OVER
+    }
 }

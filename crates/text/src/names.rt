@@ -2,6 +2,7 @@
 ghost use mathlib.Core.Path.{_≡_};
 ghost use Prim.Native.Nat.{_-_};
 ghost use Rattle.grammar.specs.Fields.{isDigit};
+use meaning::limits::STATES_MOST;
 
 // The parts of a line.
 pub const PART_KEY: u32 = 0;
@@ -59,6 +60,8 @@ pub const RUN_ON: u32 = 2;
 
 // What follows a number: its line's end, the next of a row over the variables, a fact's colon, more facts or their end, the
 // preconditions, the next class, the next share.
+pub const KIND_LINE: u32 = 0;
+
 pub const KIND_ROW: u32 = 1;
 
 pub const KIND_VAR: u32 = 2;
@@ -94,6 +97,16 @@ pub const SEMICOLON: u32 = b';' as u32;
 pub const ZERO: u32 = b'0' as u32;
 
 pub const NINE: u32 = b'9' as u32;
+
+// The edition of the text.
+pub const EDITION: u32 = 1;
+
+// The caps: of a digit run's value, above every range; of lines, rows and turns, above every count; of abstract states, one too many.
+pub const VALUE_CAP: u32 = 4294967295;
+
+pub const COUNT_CAP: u32 = 1000000;
+
+pub const STATES_OVER: u32 = STATES_MOST + 1;
 
 // The work area: the costs follow the facts, the shares the costs.
 pub const COSTS_BYTE: usize = 1624;

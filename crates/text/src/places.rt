@@ -6,35 +6,40 @@ ghost use Rattle.text.specs.Inside.Area.{costByte, shareByte};
 use crate::area::wide;
 use crate::names::COSTS_BYTE;
 use crate::names::SHARES_BYTE;
+use tables::readers::CLASS_ROWS;
+use tables::readers::EFF_ROWS;
+use tables::readers::GOAL_ROW;
+use tables::readers::INIT_ROW;
+use tables::readers::PRE_ROWS;
 
 pub fn init_place(v: u32) -> usize
     ensures { λ r. ⌜ r ≡ initPlace v ⌝ }
 {
-    8 + wide(v)
+    INIT_ROW as usize * 8 + wide(v)
 }
 
 pub fn goal_place(v: u32) -> usize
     ensures { λ r. ⌜ r ≡ goalPlace v ⌝ }
 {
-    16 + wide(v)
+    GOAL_ROW as usize * 8 + wide(v)
 }
 
 pub fn pre_place(o: u32, v: u32) -> usize
     ensures { λ r. ⌜ r ≡ prePlace o v ⌝ }
 {
-    24 + (wide(o) * 8 + wide(v))
+    (PRE_ROWS as usize + wide(o)) * 8 + wide(v)
 }
 
 pub fn eff_place(o: u32, v: u32) -> usize
     ensures { λ r. ⌜ r ≡ effPlace o v ⌝ }
 {
-    536 + (wide(o) * 8 + wide(v))
+    (EFF_ROWS as usize + wide(o)) * 8 + wide(v)
 }
 
 pub fn class_place(m: u32, v: u32, x: u32) -> usize
     ensures { λ r. ⌜ r ≡ classPlace m v x ⌝ }
 {
-    1048 + (wide(m) * 64 + (wide(v) * 8 + wide(x)))
+    (CLASS_ROWS as usize + (wide(m) * 8 + wide(v))) * 8 + wide(x)
 }
 
 pub fn cost_byte(o: u32) -> usize

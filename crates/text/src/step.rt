@@ -74,6 +74,7 @@ use crate::names::RUN_ON;
 use crate::names::RUN_ZERO;
 use crate::names::SEMICOLON;
 use crate::names::SLASH;
+use crate::names::VALUE_CAP;
 use crate::names::digit_of;
 use crate::names::is_digit;
 
@@ -94,15 +95,11 @@ pub fn in_key(c: Ctrl, b: u32) -> Ctrl
 pub fn longer(v: u32, d: u32) -> u32
     ensures { λ r. ⌜ r ≡ more v d ⌝ }
 {
-    if v <= 429496729 {
+    if v <= VALUE_CAP / 10 {
         let x = 10 * v;
-        if d <= 4294967295 - x {
-            x + d
-        } else {
-            4294967295
-        }
+        if d <= VALUE_CAP - x { x + d } else { VALUE_CAP }
     } else {
-        4294967295
+        VALUE_CAP
     }
 }
 

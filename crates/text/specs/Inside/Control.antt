@@ -115,9 +115,12 @@ going Order = false
 going Missing = false
 going States = false
 
--- one more, for counts that stay far below a million
+-- one more, for counts that stay far below a cap
+abbrev pub countCap : ℕ
+countCap = 1000000
+
 abbrev pub up : ℕ → ℕ
-up x = min (x + 1) 1000000
+up x = min (x + 1) countCap
 
 -- ---- THE PARTS OF A CONTROL
 abbrev pub spotAt : ℕ → ℕ → ℕ → ℕ → Spot

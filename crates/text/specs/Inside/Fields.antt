@@ -94,9 +94,12 @@ width m = 32 - leadingZeros 32 m
 unfoldable pub gapless : ℕ → Bool
 gapless m = eqb (width m) (ones m)
 
--- the abstract states so far, counted up to 4,097
+-- the abstract states so far, counted up to one too many
+abbrev pub statesOver : ℕ
+statesOver = mostStates + 1
+
 unfoldable pub times : ℕ → ℕ → ℕ
-times p n = cond (ltb mostStates p) 4097 (min (p * n) 4097)
+times p n = cond (ltb mostStates p) statesOver (min (p * n) statesOver)
 
 -- what a finished number is to the control: a count, a class seen
 unfoldable pub countsWith : Ctrl → Counts

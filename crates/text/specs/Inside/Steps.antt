@@ -63,8 +63,11 @@ inKey c b =
     cond (eqb b (keyByte (c .spot .field) (c .spot .key))) (cond (eqb b equals) (opened c) (nextKey c)) (stopped c Form)
 
 -- a digit run's value, however long, capped above every range
+abbrev pub valueCap : ℕ
+valueCap = 4294967295
+
 unfoldable pub more : ℕ → ℕ → ℕ
-more v d = min (10 * v + d) 4294967295
+more v d = min (10 * v + d) valueCap
 
 -- the run with one digit more: after a single 0 none may come
 abbrev pub runWith : ℕ → ℕ → ℕ

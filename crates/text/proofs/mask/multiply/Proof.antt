@@ -32,6 +32,6 @@ multiply-spec =
     returns
     (λ c κs. search needs) (λ c κs. search needs)
     mul-x
-    (λ c. search needs)
+    (λ c. search needs) (λ c. search needs)
     returns-2
     returns-3)
