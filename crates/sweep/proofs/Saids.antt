@@ -60,7 +60,7 @@ lower-none (fin a) = refl
 pub relax-none : (best price beyond : ℕ) → beyond ≡ NONE → said best ≡ lower (said best) (plus price (said beyond))
 relax-none best price beyond e = rw (said-none beyond e) (sym (lower-none (said best)))
 
-lower-fin : (best x : ℕ) → best ≤ NONE → x < best → lower (said best) (fin x) ≡ fin x
+lower-fin : (best x : ℕ) → best ≤ NONE → x ≤ best → lower (said best) (fin x) ≡ fin x
 lower-fin best x k l = go (ℕ-discrete best NONE)
   where
     go : Dec (best ≡ NONE) → lower (said best) (fin x) ≡ fin x
@@ -70,10 +70,10 @@ lower-fin best x k l = go (ℕ-discrete best NONE)
 lower-keep : (best x : ℕ) → best ≤ x → x < NONE → lower (said best) (fin x) ≡ said best
 lower-keep best x l k = rw (said-lt best (omega arith)) (ap fin (omega arith))
 
-pub relax-take : (best price beyond : ℕ) → best ≤ NONE → beyond < NONE → price + beyond < best
+pub relax-take : (best price beyond : ℕ) → best ≤ NONE → beyond < NONE → price + beyond < NONE → price + beyond ≤ best
     → said (price + beyond) ≡ lower (said best) (plus price (said beyond))
-relax-take best price beyond k l h =
-    rw (said-lt beyond l, said-lt (price + beyond) (omega arith)) (sym (lower-fin best (price + beyond) k h))
+relax-take best price beyond k l s h =
+    rw (said-lt beyond l, said-lt (price + beyond) s) (sym (lower-fin best (price + beyond) k h))
 
 pub relax-keep : (best price beyond : ℕ) → beyond < NONE → price + beyond < NONE → best ≤ price + beyond
     → said best ≡ lower (said best) (plus price (said beyond))

@@ -15,14 +15,15 @@ add-x c =
 
 returns-2 : tie.Need-returns-2
 returns-2 c =
+    let pre = c .before .before .pre in
     let a = c .before .before .args in
-    relax-take (a .best) (a .price) (a .beyond) (omega arith) (omega arith) (c .if2 .taken)
+    relax-take (a .best) (a .price) (a .beyond) (omega arith) (omega arith) (omega (arith, pre (omega arith))) (omega arith)
 
 returns-3 : tie.Need-returns-3
 returns-3 c =
     let pre = c .before .before .pre in
     let a = c .before .before .args in
-    relax-keep (a .best) (a .price) (a .beyond) (omega arith) (omega (arith, pre (omega arith))) (c .if2 .left)
+    relax-keep (a .best) (a .price) (a .beyond) (omega arith) (omega (arith, pre (omega arith))) (omega arith)
 
 pub relax-spec : {M : Type 1} → statement M
 relax-spec = tie.close (tie.spec
