@@ -7,3 +7,4 @@ pub mod Sums
 pub mod Bounds
 pub mod Theorems
 pub mod Columns
+pub mod Alike

@@ -3,3 +3,4 @@ pub mod RowFaults
 pub mod Rules
 pub mod Decides
 pub mod Validity
+pub mod Alike

@@ -2,17 +2,18 @@
 -- their variables and operators. Assumes nothing.
 use mathlib.Core.Path.{_≡_, refl, sym, ap, ap₂, _∙_}
 use mathlib.Core.List.{List}
-use Prim.Native.Nat.{ℕ, zero, suc, _+_, _*_, _-_, _/_, _%_, _≤_, _<_}
+use Prim.Native.Nat.{ℕ, zero, suc, _-_, _≤_, _<_}
 use native.Mathlib.Nat.{le-refl}
 use native.Mathlib.Omega.{arith}
 use Rattle.graph.specs.Cost.{Cost, lower, plus}
 use Rattle.graph.specs.Graph.{Next, stop, to, Graph}
 use Rattle.graph.specs.Least.{atGoal, afterStep, best, least, Unchanged, Rounds}
 use Rattle.graph.proofs.Leasts.{least-zero, least-suc}
-use Rattle.meaning.specs.Numbering.{size, number, digit}
+use Rattle.meaning.specs.Numbering.{digit}
 use Rattle.meaning.specs.Sas.{Facts, Sas, put}
 use Rattle.meaning.specs.Views.{holds, every, toIf, space}
 use Rattle.meaning.proofs.Facts.{every-same}
+use Rattle.meaning.proofs.Alike.{size-alike, digit-alike, number-alike}
 use Rattle.sweep.specs.Inside.Sweeps.{Counted}
 
 pub record Alike (G H : Graph) : Type 0 where
@@ -64,22 +65,6 @@ module _ {G H : Graph} (same : Alike G H) where
               kept = λ a l. c .table .kept a (rw (same .states) l);
             };
       }
-
--- ---- numbers by radices that agree
-
-module _ (K L : ℕ → ℕ) where
-  pub size-alike : (k : ℕ) → ((v : ℕ) → v < k → K v ≡ L v) → size K k ≡ size L k
-  size-alike zero h = refl
-  size-alike (suc k) h = ap₂ _*_ (size-alike k (λ v l. h v (omega arith))) (h k (le-refl (suc k)))
-
-  digit-alike : (k : ℕ) → ((v : ℕ) → v < k → K v ≡ L v) → (a v : ℕ) → v < k → digit K a v ≡ digit L a v
-  digit-alike k h a v l = ap₂ (λ x y. a / x % y) (size-alike v (λ u g. h u (omega arith))) (h v l)
-
-  number-alike : (d e : ℕ → ℕ) (k : ℕ) → ((v : ℕ) → v < k → K v ≡ L v) → ((v : ℕ) → v < k → d v ≡ e v) → number K d k ≡ number L e k
-  number-alike d e zero h g = refl
-  number-alike d e (suc k) h g =
-      ap₂ _+_ (number-alike d e k (λ v l. h v (omega arith)) (λ v l. g v (omega arith)))
-      (ap₂ _*_ (g k (le-refl (suc k))) (size-alike k (λ v l. h v (omega arith))))
 
 -- ---- tasks
 

@@ -13,6 +13,7 @@ use Rattle.meaning.proofs.Induced.{seen-below, α-below}
 use Rattle.meaning.proofs.Distances.{round-distance}
 use Rattle.meaning.proofs.Sums.{sum-zero}
 use Rattle.meaning.proofs.Bounds.{view-onto}
+use Rattle.meaning.proofs.Alike.{size-alike}
 use Rattle.tables.specs.declared.Counts.{Counts}
 use Rattle.tables.specs.Layout.{Tables, rowAt, domAt, goalAt, preAt, effAt, goalRow, preRow, effRow, classAt, shareAt}
 use Rattle.tables.specs.Task.{sasOf, taskOf, tables, stateOf}
@@ -21,7 +22,7 @@ use Rattle.sweep.specs.Inside.Walks.{spaceOf, Walkable}
 use Rattle.sweep.specs.Inside.Sweeps.{PricesSmall, Counted}
 use Rattle.sweep.specs.Inside.Classes.{seenRows, unpriced, viewOf, viewGraphOf, SharesSmall, imageOf, Classed}
 use Rattle.sweep.proofs.Classing.{counts-positive}
-use Rattle.sweep.proofs.Alike.{Alike, size-alike, spaces-alike, counted-alike}
+use Rattle.sweep.proofs.Alike.{Alike, spaces-alike, counted-alike}
 
 module _ (c : Counts) (facts : List ℕ) (m : ℕ) (ok : Valid (unpriced c facts)) (lm : m < c .maps) (r : List ℕ) (C : Classed c facts m r) where
   -- an accepted row of facts is seen by classes

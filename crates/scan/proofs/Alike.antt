@@ -1,0 +1,253 @@
+-- Tables that agree at every place that is read have the same first fault, and so have the states beside them; and if there is none, they spell the same task.
+-- Rule by rule, in the scan's order; that tables agree may be shown with what the rules before have let pass. Assumes nothing.
+use Prim.Native.Nat.{ℕ, zero, suc, _+_, _≤_, _<_}
+use mathlib.Core.Path.{_≡_, refl, sym, ap, ap₂, _∙_, fun-ext, subst}
+use mathlib.Core.Bool.{Bool, true, _||_}
+use mathlib.Core.List.{List}
+use native.Mathlib.Omega.{arith}
+use lib.Dec.{leb, ltb, eqb}
+use lib.ListN.{length}
+use Rattle.refusals.specs.declared.Refusal.the-variants.{OutOfRange, ClassMissing, SharesAboveCost, TooManyStates, TableTooShort, ValueOutside}
+use Rattle.meaning.specs.Limits.{mostVars, mostValues, mostOps, mostCost, mostMaps, mostStates}
+use Rattle.meaning.specs.Sas.{Facts}
+use Rattle.meaning.specs.Views.{every}
+use Rattle.meaning.specs.Split.{Task, countOf, sum, Valid}
+use Rattle.meaning.proofs.Columns.{sum-same}
+use Rattle.meaning.proofs.Alike.{size-alike, count-alike, SameTask}
+use Rattle.tables.specs.declared.Counts.{Counts}
+use Rattle.tables.specs.Layout.{Tables, domAt, initAt, goalAt, preAt, effAt, classAt, costAt, shareAt}
+use Rattle.tables.specs.Task.{tables, taskOf, stateOf}
+use Rattle.tables.specs.Classes.{someHas, noneMissing}
+use Rattle.tables.specs.Lines.{lineOfVars, lineOfDom, lineOfInit, lineOfGoal, lineOfOps, lineOfOp, lineOfMaps, lineOfMap, lineOfShares}
+use Rattle.scan.specs.declared.Found.{Found}
+use Rattle.scan.specs.declared.Found.the-variants.{Clean, Fault}
+use Rattle.scan.specs.Scan.{unless, _then_, each, within, factsFault, operatorFault, classesFault, mapFault, sharesFault, splitFault, taskFault, roomy}
+use Rattle.scan.specs.Scan.{tablesFault, stateFault, inputFault}
+use Rattle.scan.specs.Own.{OwnSame, OwnState}
+use Rattle.scan.proofs.Walks.{clean-first, clean-next, rule-held, tests-held}
+use Rattle.scan.proofs.Rules.{within-says}
+use Rattle.scan.proofs.Validity.{clean-valid}
+
+-- ---- rules one after another
+
+pub then-same : (a a′ b b′ : Found) → a ≡ a′ → (a ≡ Clean → b ≡ b′) → a then b ≡ a′ then b′
+then-same a a′ b b′ p q = at a q ∙ ap (λ (x : Found). x then b′) p
+  where
+    at : (x : Found) → (x ≡ Clean → b ≡ b′) → x then b ≡ x then b′
+    at Clean h = h refl
+    at (Fault r) h = refl
+
+each-same : (f g : ℕ → Found) (n i : ℕ) → ((j : ℕ) → j < i + n → f j ≡ g j) → each f n i ≡ each g n i
+unfolding each
+each-same f g zero i h = refl
+each-same f g (suc n) i h = ap₂ _then_ (h i (omega arith)) (each-same f g n (suc i) (λ j l. h j (omega arith)))
+
+walk-same : (f g : ℕ → Found) (n : ℕ) → ((j : ℕ) → j < n → f j ≡ g j) → each f n 0 ≡ each g n 0
+walk-same f g n h = each-same f g n 0 (λ j l. h j (omega arith))
+
+-- ---- classes that agree
+
+some-same : (c c′ : ℕ → ℕ) (n y : ℕ) → ((x : ℕ) → x < n → c x ≡ c′ x) → someHas c n y ≡ someHas c′ n y
+some-same c c′ zero y h = refl
+some-same c c′ (suc n) y h = ap₂ _||_ (some-same c c′ n y (λ x l. h x (omega arith))) (ap (λ (z : ℕ). eqb z y) (h n (omega arith)))
+
+missing-same : (c c′ : ℕ → ℕ) (n : ℕ) → ((x : ℕ) → x < n → c x ≡ c′ x) → noneMissing c n ≡ noneMissing c′ n
+missing-same c c′ n h = ap₂ every (fun-ext (λ y. some-same c c′ n y h)) (count-alike c c′ n h)
+
+-- ---- tables of the same counts
+
+-- the rules from the line of the numbers of values on
+abbrev values : Task → Found
+values T =
+    each (λ v. unless (within 1 mostValues (T .sas .dom v)) (OutOfRange lineOfDom)) (T .sas .vars) 0
+    then each (λ v. unless (ltb (T .sas .init v) (T .sas .dom v)) (OutOfRange lineOfInit)) (T .sas .vars) 0
+    then factsFault T (T .sas .goal) lineOfGoal
+    then unless (leb (T .sas .ops) mostOps) (OutOfRange lineOfOps)
+    then each (operatorFault T) (T .sas .ops) 0
+    then unless (within 1 mostMaps (T .maps)) (OutOfRange (lineOfMaps (T .sas .ops)))
+    then each (mapFault T) (T .maps) 0
+    then each (sharesFault T) (T .maps) 0
+    then each (splitFault T) (T .sas .ops) 0
+
+-- they agree at every place that is read; of the classes only where a map and a value are within the limits, for the scan is over before it reads others
+pub record Agree (c : Counts) (f f′ k k′ s s′ : List ℕ) : Type 0 where
+  pub dom : (v : ℕ) → v < c .vars → domAt f v ≡ domAt f′ v
+  pub init : (v : ℕ) → v < c .vars → initAt f v ≡ initAt f′ v
+  pub goal : (v : ℕ) → v < c .vars → goalAt f v ≡ goalAt f′ v
+  pub pre : (o v : ℕ) → o < c .ops → v < c .vars → preAt f o v ≡ preAt f′ o v
+  pub eff : (o v : ℕ) → o < c .ops → v < c .vars → effAt f o v ≡ effAt f′ o v
+  pub class : (m v x : ℕ) → m < c .maps → m < mostMaps → v < c .vars → x < domAt f v → x < mostValues → classAt f m v x ≡ classAt f′ m v x
+  pub cost : (o : ℕ) → o < c .ops → costAt k o ≡ costAt k′ o
+  pub share : (m o : ℕ) → m < c .maps → o < c .ops → shareAt s m o ≡ shareAt s′ m o
+
+module _ (c : Counts) (f f′ k k′ s s′ : List ℕ) (A : Agree c f f′ k k′ s s′) where
+  abbrev T : Task
+  T = taskOf (tables c f k s)
+
+  abbrev T′ : Task
+  T′ = taskOf (tables c f′ k′ s′)
+
+  facts-same : (F F′ : Facts) (line : ℕ) → ((v : ℕ) → v < c .vars → F v ≡ F′ v) → factsFault T F line ≡ factsFault T′ F′ line
+  unfolding factsFault
+  facts-same F F′ line h =
+      walk-same (λ v. unless (leb (F v) (T .sas .dom v)) (OutOfRange line)) (λ v. unless (leb (F′ v) (T′ .sas .dom v)) (OutOfRange line)) (c .vars)
+      (λ v l. ap₂ (λ (x d : ℕ). unless (leb x d) (OutOfRange line)) (h v l) (A .dom v l))
+
+  operator-same : (o : ℕ) → o < c .ops → operatorFault T o ≡ operatorFault T′ o
+  unfolding operatorFault
+  operator-same o l =
+      ap₂ _then_ (ap (λ (x : ℕ). unless (leb x mostCost) (OutOfRange (lineOfOp o))) (A .cost o l))
+      (ap₂ _then_ (facts-same (T .sas .pre o) (T′ .sas .pre o) (lineOfOp o) (λ v g. A .pre o v l g))
+      (facts-same (T .sas .eff o) (T′ .sas .eff o) (lineOfOp o) (λ v g. A .eff o v l g)))
+
+  -- the rules of a variable's classes, by its number of values
+  abbrev rules : (ℕ → ℕ) → ℕ → ℕ → Found
+  rules class line d = each (λ x. unless (ltb (class x) d) (OutOfRange line)) d 0 then unless (noneMissing class d) (ClassMissing line)
+
+  -- a map and numbers of values within the limits
+  module _ (m : ℕ) (lm : m < c .maps) (few : m < mostMaps) (fits : (v : ℕ) → v < c .vars → domAt f v ≤ mostValues) where
+    class-same : (v x : ℕ) → v < c .vars → x < domAt f v → T .class m v x ≡ T′ .class m v x
+    class-same v x l h = A .class m v x lm few l h (omega (arith, fits v l))
+
+    classes-same : (v line : ℕ) → v < c .vars → classesFault T m line v ≡ classesFault T′ m line v
+    unfolding classesFault
+    classes-same v line l =
+        let d = domAt f v in
+        ap₂ _then_
+        (walk-same (λ x. unless (ltb (T .class m v x) d) (OutOfRange line)) (λ x. unless (ltb (T′ .class m v x) d) (OutOfRange line)) d
+        (λ x h. ap (λ (y : ℕ). unless (ltb y d) (OutOfRange line)) (class-same v x l h)))
+        (ap (λ (y : Bool). unless y (ClassMissing line)) (missing-same (T .class m v) (T′ .class m v) d (λ x h. class-same v x l h)))
+        ∙ ap (rules (T′ .class m v) line) (A .dom v l)
+
+    map-same : mapFault T m ≡ mapFault T′ m
+    unfolding mapFault
+    map-same =
+        let line = lineOfMap (c .ops) m in
+        ap₂ _then_ (walk-same (classesFault T m line) (classesFault T′ m line) (c .vars) (λ v l. classes-same v line l))
+        (ap (λ (x : ℕ). unless (leb x mostStates) (TooManyStates line))
+        (size-alike (λ v. countOf (T .class m v) (T .sas .dom v)) (λ v. countOf (T′ .class m v) (T′ .sas .dom v)) (c .vars)
+        (λ v l. count-alike (T .class m v) (T′ .class m v) (domAt f v) (λ x h. class-same v x l h) ∙ ap (countOf (T′ .class m v)) (A .dom v l))))
+
+  shares-same : (m : ℕ) → m < c .maps → sharesFault T m ≡ sharesFault T′ m
+  unfolding sharesFault
+  shares-same m lm =
+      let r = OutOfRange (lineOfShares (c .ops) (c .maps) m) in
+      walk-same (λ o. unless (leb (T .share m o) mostCost) r) (λ o. unless (leb (T′ .share m o) mostCost) r) (c .ops)
+      (λ o l. ap (λ (x : ℕ). unless (leb x mostCost) r) (A .share m o lm l))
+
+  split-same : (o : ℕ) → o < c .ops → splitFault T o ≡ splitFault T′ o
+  unfolding splitFault
+  split-same o l =
+      ap₂ (λ (x y : ℕ). unless (leb x y) (SharesAboveCost (lineOfOp o)))
+      (sum-same (λ m. T .share m o) (λ m. T′ .share m o) (c .maps) (λ m g. A .share m o g l)) (A .cost o l)
+
+  values-same : values T ≡ values T′
+  values-same =
+      then-same _ _ _ _
+      (walk-same (λ v. unless (within 1 mostValues (T .sas .dom v)) (OutOfRange lineOfDom)) (λ v. unless (within 1 mostValues (T′ .sas .dom v)) (OutOfRange lineOfDom)) (c .vars)
+      (λ v l. ap (λ (d : ℕ). unless (within 1 mostValues d) (OutOfRange lineOfDom)) (A .dom v l)))
+      (λ e.
+      ap₂ _then_
+      (walk-same (λ v. unless (ltb (T .sas .init v) (T .sas .dom v)) (OutOfRange lineOfInit)) (λ v. unless (ltb (T′ .sas .init v) (T′ .sas .dom v)) (OutOfRange lineOfInit)) (c .vars)
+      (λ v l. ap₂ (λ (x d : ℕ). unless (ltb x d) (OutOfRange lineOfInit)) (A .init v l) (A .dom v l)))
+      (ap₂ _then_ (facts-same (T .sas .goal) (T′ .sas .goal) lineOfGoal (A .goal))
+      (ap (λ (x : Found). unless (leb (c .ops) mostOps) (OutOfRange lineOfOps) then x)
+      (ap₂ _then_ (walk-same (operatorFault T) (operatorFault T′) (c .ops) operator-same)
+      (then-same _ _ _ _ refl
+      (λ g.
+      let maps = within-says 1 mostMaps (c .maps) (rule-held (within 1 mostMaps (c .maps)) (OutOfRange (lineOfMaps (c .ops))) g) .1 in
+      let fits : (v : ℕ) → v < c .vars → domAt f v ≤ mostValues = λ v h. within-says 1 mostValues (domAt f v)
+      (tests-held (λ v. within 1 mostValues (domAt f v)) (λ v. OutOfRange lineOfDom) (c .vars) v e h) .1 in
+      ap₂ _then_ (walk-same (mapFault T) (mapFault T′) (c .maps) (λ m l. map-same m l (omega (arith, maps)) fits))
+      (ap₂ _then_ (walk-same (sharesFault T) (sharesFault T′) (c .maps) shares-same) (walk-same (splitFault T) (splitFault T′) (c .ops) split-same))))))))
+
+  -- a valid task's tables spell the same task
+  task-alike : Valid T → SameTask T T′
+  task-alike ok =
+      record {
+        sas =
+            record { vars = refl; ops = refl; dom = A .dom; goal = A .goal; cost = A .cost; pre = A .pre; eff = A .eff };
+        maps = refl;
+        class = λ m v x lm l h. A .class m v x lm (omega (arith, ok .maps .1)) l h (omega (arith, ok .values v l));
+        share = A .share;
+      }
+
+-- t and u are read alike: the same first fault, and where there is none, the same task
+pub record ReadAlike (t u : Tables) : Type 0 where
+  pub fault : tablesFault t ≡ tablesFault u
+  pub task : tablesFault t ≡ Clean → SameTask (taskOf t) (taskOf u)
+
+-- ---- THE FIRST FAULT IS THE SAME
+
+module _ (c : Counts) (f f′ k k′ s s′ : List ℕ) (room : roomy (tables c f k s) ≡ roomy (tables c f′ k′ s′))
+    (A : roomy (tables c f k s) ≡ true → c .vars ≤ mostVars → Agree c f f′ k k′ s s′) where
+  few : unless (within 1 mostVars (c .vars)) (OutOfRange lineOfVars) ≡ Clean → c .vars ≤ mostVars
+  few g = within-says 1 mostVars (c .vars) (rule-held (within 1 mostVars (c .vars)) (OutOfRange lineOfVars) g) .1
+
+  task-same : roomy (tables c f k s) ≡ true → taskFault (taskOf (tables c f k s)) ≡ taskFault (taskOf (tables c f′ k′ s′))
+  unfolding taskFault
+  task-same e = then-same _ _ _ _ refl (λ g. values-same c f f′ k k′ s s′ (A e (few g)))
+
+  tables-same : tablesFault (tables c f k s) ≡ tablesFault (tables c f′ k′ s′)
+  unfolding tablesFault
+  tables-same =
+      then-same _ _ _ _ (ap (λ (b : Bool). unless b TableTooShort) room) (λ e. task-same (rule-held (roomy (tables c f k s)) TableTooShort e))
+
+  -- clean tables have room, and few variables
+  clean-agree : tablesFault (tables c f k s) ≡ Clean → Agree c f f′ k k′ s s′
+  unfolding tablesFault taskFault
+  clean-agree e =
+      A (rule-held (roomy (tables c f k s)) TableTooShort (clean-first _ _ e))
+      (few (clean-first _ _ (clean-next (unless (roomy (tables c f k s)) TableTooShort) _ e)))
+
+  pub read-alike : ReadAlike (tables c f k s) (tables c f′ k′ s′)
+  read-alike =
+      record { fault = tables-same; task = λ e. task-alike c f f′ k k′ s s′ (clean-agree e) (clean-valid (tables c f k s) e) }
+
+-- ---- OWN PLACES ALONE ARE READ
+
+module _ (t u : Tables) (O : OwnSame t u) where
+  -- u's tables with the counts of t
+  abbrev beside : Tables
+  beside = tables (t .counts) (u .facts) (u .costs) (u .shares)
+
+  beside-is : beside ≡ u
+  beside-is = ap (λ (c : Counts). tables c (u .facts) (u .costs) (u .shares)) (O .counts)
+
+  own-agree : Agree (t .counts) (t .facts) (u .facts) (t .costs) (u .costs) (t .shares) (u .shares)
+  own-agree =
+      record {
+        dom = O .dom;
+        init = O .init;
+        goal = O .goal;
+        pre = O .pre;
+        eff = O .eff;
+        class = λ m v x lm few l h fits. O .class m v x lm l h;
+        cost = O .cost;
+        share = O .share;
+      }
+
+  pub own-alike : ReadAlike t u
+  own-alike =
+      subst (ReadAlike t) beside-is
+      (read-alike (t .counts) (t .facts) (u .facts) (t .costs) (u .costs) (t .shares) (u .shares) (O .room ∙ ap roomy (sym beside-is)) (λ e few. own-agree))
+
+-- ---- the state beside them
+
+module _ {t u : Tables} (E : ReadAlike t u) (x z : List ℕ) (O : OwnState (t .counts) x z) where
+  pub state-same : tablesFault t ≡ Clean → stateFault (t .counts) (t .facts) x ≡ stateFault (u .counts) (u .facts) z
+  unfolding stateFault
+  state-same e =
+      let S = E .task e .sas in
+      ap₂ _then_ (ap (λ (b : Bool). unless b TableTooShort) (O .room ∙ ap (λ (n : ℕ). leb n (length z)) (S .vars)))
+      (walk-same (λ v. unless (ltb (stateOf x v) (domAt (t .facts) v)) (ValueOutside v)) (λ v. unless (ltb (stateOf z v) (domAt (u .facts) v)) (ValueOutside v)) (t .counts .vars)
+      (λ v l. ap₂ (λ (y d : ℕ). unless (ltb y d) (ValueOutside v)) (O .values v l) (S .dom v l))
+      ∙ ap (λ (n : ℕ). each (λ v. unless (ltb (stateOf z v) (domAt (u .facts) v)) (ValueOutside v)) n 0) (S .vars))
+
+  pub input-same : inputFault t x ≡ inputFault u z
+  unfolding inputFault
+  input-same = then-same _ _ _ _ (E .fault) state-same
+
+-- every state is the same as itself
+pub state-own : (c : Counts) (x : List ℕ) → OwnState c x x
+state-own c x = record { room = refl; values = λ v l. refl }
