@@ -80,6 +80,12 @@ pub judged-short : (c : Counts) (room n : ℕ) (t : Laid) (shares s ops : List �
 unfolding laidJudged
 judged-short c room n t shares s ops h = rw (lt-leb factsRoom room h)
 
+-- a copy as far as a table goes has its room exactly if what is copied has
+pub take-room : (l : List ℕ) (m : ℕ) → leb m (length l) ≡ leb m (length (take m l))
+take-room l m =
+    by-cases (leb m (length l)) (λ e. rw (length-take-le m l (leb-true m (length l) e), e) (sym (le-leb m m (omega arith))))
+    (λ e. rw (take-all m l (omega (arith, leb-false m (length l) e))) refl)
+
 -- tables that have their rooms have it for the facts
 pub room-facts : (t : Tables) → roomy t ≡ true → factsRoom ≤ length (t .facts)
 unfolding roomy

@@ -15,9 +15,9 @@ use Rattle.meaning.proofs.Facts.{by-cases}
 use Rattle.scan.proofs.Validity.{clean-valid}
 use Rattle.sequences.specs.Judging.{judgedOf}
 use Rattle.sequences.proofs.Passing.{input-clean}
+use Rattle.sequences.proofs.Alike.{judged-unless-same}
 use Rattle.records.specs.declared.OpRecord.{OpRecord}
 use Rattle.records.specs.Records.{atMost, moreOps, recordsTables}
-use Rattle.records.proofs.Alike.{unless-same}
 
 -- the counts with another number of operators
 abbrev pub numbered : Counts → ℕ → Counts
@@ -35,7 +35,7 @@ module _ (c : Counts) (f k shares : List ℕ) (a b : ℕ) (p : mostOps < a) (q :
   many-alike : (s ops : List ℕ) → judgedOf (tables (numbered c a) f k shares) s ops ≡ judgedOf (tables (numbered c b) f k shares) s ops
   unfolding judgedOf
   many-alike s ops =
-      unless-same _ _ _ _ (many-input s)
+      judged-unless-same _ _ _ _ (many-input s)
       (λ e. absurd (let z : ⊥ = omega (arith, clean-valid (tables (numbered c a) f k shares) (input-clean (tables (numbered c a) f k shares) s e .0) .ops) in z))
 
 -- with the whole length for the number of operators the answer is the same

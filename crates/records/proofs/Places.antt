@@ -57,11 +57,15 @@ module _ (t : Laid) (o : ℕ) (r : OpRecord) where
   one-eff v l few long =
       row-there (rowLaid (t .facts) (preRow o) (r .pre) mostVars) (r .eff) (effRow o) mostVars v l (omega (arith, length-row (t .facts) (r .pre) (preRow o) mostVars))
 
+-- a place in none of the operators' rows
+abbrev pub Outside : ℕ → Type 0
+Outside q = (o v : ℕ) → o < 2 * mostOps → v < mostVars → q ≡ prePlace o v → ⊥
+
 -- ---- the first n records
 
 module _ (rows : List OpRecord) (t : Laid) where
   -- a place outside the operators' rows
-  pub laid-other : (n q : ℕ) → n ≤ mostOps → ((o v : ℕ) → o < 2 * mostOps → v < mostVars → q ≡ prePlace o v → ⊥) → getD (laidOf rows n t .facts) q 0 ≡ getD (t .facts) q 0
+  pub laid-other : (n q : ℕ) → n ≤ mostOps → Outside q → getD (laidOf rows n t .facts) q 0 ≡ getD (t .facts) q 0
   unfolding laidOf
   laid-other zero q few h = refl
   laid-other (suc o) q few h =

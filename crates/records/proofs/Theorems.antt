@@ -11,18 +11,19 @@ use lib.Seq.{length-take-le, take-all, getD-take}
 use borrow.Author.Tests.{le-leb, leb-true, leb-false}
 use Rattle.meaning.specs.Limits.{mostVars, mostOps}
 use Rattle.tables.specs.declared.Counts.{Counts}
-use Rattle.tables.specs.Layout.{Tables, place, factsRoom, costsRoom, sharesRoom, preAt, effAt, costAt, classPlace}
+use Rattle.tables.specs.Layout.{Tables, factsRoom, costsRoom, sharesRoom, preAt, effAt, costAt, domPlace, initPlace, goalPlace, classPlace}
 use Rattle.tables.specs.Task.{tables}
 use Rattle.scan.specs.Scan.{roomy}
+use Rattle.scan.proofs.Alike.{Agree, read-alike, state-own}
 use Rattle.meaning.proofs.Facts.{by-cases}
 use Rattle.sequences.specs.declared.judging.Judged.{Judged}
 use Rattle.sequences.specs.Judging.{judgedOf}
+use Rattle.sequences.proofs.Alike.{judged-alike}
 use Rattle.records.specs.declared.OpRecord.{OpRecord}
 use Rattle.records.specs.declared.laying.Laid.{Laid}
 use Rattle.records.specs.Records.{recordAt, laidOf, blank, moreOps, counted, recordsTables}
-use Rattle.records.proofs.Laws.{most-within, room-facts, length-laid-facts, length-laid-costs}
-use Rattle.records.proofs.Places.{laid-other, laid-pre, laid-eff, laid-cost}
-use Rattle.records.proofs.Alike.{Agree, judged-same}
+use Rattle.records.proofs.Laws.{most-within, take-room, room-facts, length-laid-facts, length-laid-costs}
+use Rattle.records.proofs.Places.{Outside, laid-other, laid-pre, laid-eff, laid-cost}
 
 -- ---- no second answer
 
@@ -48,12 +49,6 @@ module _ (t : Tables) (rows : List OpRecord) (h : Spells t rows) where
   abbrev laid : Laid
   laid = laidOf rows n (blank (t .facts))
 
-  -- a copy as far as a table goes has its room exactly if what is copied has
-  take-room : (l : List ℕ) (m : ℕ) → leb m (length l) ≡ leb m (length (take m l))
-  take-room l m =
-      by-cases (leb m (length l)) (λ e. rw (length-take-le m l (leb-true m (length l) e), e) (sym (le-leb m m (omega arith))))
-      (λ e. rw (take-all m l (omega (arith, leb-false m (length l) e))) refl)
-
   room-same : roomy t ≡ roomy (tables (t .counts) (laid .facts) (laid .costs) (t .shares))
   unfolding roomy
   room-same =
@@ -62,21 +57,21 @@ module _ (t : Tables) (rows : List OpRecord) (h : Spells t rows) where
       (le-leb costsRoom (length (t .costs)) (h .room) ∙ sym (le-leb costsRoom (length (laid .costs))
       (omega (arith, length-laid-costs rows n (blank (t .facts)), length-replicate {A = ℕ} costsRoom 0)))))
 
-  agree : roomy t ≡ true → t .counts .vars ≤ mostVars → Agree (t .counts) (t .facts) (laid .facts) (t .costs) (laid .costs)
+  agree : roomy t ≡ true → t .counts .vars ≤ mostVars → Agree (t .counts) (t .facts) (laid .facts) (t .costs) (laid .costs) (t .shares) (t .shares)
   agree e few =
       let long = room-facts t e in
       let whole : length (take factsRoom (t .facts)) ≡ factsRoom = length-take-le factsRoom (t .facts) long in
+      let other : (q : ℕ) → q < factsRoom → Outside q → getD (t .facts) q 0 ≡ getD (laid .facts) q 0 = λ q l out. sym (laid-other rows (blank (t .facts)) n q (h .few) out
+      ∙ getD-take factsRoom (t .facts) q 0 l) in
       record {
-        head =
-            λ row v l g.
-            sym (laid-other rows (blank (t .facts)) n (place row v) (h .few) (λ o u a b e. omega arith) ∙ getD-take factsRoom (t .facts) (place row v) 0 (omega arith));
-        pre = λ o v l g. sym (laid-pre rows (blank (t .facts)) n o v (h .few) l (omega arith) (omega arith) ∙ h .pre o v l g);
-        eff = λ o v l g. sym (laid-eff rows (blank (t .facts)) n o v (h .few) l (omega arith) (omega arith) ∙ h .eff o v l g);
-        class =
-            λ m v x a l b.
-            sym (laid-other rows (blank (t .facts)) n (classPlace m v x) (h .few) (λ o u i j e. omega arith)
-            ∙ getD-take factsRoom (t .facts) (classPlace m v x) 0 (omega arith));
-        cost = λ o l. sym (laid-cost rows (blank (t .facts)) n o l (omega (arith, h .few, length-replicate {A = ℕ} costsRoom 0)) ∙ h .cost o l);
+        dom = λ v g. other (domPlace v) (omega arith) (λ o u a b e. omega arith);
+        init = λ v g. other (initPlace v) (omega arith) (λ o u a b e. omega arith);
+        goal = λ v g. other (goalPlace v) (omega arith) (λ o u a b e. omega arith);
+        pre = λ o v l lo g. sym (laid-pre rows (blank (t .facts)) n o v (h .few) l (omega arith) (omega arith) ∙ h .pre o v l g);
+        eff = λ o v l lo g. sym (laid-eff rows (blank (t .facts)) n o v (h .few) l (omega arith) (omega arith) ∙ h .eff o v l g);
+        class = λ m v x lm a l d b. other (classPlace m v x) (omega arith) (λ o u i j e. omega arith);
+        cost = λ o l lo. sym (laid-cost rows (blank (t .facts)) n o l (omega (arith, length-replicate {A = ℕ} costsRoom 0)) ∙ h .cost o l);
+        share = λ m o lm l. refl;
       }
 
   counts-same : counted (t .counts) n ≡ t .counts
@@ -86,4 +81,4 @@ module _ (t : Tables) (rows : List OpRecord) (h : Spells t rows) where
   unfolding recordsTables
   records-agree s ops =
       rw (h .number, sym (most-within mostOps n (h .few)), counts-same)
-      (sym (judged-same (t .counts) (t .facts) (laid .facts) (t .costs) (laid .costs) (t .shares) room-same agree s ops))
+      (sym (judged-alike (read-alike (t .counts) (t .facts) (laid .facts) (t .costs) (laid .costs) (t .shares) (t .shares) room-same agree) s s (state-own (t .counts) s) ops))

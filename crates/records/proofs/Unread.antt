@@ -1,51 +1,36 @@
--- The operators' rows of the lent facts aren't read: facts that differ in these rows alone are judged the same. (That the lent count of operators isn't read is seen in `recordsTables`.)
--- Assumes nothing.
-use Prim.Native.Nat.{ℕ, zero, suc, _*_, _≤_, _<_, min}
+-- Beside the row only a task's own places are read, and none of the operators' rows of the lent facts: facts and shares that agree there, and states that agree at
+-- the variables, are judged the same. (That the lent count of operators isn't read is seen in `recordsTables`.) Assumes nothing.
+use Prim.Native.Nat.{ℕ, zero, suc, _≤_, _<_}
 use mathlib.Core.Path.{_≡_, refl, ap, ap₂, sym, _∙_}
 use mathlib.Core.Bool.{true, _&&_}
 use mathlib.Core.List.{List}
 use native.Mathlib.Omega.{arith}
-use lib.Dec.{leb, ltb}
-use lib.ListN.{length, getD, set, take, length-take}
+use lib.Dec.{leb}
+use lib.ListN.{length, getD, set, take}
 use lib.Seq.{getD-take}
-use borrow.Author.Tests.{le-leb, leb-true, ltb-true, ltb-false}
 use Rattle.meaning.specs.Limits.{mostVars, mostOps}
 use Rattle.tables.specs.declared.Counts.{Counts}
-use Rattle.tables.specs.Layout.{place, factsRoom, costsRoom, sharesRoom, preAt, effAt, costAt, prePlace, effPlace, classPlace}
+use Rattle.tables.specs.Layout.{factsRoom, costsRoom, domAt, costAt, domPlace, initPlace, goalPlace, classPlace}
 use Rattle.tables.specs.Task.{tables}
 use Rattle.scan.specs.Scan.{roomy}
+use Rattle.scan.specs.Own.{OwnState}
+use Rattle.scan.proofs.Alike.{Agree, read-alike}
 use Rattle.meaning.proofs.Facts.{by-cases}
 use Rattle.sequences.specs.Judging.{judgedOf}
+use Rattle.sequences.proofs.Alike.{judged-alike}
 use Rattle.records.specs.declared.OpRecord.{OpRecord}
 use Rattle.records.specs.declared.laying.Laid.{Laid}
 use Rattle.records.specs.Records.{recordAt, atMost, laidOne, laidOf, blank, moreOps, counted, recordsTables}
-use Rattle.records.proofs.Laws.{at-most-limit, room-facts, length-laid-facts}
-use Rattle.records.proofs.Places.{laid-other, laid-pre, laid-eff}
-use Rattle.records.proofs.Alike.{Agree, judged-same}
-
--- a place in none of the operators' rows
-abbrev pub Outside : ℕ → Type 0
-Outside q = (o v : ℕ) → o < 2 * mostOps → v < mostVars → q ≡ prePlace o v → ⊥
+use Rattle.records.specs.Own.{OwnBeside}
+use Rattle.records.proofs.Laws.{at-most-limit, at-most-number, take-room, room-facts, length-laid-facts}
+use Rattle.records.proofs.Places.{Outside, laid-other, laid-pre, laid-eff}
 
 costs-same : (rows : List OpRecord) (m : ℕ) (t u : Laid) → t .costs ≡ u .costs → laidOf rows m t .costs ≡ laidOf rows m u .costs
 unfolding laidOf laidOne
 costs-same rows zero t u e = e
 costs-same rows (suc o) t u e = ap (λ (l : List ℕ). set l o (recordAt rows o .cost)) (costs-same rows o t u e)
 
--- an operator that is counted and not laid is the one that stands for all above the limit
-beyond : (m o : ℕ) → o < atMost moreOps m → atMost mostOps m ≤ o → (o ≡ mostOps) × (0 < atMost mostOps m)
-beyond m o h g =
-    by-cases (leb m mostOps)
-    (λ e.
-    let l : m ≤ mostOps = leb-true m mostOps e in
-    let a : o < m = rw (le-leb m moreOps (omega arith)) at h in
-    let b : m ≤ o = rw e at g in
-    absurd (let z : ⊥ = omega arith in z))
-    (λ e.
-    let b : mostOps ≤ o = rw e at g in
-    (omega (arith, at-most-limit moreOps m), rw e (omega arith)))
-
-module _ (c : Counts) (f g shares : List ℕ) (rows : List OpRecord) (size : length f ≡ length g) (same : (q : ℕ) → Outside q → getD f q 0 ≡ getD g q 0) where
+module _ (c : Counts) (f g s z : List ℕ) (rows : List OpRecord) (O : OwnBeside c (length rows) f g s z) where
   abbrev n : ℕ
   n = atMost mostOps (length rows)
 
@@ -58,60 +43,69 @@ module _ (c : Counts) (f g shares : List ℕ) (rows : List OpRecord) (size : len
   abbrev G : Laid
   G = laidOf rows n (blank g)
 
-  other : (q : ℕ) → q < factsRoom → Outside q → getD (F .facts) q 0 ≡ getD (G .facts) q 0
-  other q l h =
-      laid-other rows (blank f) n q (at-most-limit mostOps (length rows)) h ∙ getD-take factsRoom f q 0 l ∙ same q h
-      ∙ sym (laid-other rows (blank g) n q (at-most-limit mostOps (length rows)) h ∙ getD-take factsRoom g q 0 l)
+  few : n ≤ mostOps
+  few = at-most-limit mostOps (length rows)
 
-  taken : length (take factsRoom f) ≡ length (take factsRoom g)
-  taken = length-take factsRoom f ∙ ap (min factsRoom) size ∙ sym (length-take factsRoom g)
+  -- as much room as was lent
+  laid-room : (l : List ℕ) → leb factsRoom (length (laidOf rows n (blank l) .facts)) ≡ leb factsRoom (length l)
+  laid-room l = ap (leb factsRoom) (length-laid-facts rows n (blank l)) ∙ sym (take-room l factsRoom)
 
-  lengths : length (F .facts) ≡ length (G .facts)
-  lengths = length-laid-facts rows n (blank f) ∙ taken ∙ sym (length-laid-facts rows n (blank g))
-
-  costs : F .costs ≡ G .costs
-  costs = costs-same rows n (blank f) (blank g) refl
-
-  room-same : roomy (tables d (F .facts) (F .costs) shares) ≡ roomy (tables d (G .facts) (G .costs) shares)
+  room-same : roomy (tables d (F .facts) (F .costs) s) ≡ roomy (tables d (G .facts) (G .costs) z)
   unfolding roomy
-  room-same = ap₂ (λ (x y : ℕ). leb factsRoom x && leb costsRoom y && leb sharesRoom (length shares)) lengths (ap length costs)
+  room-same =
+      ap₂ _&&_
+      (ap₂ _&&_ (laid-room f ∙ O .facts-room ∙ sym (laid-room g)) (ap (λ (l : List ℕ). leb costsRoom (length l)) (costs-same rows n (blank f) (blank g) refl)))
+      (O .shares-room)
 
-  module _ (long : factsRoom ≤ length (F .facts)) (few : c .vars ≤ mostVars) where
+  module _ (long : factsRoom ≤ length (F .facts)) (long′ : factsRoom ≤ length (G .facts)) where
     far : 1048 ≤ length (take factsRoom f)
     far = omega (arith, length-laid-facts rows n (blank f))
 
     far′ : 1048 ≤ length (take factsRoom g)
-    far′ = omega (arith, far, taken)
+    far′ = omega (arith, length-laid-facts rows n (blank g))
 
-    pre : (o v : ℕ) → o < n → v < mostVars → preAt (F .facts) o v ≡ preAt (G .facts) o v
-    pre o v l h = laid-pre rows (blank f) n o v (at-most-limit mostOps (length rows)) l h far ∙ sym (laid-pre rows (blank g) n o v (at-most-limit mostOps (length rows)) l h far′)
+    -- a place outside the operators' rows is as it was lent
+    other : (q : ℕ) → q < factsRoom → Outside q → getD f q 0 ≡ getD g q 0 → getD (F .facts) q 0 ≡ getD (G .facts) q 0
+    other q l h e =
+        laid-other rows (blank f) n q few h ∙ getD-take factsRoom f q 0 l ∙ e ∙ sym (laid-other rows (blank g) n q few h ∙ getD-take factsRoom g q 0 l)
 
-    eff : (o v : ℕ) → o < n → v < mostVars → effAt (F .facts) o v ≡ effAt (G .facts) o v
-    eff o v l h = laid-eff rows (blank f) n o v (at-most-limit mostOps (length rows)) l h far ∙ sym (laid-eff rows (blank g) n o v (at-most-limit mostOps (length rows)) l h far′)
+    -- an operator within the limit is laid
+    laid : (o : ℕ) → o < d .ops → o < mostOps → o < n
+    laid o l h =
+        by-cases (leb (length rows) mostOps)
+        (λ e. rw e (omega (arith, at-most-number moreOps (length rows))))
+        (λ e. rw e h)
 
-    agree : Agree d (F .facts) (G .facts) (F .costs) (G .costs)
-    agree =
+    -- the number of values of a variable is as it was lent
+    dom-lent : (v : ℕ) → v < mostVars → domAt (F .facts) v ≡ domAt f v
+    dom-lent v l =
+        laid-other rows (blank f) n (domPlace v) few (λ o u a b e. omega arith) ∙ getD-take factsRoom f (domPlace v) 0 (omega arith)
+
+    agree : c .vars ≤ mostVars → Agree d (F .facts) (G .facts) (F .costs) (G .costs) s z
+    agree fits =
         record {
-          head = λ row v l h. other (place row v) (omega arith) (λ o u a b e. omega arith);
+          dom = λ v l. other (domPlace v) (omega arith) (λ o u a b e. omega arith) (O .dom v l);
+          init = λ v l. other (initPlace v) (omega arith) (λ o u a b e. omega arith) (O .init v l);
+          goal = λ v l. other (goalPlace v) (omega arith) (λ o u a b e. omega arith) (O .goal v l);
           pre =
-              λ o v l h.
-              by-cases (ltb o n) (λ e. pre o v (ltb-true o n e) (omega arith))
-              (λ e.
-              let b = beyond (length rows) o l (ltb-false o n e) in
-              rw (b .0) (eff 0 v (b .1) (omega arith)));
+              λ o v lo h l.
+              laid-pre rows (blank f) n o v few (laid o lo h) (omega arith) far ∙ sym (laid-pre rows (blank g) n o v few (laid o lo h) (omega arith) far′);
           eff =
-              λ o v l h.
-              by-cases (ltb o n) (λ e. eff o v (ltb-true o n e) (omega arith))
-              (λ e.
-              let b = beyond (length rows) o l (ltb-false o n e) in
-              rw (b .0) (other (effPlace mostOps v) (omega arith) (λ o u i j e. omega arith)));
-          class = λ m v x a l h. other (classPlace m v x) (omega arith) (λ o u i j e. omega arith);
-          cost = λ o l. ap (λ (k : List ℕ). costAt k o) costs;
+              λ o v lo h l.
+              laid-eff rows (blank f) n o v few (laid o lo h) (omega arith) far ∙ sym (laid-eff rows (blank g) n o v few (laid o lo h) (omega arith) far′);
+          class =
+              λ m v x lm a l h b.
+              other (classPlace m v x) (omega arith) (λ o u i j e. omega arith) (O .class m v x lm l (omega (arith, dom-lent v (omega arith))));
+          cost = λ o l h. ap (λ (k : List ℕ). costAt k o) (costs-same rows n (blank f) (blank g) refl);
+          share = λ m o lm l. O .share m o lm (omega (arith, at-most-number moreOps (length rows)));
         }
 
-  from-room : roomy (tables d (F .facts) (F .costs) shares) ≡ true → c .vars ≤ mostVars → Agree d (F .facts) (G .facts) (F .costs) (G .costs)
-  from-room e few = agree (room-facts (tables d (F .facts) (F .costs) shares) e) few
+  from-room : roomy (tables d (F .facts) (F .costs) s) ≡ true → c .vars ≤ mostVars → Agree d (F .facts) (G .facts) (F .costs) (G .costs) s z
+  from-room e =
+      agree (room-facts (tables d (F .facts) (F .costs) s) e) (room-facts (tables d (G .facts) (G .costs) z) (sym room-same ∙ e))
 
-  pub operators-unread : (s ops : List ℕ) → judgedOf (recordsTables c f shares rows) s ops ≡ judgedOf (recordsTables c g shares rows) s ops
+  pub records-own : (x y ops : List ℕ) → OwnState c x y → judgedOf (recordsTables c f s rows) x ops ≡ judgedOf (recordsTables c g z rows) y ops
   unfolding recordsTables
-  operators-unread s ops = judged-same d (F .facts) (G .facts) (F .costs) (G .costs) shares room-same from-room s ops
+  records-own x y ops S =
+      judged-alike (read-alike d (F .facts) (G .facts) (F .costs) (G .costs) s z room-same from-room) x y
+      (record { room = S .room; values = S .values }) ops

@@ -7,6 +7,7 @@ use mathlib.Core.List.{List}
 use native.Mathlib.Omega.{arith}
 use lib.Dec.{leb, ltb, eqb}
 use lib.ListN.{length}
+use borrow.Author.Tests.{leb-true}
 use Rattle.refusals.specs.declared.Refusal.the-variants.{OutOfRange, ClassMissing, SharesAboveCost, TooManyStates, TableTooShort, ValueOutside}
 use Rattle.meaning.specs.Limits.{mostVars, mostValues, mostOps, mostCost, mostMaps, mostStates}
 use Rattle.meaning.specs.Sas.{Facts}
@@ -69,15 +70,15 @@ values T =
     then each (sharesFault T) (T .maps) 0
     then each (splitFault T) (T .sas .ops) 0
 
--- they agree at every place that is read; of the classes only where a map and a value are within the limits, for the scan is over before it reads others
+-- they agree at every place that is read: of operators, maps and values only those within the limits, for the scan is over before it reads others
 pub record Agree (c : Counts) (f f′ k k′ s s′ : List ℕ) : Type 0 where
   pub dom : (v : ℕ) → v < c .vars → domAt f v ≡ domAt f′ v
   pub init : (v : ℕ) → v < c .vars → initAt f v ≡ initAt f′ v
   pub goal : (v : ℕ) → v < c .vars → goalAt f v ≡ goalAt f′ v
-  pub pre : (o v : ℕ) → o < c .ops → v < c .vars → preAt f o v ≡ preAt f′ o v
-  pub eff : (o v : ℕ) → o < c .ops → v < c .vars → effAt f o v ≡ effAt f′ o v
+  pub pre : (o v : ℕ) → o < c .ops → o < mostOps → v < c .vars → preAt f o v ≡ preAt f′ o v
+  pub eff : (o v : ℕ) → o < c .ops → o < mostOps → v < c .vars → effAt f o v ≡ effAt f′ o v
   pub class : (m v x : ℕ) → m < c .maps → m < mostMaps → v < c .vars → x < domAt f v → x < mostValues → classAt f m v x ≡ classAt f′ m v x
-  pub cost : (o : ℕ) → o < c .ops → costAt k o ≡ costAt k′ o
+  pub cost : (o : ℕ) → o < c .ops → o < mostOps → costAt k o ≡ costAt k′ o
   pub share : (m o : ℕ) → m < c .maps → o < c .ops → shareAt s m o ≡ shareAt s′ m o
 
 module _ (c : Counts) (f f′ k k′ s s′ : List ℕ) (A : Agree c f f′ k k′ s s′) where
@@ -93,12 +94,12 @@ module _ (c : Counts) (f f′ k k′ s s′ : List ℕ) (A : Agree c f f′ k k�
       walk-same (λ v. unless (leb (F v) (T .sas .dom v)) (OutOfRange line)) (λ v. unless (leb (F′ v) (T′ .sas .dom v)) (OutOfRange line)) (c .vars)
       (λ v l. ap₂ (λ (x d : ℕ). unless (leb x d) (OutOfRange line)) (h v l) (A .dom v l))
 
-  operator-same : (o : ℕ) → o < c .ops → operatorFault T o ≡ operatorFault T′ o
+  operator-same : (o : ℕ) → o < c .ops → o < mostOps → operatorFault T o ≡ operatorFault T′ o
   unfolding operatorFault
-  operator-same o l =
-      ap₂ _then_ (ap (λ (x : ℕ). unless (leb x mostCost) (OutOfRange (lineOfOp o))) (A .cost o l))
-      (ap₂ _then_ (facts-same (T .sas .pre o) (T′ .sas .pre o) (lineOfOp o) (λ v g. A .pre o v l g))
-      (facts-same (T .sas .eff o) (T′ .sas .eff o) (lineOfOp o) (λ v g. A .eff o v l g)))
+  operator-same o l few =
+      ap₂ _then_ (ap (λ (x : ℕ). unless (leb x mostCost) (OutOfRange (lineOfOp o))) (A .cost o l few))
+      (ap₂ _then_ (facts-same (T .sas .pre o) (T′ .sas .pre o) (lineOfOp o) (λ v g. A .pre o v l few g))
+      (facts-same (T .sas .eff o) (T′ .sas .eff o) (lineOfOp o) (λ v g. A .eff o v l few g)))
 
   -- the rules of a variable's classes, by its number of values
   abbrev rules : (ℕ → ℕ) → ℕ → ℕ → Found
@@ -135,11 +136,11 @@ module _ (c : Counts) (f f′ k k′ s s′ : List ℕ) (A : Agree c f f′ k k�
       walk-same (λ o. unless (leb (T .share m o) mostCost) r) (λ o. unless (leb (T′ .share m o) mostCost) r) (c .ops)
       (λ o l. ap (λ (x : ℕ). unless (leb x mostCost) r) (A .share m o lm l))
 
-  split-same : (o : ℕ) → o < c .ops → splitFault T o ≡ splitFault T′ o
+  split-same : (o : ℕ) → o < c .ops → o < mostOps → splitFault T o ≡ splitFault T′ o
   unfolding splitFault
-  split-same o l =
+  split-same o l few =
       ap₂ (λ (x y : ℕ). unless (leb x y) (SharesAboveCost (lineOfOp o)))
-      (sum-same (λ m. T .share m o) (λ m. T′ .share m o) (c .maps) (λ m g. A .share m o g l)) (A .cost o l)
+      (sum-same (λ m. T .share m o) (λ m. T′ .share m o) (c .maps) (λ m g. A .share m o g l)) (A .cost o l few)
 
   values-same : values T ≡ values T′
   values-same =
@@ -151,22 +152,32 @@ module _ (c : Counts) (f f′ k k′ s s′ : List ℕ) (A : Agree c f f′ k k�
       (walk-same (λ v. unless (ltb (T .sas .init v) (T .sas .dom v)) (OutOfRange lineOfInit)) (λ v. unless (ltb (T′ .sas .init v) (T′ .sas .dom v)) (OutOfRange lineOfInit)) (c .vars)
       (λ v l. ap₂ (λ (x d : ℕ). unless (ltb x d) (OutOfRange lineOfInit)) (A .init v l) (A .dom v l)))
       (ap₂ _then_ (facts-same (T .sas .goal) (T′ .sas .goal) lineOfGoal (A .goal))
-      (ap (λ (x : Found). unless (leb (c .ops) mostOps) (OutOfRange lineOfOps) then x)
-      (ap₂ _then_ (walk-same (operatorFault T) (operatorFault T′) (c .ops) operator-same)
+      (then-same _ _ _ _ refl
+      (λ b.
+      let ops : c .ops ≤ mostOps = leb-true (c .ops) mostOps (rule-held (leb (c .ops) mostOps) (OutOfRange lineOfOps) b) in
+      ap₂ _then_ (walk-same (operatorFault T) (operatorFault T′) (c .ops) (λ o l. operator-same o l (omega arith)))
       (then-same _ _ _ _ refl
       (λ g.
       let maps = within-says 1 mostMaps (c .maps) (rule-held (within 1 mostMaps (c .maps)) (OutOfRange (lineOfMaps (c .ops))) g) .1 in
       let fits : (v : ℕ) → v < c .vars → domAt f v ≤ mostValues = λ v h. within-says 1 mostValues (domAt f v)
       (tests-held (λ v. within 1 mostValues (domAt f v)) (λ v. OutOfRange lineOfDom) (c .vars) v e h) .1 in
       ap₂ _then_ (walk-same (mapFault T) (mapFault T′) (c .maps) (λ m l. map-same m l (omega (arith, maps)) fits))
-      (ap₂ _then_ (walk-same (sharesFault T) (sharesFault T′) (c .maps) shares-same) (walk-same (splitFault T) (splitFault T′) (c .ops) split-same))))))))
+      (ap₂ _then_ (walk-same (sharesFault T) (sharesFault T′) (c .maps) shares-same) (walk-same (splitFault T) (splitFault T′) (c .ops) (λ o l. split-same o l (omega arith))))))))))
 
   -- a valid task's tables spell the same task
   task-alike : Valid T → SameTask T T′
   task-alike ok =
       record {
         sas =
-            record { vars = refl; ops = refl; dom = A .dom; goal = A .goal; cost = A .cost; pre = A .pre; eff = A .eff };
+            record {
+              vars = refl;
+              ops = refl;
+              dom = A .dom;
+              goal = A .goal;
+              cost = λ o l. A .cost o l (omega (arith, ok .ops));
+              pre = λ o v lo l. A .pre o v lo (omega (arith, ok .ops)) l;
+              eff = λ o v lo l. A .eff o v lo (omega (arith, ok .ops)) l;
+            };
         maps = refl;
         class = λ m v x lm l h. A .class m v x lm (omega (arith, ok .maps .1)) l h (omega (arith, ok .values v l));
         share = A .share;
@@ -220,10 +231,10 @@ module _ (t u : Tables) (O : OwnSame t u) where
         dom = O .dom;
         init = O .init;
         goal = O .goal;
-        pre = O .pre;
-        eff = O .eff;
+        pre = λ o v lo few l. O .pre o v lo l;
+        eff = λ o v lo few l. O .eff o v lo l;
         class = λ m v x lm few l h fits. O .class m v x lm l h;
-        cost = O .cost;
+        cost = λ o l few. O .cost o l;
         share = O .share;
       }
 

@@ -1,7 +1,8 @@
 -- What the contracts of the three entries give: no second answer meets them, and what each answer promises. Assumes nothing.
-use Prim.Native.Nat.{ℕ}
-use mathlib.Core.Path.{_≡_, sym, _∙_, subst}
+use Prim.Native.Nat.{ℕ, zero, suc, _<_}
+use mathlib.Core.Path.{_≡_, refl, sym, _∙_, subst}
 use mathlib.Core.List.{List, []}
+use native.Mathlib.Omega.{arith}
 use lib.ListN.{take}
 use denote.Ref.{RefT, now}
 use Rattle.graph.specs.Cost.{_⊑_}
@@ -10,21 +11,22 @@ use Rattle.meaning.specs.Bound.{bound}
 use Rattle.meaning.proofs.Bounds.{admissible}
 use Rattle.tables.specs.Layout.{Tables}
 use Rattle.tables.specs.Task.{taskOf, sasOf, stateOf}
-use Rattle.scan.specs.declared.Found.the-variants.{Clean}
+use Rattle.refusals.specs.declared.Refusal.{Refusal}
+use Rattle.scan.specs.declared.Found.the-variants.{Clean, Fault}
 use Rattle.scan.proofs.Validity.{clean-valid, state-clean}
 use Rattle.sequences.specs.declared.judging.Judged.{Judged}
 use Rattle.sequences.specs.declared.judging.Judged.the-variants.{Passed}
 use Rattle.sequences.specs.declared.choosing.Choice.{Choice}
 use Rattle.sequences.specs.declared.choosing.Choice.the-variants.{FirstPart, SecondPart, NoPart, Unread}
 use Rattle.sequences.specs.declared.choosing.Cheaper.{Cheaper}
-use Rattle.sequences.specs.declared.choosing.Cheaper.the-variants.{First, Second, Neither, Refused}
+use Rattle.sequences.specs.declared.choosing.Cheaper.the-variants.{Refused}
 use Rattle.scan.specs.Scan.{inputFault}
 use Rattle.sequences.specs.Judging.{judgedOf}
-use Rattle.sequences.specs.Choosing.{chosenOf, namedOf, cheaperOf, listOf, stepsOf}
+use Rattle.sequences.specs.Choosing.{chosenOf, namedOf, cheaperOf, listNamed, costNamed, listOf, stepsOf}
 use Rattle.sequences.specs.Opening.{Opening, OpeningOf}
 use Rattle.sequences.proofs.Passing.{input-clean, clean-input, passed-exactly}
 use Rattle.sequences.proofs.Moments.{Moment}
-use Rattle.sequences.proofs.Choices.{Promised, chosen-promised}
+use Rattle.sequences.proofs.Choices.{AtLeast, NonePasses, Named, Promised, chosen-promised}
 
 -- ---- no second answer
 
@@ -57,37 +59,41 @@ passed-bound t s ops c e =
 
 -- ---- the cheaper of two
 
--- what each answer promises: the named list has an opening part that passes at exactly the named cost, and neither has a cheaper one
-abbrev pub CheaperPromised : Tables → List ℕ → List ℕ → List ℕ → Cheaper → Type 0
-CheaperPromised t s a b (First p) = (n : ℕ) × Promised t s a b (FirstPart n p)
-CheaperPromised t s a b (Second p) = (n : ℕ) × Promised t s a b (SecondPart n p)
-CheaperPromised t s a b Neither = Promised t s a b NoPart
-CheaperPromised t s a b (Refused r) = Promised t s a b (Unread r)
+-- what the number of the named list and the named cost promise: that list has an opening part that passes at exactly that cost, and neither list has a
+-- cheaper one; where the second is named, the first has none at that cost either. Neither: no opening part of either passes, and the cost is 0.
+-- All of it of lists within the step limit; one above it is out
+abbrev pub CheaperPromised : Sas → State → List ℕ → List ℕ → ℕ → ℕ → Type 0
+CheaperPromised S s a b zero p = NonePasses S s a × NonePasses S s b × (p ≡ 0)
+CheaperPromised S s a b (suc zero) p = ((n : ℕ) × Named S s a n p) × AtLeast S s b p
+CheaperPromised S s a b (suc (suc k)) p = ((n : ℕ) × Named S s b n p) × AtLeast S s a (suc p)
 
-pub cheaper-promised : (t : Tables) (s a b : List ℕ) → CheaperPromised t s a b (cheaperOf t s a b)
-cheaper-promised t s a b = at (chosenOf t s a b) (chosen-promised t s a b)
-  where
-    at : (d : Choice) → Promised t s a b d → CheaperPromised t s a b (namedOf d)
-    at (FirstPart n p) h = (n, h)
-    at (SecondPart n p) h = (n, h)
-    at NoPart h = h
-    at (Unread r) h = h
+module _ (t : Tables) (s a b : List ℕ) where
+  abbrev PromisedOf : Cheaper → Type 0
+  PromisedOf x = CheaperPromised (sasOf t) (stateOf s) a b (listNamed x) (costNamed x)
 
--- the named cost too is at least the bound
-abbrev pub CostBounded : Tables → List ℕ → Cheaper → Type 0
-CostBounded t s (First p) = bound (taskOf t) (stateOf s) ⊑ p
-CostBounded t s (Second p) = bound (taskOf t) (stateOf s) ⊑ p
-CostBounded t s Neither = Unit {0}
-CostBounded t s (Refused r) = Unit {0}
+  pub cheaper-promised : inputFault t s ≡ Clean → PromisedOf (cheaperOf t s a b)
+  cheaper-promised e = at (chosenOf t s a b) (chosen-promised t s a b)
+    where
+      at : (d : Choice) → Promised t s a b d → PromisedOf (namedOf d)
+      at (FirstPart n p) h = ((n, h .1), h .2)
+      at (SecondPart n p) h = ((n, h .1), h .2)
+      at NoPart h = (h .1, h .2, refl)
+      at (Unread r) h = let c = sym e ∙ h in absurd (let z : _≡_ {A = ℕ} 0 1 = cc in omega arith)
 
-pub cheaper-bound : (t : Tables) (s a b : List ℕ) → CostBounded t s (cheaperOf t s a b)
-cheaper-bound t s a b = at (chosenOf t s a b) (chosen-promised t s a b)
-  where
-    at : (d : Choice) → Promised t s a b d → CostBounded t s (namedOf d)
-    at (FirstPart n p) h = bound-below t s (take n a) p (h .0) (h .1 .moment .passes) (h .1 .moment .cost)
-    at (SecondPart n p) h = bound-below t s (take n b) p (h .0) (h .1 .moment .passes) (h .1 .moment .cost)
-    at NoPart h = tt
-    at (Unread r) h = tt
+  -- what was handed in decides before all
+  pub cheaper-refused : (r : Refusal) → inputFault t s ≡ Fault r → cheaperOf t s a b ≡ Refused r
+  unfolding chosenOf
+  cheaper-refused r e = rw e refl
+
+  -- the named cost too is at least the bound
+  pub cheaper-bound : 0 < listNamed (cheaperOf t s a b) → bound (taskOf t) (stateOf s) ⊑ costNamed (cheaperOf t s a b)
+  cheaper-bound = at (chosenOf t s a b) (chosen-promised t s a b)
+    where
+      at : (d : Choice) → Promised t s a b d → 0 < listNamed (namedOf d) → bound (taskOf t) (stateOf s) ⊑ costNamed (namedOf d)
+      at (FirstPart n p) h l = bound-below t s (take n a) p (h .0) (h .1 .moment .passes) (h .1 .moment .cost)
+      at (SecondPart n p) h l = bound-below t s (take n b) p (h .0) (h .1 .moment .passes) (h .1 .moment .cost)
+      at NoPart h l = absurd (let z : ⊥ = omega arith in z)
+      at (Unread r) h l = absurd (let z : ⊥ = omega arith in z)
 
 -- ---- the opening part that is handed back
 
@@ -97,11 +103,11 @@ pub record PassingPart (S : Sas) (s : State) (r os : RefT (List ℕ)) (p : ℕ) 
   pub passes : Passes S (now r) s
   pub cost : p ≡ paid (S .cost) (now r)
 
-abbrev pub OpeningPromised : Tables → List ℕ → RefT (List ℕ) → RefT (List ℕ) → RefT (List ℕ) → Cheaper → Type 0
-OpeningPromised t s a b r (First p) = PassingPart (sasOf t) (stateOf s) r a p
-OpeningPromised t s a b r (Second p) = PassingPart (sasOf t) (stateOf s) r b p
-OpeningPromised t s a b r Neither = (r .ptr ≡ a .ptr) × (now r ≡ [])
-OpeningPromised t s a b r (Refused x) = (r .ptr ≡ a .ptr) × (now r ≡ [])
+-- by the number of the named list and the named cost; where none is named, the empty part at the start of the first list
+abbrev pub OpeningPromised : Sas → State → RefT (List ℕ) → RefT (List ℕ) → RefT (List ℕ) → ℕ → ℕ → Type 0
+OpeningPromised S s a b r zero p = (r .ptr ≡ a .ptr) × (now r ≡ [])
+OpeningPromised S s a b r (suc zero) p = PassingPart S s r a p
+OpeningPromised S s a b r (suc (suc k)) p = PassingPart S s r b p
 
 passing-part : (S : Sas) (s : State) (r os : RefT (List ℕ)) (n p : ℕ) → Opening r os n → Moment S s (now os) n p → PassingPart S s r os p
 passing-part S s r os n p o m =
@@ -111,12 +117,15 @@ passing-part S s r os n p o m =
       cost = subst (λ (l : List ℕ). p ≡ paid (S .cost) l) (sym (o .items)) (m .cost);
     }
 
-pub opening-promised : (t : Tables) (s : List ℕ) (a b r : RefT (List ℕ)) → OpeningOf t s a b r
-    → OpeningPromised t s a b r (cheaperOf t s (now a) (now b))
-opening-promised t s a b r o = at (chosenOf t s (now a) (now b)) (chosen-promised t s (now a) (now b)) o
-  where
-    at : (d : Choice) → Promised t s (now a) (now b) d → Opening r (listOf d a b) (stepsOf d) → OpeningPromised t s a b r (namedOf d)
-    at (FirstPart n p) h o = passing-part (sasOf t) (stateOf s) r a n p o (h .1 .moment)
-    at (SecondPart n p) h o = passing-part (sasOf t) (stateOf s) r b n p o (h .1 .moment)
-    at NoPart h o = (o .place, o .items)
-    at (Unread x) h o = (o .place, o .items)
+module _ (t : Tables) (s : List ℕ) (a b r : RefT (List ℕ)) where
+  abbrev OpeningBy : Cheaper → Type 0
+  OpeningBy x = OpeningPromised (sasOf t) (stateOf s) a b r (listNamed x) (costNamed x)
+
+  pub opening-promised : OpeningOf t s a b r → OpeningBy (cheaperOf t s (now a) (now b))
+  opening-promised o = at (chosenOf t s (now a) (now b)) (chosen-promised t s (now a) (now b)) o
+    where
+      at : (d : Choice) → Promised t s (now a) (now b) d → Opening r (listOf d a b) (stepsOf d) → OpeningBy (namedOf d)
+      at (FirstPart n p) h o = passing-part (sasOf t) (stateOf s) r a n p o (h .1 .moment)
+      at (SecondPart n p) h o = passing-part (sasOf t) (stateOf s) r b n p o (h .1 .moment)
+      at NoPart h o = (o .place, o .items)
+      at (Unread x) h o = (o .place, o .items)

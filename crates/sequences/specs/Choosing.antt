@@ -66,6 +66,20 @@ namedOf (Unread r) = Refused r
 abbrev pub cheaperOf : Tables → List ℕ → List ℕ → List ℕ → Cheaper
 cheaperOf t s a b = namedOf (chosenOf t s a b)
 
+-- what an answer tells: the number of the list that it names, 0 for neither, and the cost, 0 for neither. Refused input names no list: the refusal has a
+-- number and a place of its own
+abbrev pub listNamed : Cheaper → ℕ
+listNamed (First p) = 1
+listNamed (Second p) = 2
+listNamed Neither = 0
+listNamed (Refused r) = 0
+
+abbrev pub costNamed : Cheaper → ℕ
+costNamed (First p) = p
+costNamed (Second p) = p
+costNamed Neither = 0
+costNamed (Refused r) = 0
+
 -- the list whose opening part is handed back, and of how many steps; for neither, or refused input, the empty part of the first list
 abbrev pub listOf : {A : Type 0} → Choice → A → A → A
 listOf (FirstPart n p) a b = a
