@@ -8,3 +8,4 @@ pub mod Sequences
 pub mod Told
 pub mod History
 pub mod Sound
+pub mod Alike

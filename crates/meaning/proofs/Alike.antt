@@ -2,15 +2,20 @@
 -- have the same abstract states, steps and sequences, at the same prices. What a task's functions say elsewhere means nothing. Field by field. Assumes nothing.
 use mathlib.Core.Path.{_≡_, refl, sym, ap, ap₂, _∙_, subst}
 use mathlib.Core.List.{List, [], _∷_}
-use Prim.Native.Nat.{ℕ, zero, suc, _+_, _*_, _/_, _%_, _<_, max}
+use mathlib.Core.Bool.{cond}
+use Prim.Native.Nat.{ℕ, zero, suc, _+_, _-_, _*_, _/_, _%_, _<_, max}
 use native.Mathlib.Nat.{le-refl}
 use native.Mathlib.Omega.{arith}
+use lib.Dec.{ltb, eqb}
+use borrow.Author.Tests.{ltb-true}
 use Rattle.graph.specs.Cost.{Cost, _⊑_}
 use Rattle.meaning.specs.Numbering.{size, number, digit}
 use Rattle.meaning.specs.Sas.{State, Facts, Sas, IsState, Holds, Complies, Transition, paid}
 use Rattle.meaning.specs.Views.{View, α, abstractStates, AbstractStep, AbstractGoal, AbstractlyLeads, IsDistanceAt, holds, every, complies}
 use Rattle.meaning.specs.Split.{Task, countOf, view}
-use Rattle.meaning.proofs.Facts.{every-same}
+use Rattle.meaning.specs.Columns.{unshared, rest, gain}
+use Rattle.meaning.proofs.Facts.{by-cases, every-same}
+use Rattle.meaning.proofs.Columns.{sum-same}
 
 -- ---- numbers by radices that agree
 
@@ -173,3 +178,11 @@ view-alike {T = T} {U = U} E m lm =
       class = λ v x l g. E .class m v x lm l g;
       price = λ o l. E .share m o lm l;
     }
+
+-- a step adds the same to every column
+pub gain-alike : {T U : Task} → SameTask T U → (c o : ℕ) → o < T .sas .ops → gain T c o ≡ gain U c o
+unfolding gain rest
+gain-alike {T = T} {U = U} E c o lo =
+    let rests = ap₂ _-_ (E .sas .cost o lo) (sum-same (λ m. T .share m o) (λ m. U .share m o) (T .maps) (λ m l. E .share m o l lo)) in
+    by-cases (ltb c (T .maps)) (λ e. rw (← E .maps, e) (E .share c o (ltb-true c (T .maps) e) lo))
+    (λ e. rw (← E .maps, e) (ap (λ (x : ℕ). cond (eqb c unshared) x 0) rests))

@@ -7,15 +7,14 @@ use mathlib.Core.List.{List}
 use native.Mathlib.Omega.{arith}
 use lib.Dec.{leb}
 use lib.ListN.{length, getD, take, length-replicate}
-use lib.Seq.{length-take-le, take-all, getD-take}
-use borrow.Author.Tests.{le-leb, leb-true, leb-false}
+use lib.Seq.{length-take-le, getD-take}
+use borrow.Author.Tests.{le-leb}
 use Rattle.meaning.specs.Limits.{mostVars, mostOps}
 use Rattle.tables.specs.declared.Counts.{Counts}
 use Rattle.tables.specs.Layout.{Tables, factsRoom, costsRoom, sharesRoom, preAt, effAt, costAt, domPlace, initPlace, goalPlace, classPlace}
 use Rattle.tables.specs.Task.{tables}
 use Rattle.scan.specs.Scan.{roomy}
 use Rattle.scan.proofs.Alike.{Agree, read-alike, state-own}
-use Rattle.meaning.proofs.Facts.{by-cases}
 use Rattle.sequences.specs.declared.judging.Judged.{Judged}
 use Rattle.sequences.specs.Judging.{judgedOf}
 use Rattle.sequences.proofs.Alike.{judged-alike}

@@ -12,7 +12,7 @@ use Rattle.refusals.specs.declared.Refusal.the-variants.{OutOfRange, ClassMissi
 use Rattle.meaning.specs.Limits.{mostVars, mostValues, mostOps, mostCost, mostMaps, mostStates}
 use Rattle.meaning.specs.Sas.{Facts}
 use Rattle.meaning.specs.Views.{every}
-use Rattle.meaning.specs.Split.{Task, countOf, sum, Valid}
+use Rattle.meaning.specs.Split.{Task, countOf, Valid}
 use Rattle.meaning.proofs.Columns.{sum-same}
 use Rattle.meaning.proofs.Alike.{size-alike, count-alike, SameTask}
 use Rattle.tables.specs.declared.Counts.{Counts}

@@ -1,7 +1,7 @@
 -- Laws of tests at every number below n, of lists filled place by place, and of facts: what a counting loop asks, one turn more and the end.
 -- Assumes nothing.
 use Prim.Native.Nat.{ℕ, zero, suc, _+_, _-_, _≤_, _<_}
-use mathlib.Core.Path.{_≡_, refl, ap, sym, _∙_}
+use mathlib.Core.Path.{_≡_, refl, ap, ap₂, sym, _∙_}
 use mathlib.Core.List.{List}
 use mathlib.Core.Bool.{Bool, true, false, and-false}
 use native.Mathlib.Numerals.{add-one}
@@ -47,6 +47,12 @@ pub filled-end : (f : ℕ → ℕ) (l t : List ℕ) (n k : ℕ) → t ≡ overwr
 filled-end f l t n k p h g =
     let q : k ≡ n = omega arith in
     p ∙ ap (overwritten f l) q
+
+pub filled-same : (f g : ℕ → ℕ) (l : List ℕ) (n : ℕ) → ((k : ℕ) → k < n → f k ≡ g k) → overwritten f l n ≡ overwritten g l n
+unfolding overwritten
+filled-same f g l zero h = refl
+filled-same f g l (suc n) h =
+    ap₂ (λ (t : List ℕ) (x : ℕ). set t n x) (filled-same f g l n (λ k b. h k (omega arith))) (h n (omega arith))
 
 pub length-filled : (f : ℕ → ℕ) (l : List ℕ) (n : ℕ) → length (overwritten f l n) ≡ length l
 unfolding overwritten

@@ -1,0 +1,151 @@
+-- A task's own places alone are read: tables that are read alike, and starts that agree at the variables, begin the same run; and an offer to a run gets the
+-- same answer and hands back the same run. Step by step: what a step does to a run is the same. Assumes nothing.
+use Prim.Native.Nat.{ℕ, _+_, _<_}
+use mathlib.Core.Path.{_≡_, refl, ap, ap₂, sym, _∙_}
+use mathlib.Core.Bool.{Bool, _&&_, _||_, cond}
+use mathlib.Core.List.{List, [], _∷_}
+use lib.Dec.{leb, ltb, eqb}
+use lib.ListN.{getD, take, replicate}
+use borrow.Author.Tests.{ltb-true}
+use Rattle.refusals.specs.declared.Refusal.the-variants.{NoSuchOperator, MayNotRun, NotTheNext, RunFull, NotARun}
+use Rattle.meaning.specs.Limits.{mostVars, mostSteps}
+use Rattle.meaning.specs.Sas.{put}
+use Rattle.meaning.proofs.Facts.{by-cases, every-same}
+use Rattle.meaning.proofs.Alike.{SameTask, complies-alike, gain-alike}
+use Rattle.tables.specs.Layout.{Tables, effRow}
+use Rattle.tables.specs.Task.{taskOf, sasOf, stateOf}
+use Rattle.tables.specs.Steps.{mayRun, overwritten, valueAfter, stepped, copied}
+use Rattle.tables.proofs.Laws.{filled-same}
+use Rattle.tables.proofs.Meant.{may-run-is}
+use Rattle.scan.specs.declared.Found.{Found}
+use Rattle.scan.specs.declared.Found.the-variants.{Clean, Fault}
+use Rattle.scan.specs.Own.{OwnState}
+use Rattle.scan.proofs.Alike.{ReadAlike, input-same}
+use Rattle.sequences.proofs.Passing.{input-clean}
+use Rattle.ledger.specs.declared.Run.{Run}
+use Rattle.ledger.specs.declared.Tried.{Tried}
+use Rattle.ledger.specs.declared.Answer.{Answer}
+use Rattle.ledger.specs.declared.Answer.the-variants.{Accepted, Repeated, Refused}
+use Rattle.ledger.specs.Ledger.{allColumns, bookedAt, booked, fresh, advanced, canRun, replayed, given, startAt, startsAt, startIn, sameRun, isRun}
+use Rattle.ledger.specs.Ledger.{oldStep, nextStep, offerJudged, refusedOr, answered, moved, offered, started, begun}
+use Rattle.ledger.proofs.Runs.{can-exists}
+use Rattle.ledger.proofs.Accepted.{accepted-had}
+
+-- ---- the steps of a run, over tables that spell the same task
+
+module _ (t u : Tables) (E : SameTask (taskOf t) (taskOf u)) where
+  may-alike : (s : List ℕ) (o : ℕ) → o < t .counts .ops → mayRun (t .counts) (t .facts) s o ≡ mayRun (u .counts) (u .facts) s o
+  may-alike s o lo =
+      may-run-is t s o
+      ∙ complies-alike (E .sas) (sasOf t .pre o) (sasOf u .pre o) (stateOf s) (stateOf s) (λ v l. E .sas .pre o v lo l) (λ v l. refl)
+      ∙ sym (may-run-is u s o)
+
+  can-alike : (r : Run) (o : ℕ) → canRun (t .counts) (t .facts) r o ≡ canRun (u .counts) (u .facts) r o
+  unfolding canRun
+  can-alike r o =
+      let x = mayRun (t .counts) (t .facts) (r .now) o in
+      let y = mayRun (u .counts) (u .facts) (r .now) o in
+      by-cases (ltb o (t .counts .ops))
+      (λ e.
+      ap (λ (b : Bool). b && x) e ∙ may-alike (r .now) o (ltb-true o (t .counts .ops) e)
+      ∙ sym (ap (λ (b : Bool). b && y) (ap (ltb o) (sym (E .sas .ops)) ∙ e)))
+      (λ e. ap (λ (b : Bool). b && x) e ∙ sym (ap (λ (b : Bool). b && y) (ap (ltb o) (sym (E .sas .ops)) ∙ e)))
+
+  stepped-alike : (s : List ℕ) (o : ℕ) → o < t .counts .ops → stepped (t .counts) (t .facts) s o ≡ stepped (u .counts) (u .facts) s o
+  unfolding stepped
+  stepped-alike s o lo =
+      filled-same (valueAfter (t .facts) (effRow o) s) (valueAfter (u .facts) (effRow o) s) s (t .counts .vars)
+      (λ v l. ap (λ (x : ℕ). put x (getD s v 0)) (E .sas .eff o v lo l))
+      ∙ ap (overwritten (valueAfter (u .facts) (effRow o) s) s) (E .sas .vars)
+
+  booked-alike : (columns : List ℕ) (o : ℕ) → o < t .counts .ops → booked (taskOf t) columns o ≡ booked (taskOf u) columns o
+  unfolding booked
+  booked-alike columns o lo =
+      filled-same (bookedAt (taskOf t) columns o) (bookedAt (taskOf u) columns o) columns allColumns
+      (λ c l. ap (λ (x : ℕ). getD columns c 0 + x) (gain-alike E c o lo))
+
+  advanced-alike : (r : Run) (o : ℕ) → o < t .counts .ops → advanced t r o ≡ advanced u r o
+  unfolding advanced
+  advanced-alike r o lo = rw (stepped-alike (r .now) o lo, booked-alike (r .columns) o lo) refl
+
+  replayed-alike : (os : List ℕ) (r : Run) → replayed t r os ≡ replayed u r os
+  unfolding replayed
+  replayed-alike [] r = refl
+  replayed-alike (o ∷ os) r =
+      by-cases (canRun (t .counts) (t .facts) r o)
+      (λ e.
+      rw (← can-alike r o, e)
+      (replayed-alike os (advanced t r o) ∙ ap (λ (q : Run). replayed u q os) (advanced-alike r o (can-exists (t .counts) (t .facts) r o e))))
+      (λ e. rw (← can-alike r o, e) refl)
+
+  start-alike : (s : List ℕ) → startIn (t .counts) (t .facts) s ≡ startIn (u .counts) (u .facts) s
+  unfolding startIn startAt
+  start-alike s =
+      every-same (startsAt (t .counts) (t .facts) s) (startsAt (u .counts) (u .facts) s) mostVars
+      (λ v h.
+      by-cases (ltb v (t .counts .vars)) (λ e. rw (← E .sas .vars, e) (ap (ltb (getD s v 0)) (E .sas .dom v (ltb-true v (t .counts .vars) e))))
+      (λ e. rw (← E .sas .vars, e) refl))
+
+  run-alike : (r : Run) → isRun t r ≡ isRun u r
+  unfolding isRun given
+  run-alike r =
+      ap₂ (λ (b : Bool) (x : Tried). leb (r .len) mostSteps && b && x .ok && sameRun r (x .run)) (start-alike (r .start))
+      (replayed-alike (take (r .len) (r .log)) (fresh (r .start)))
+
+  judged-alike : (r : Run) (number o : ℕ) → offerJudged (t .counts) (t .facts) r number o ≡ offerJudged (u .counts) (u .facts) r number o
+  unfolding offerJudged nextStep
+  judged-alike r number o =
+      ap₂
+      (λ (n : ℕ) (can : Bool).
+      cond (leb n o) (Refused (NoSuchOperator number))
+      (cond (eqb number 0 || ltb (r .len + 1) number) (Refused (NotTheNext number))
+      (cond (leb number (r .len)) (oldStep r number o)
+      (cond (leb mostSteps (r .len)) (Refused (RunFull number)) (cond can Accepted (Refused (MayNotRun number)))))))
+      (E .sas .ops) (can-alike r o)
+
+-- ---- the entries
+
+refused-same : (a a′ : Found) (x y : Answer) → a ≡ a′ → (a ≡ Clean → x ≡ y) → refusedOr a x ≡ refusedOr a′ y
+refused-same a a′ x y p q = at a q ∙ ap (λ (z : Found). refusedOr z y) p
+  where
+    at : (z : Found) → (z ≡ Clean → x ≡ y) → refusedOr z x ≡ refusedOr z y
+    at Clean h = h refl
+    at (Fault r) h = refl
+
+started-same : (a a′ : Found) (x y : Run) → a ≡ a′ → (a ≡ Clean → x ≡ y) → started a x ≡ started a′ y
+unfolding started
+started-same a a′ x y p q = at a q ∙ ap (λ (z : Found). started z y) p
+  where
+    at : (z : Found) → (z ≡ Clean → x ≡ y) → started z x ≡ started z y
+    at Clean h = ap (λ (r : Run). record { run = r; answer = Accepted }) (h refl)
+    at (Fault r) h = refl
+
+module _ {t u : Tables} (E : ReadAlike t u) where
+  pub answered-alike : (r : Run) (number o : ℕ) → answered t r number o ≡ answered u r number o
+  unfolding answered
+  answered-alike r number o =
+      refused-same _ _ _ _ (E .fault)
+      (λ e. ap₂ (λ (b : Bool) (x : Answer). cond b x (Refused NotARun)) (run-alike t u (E .task e) r) (judged-alike t u (E .task e) r number o))
+
+  -- the run that an offer hands back: advanced alike, or as it was
+  moved-alike : (r : Run) (number o : ℕ) (x : Answer) → answered t r number o ≡ x → moved t r o x ≡ moved u r o x
+  moved-alike r number o Accepted e =
+      let had = accepted-had t r number o e in
+      advanced-alike t u (E .task (had .clean)) r o (had .exists)
+  moved-alike r number o Repeated e = refl
+  moved-alike r number o (Refused f) e = refl
+
+  pub offered-alike : (r : Run) (number o : ℕ) → offered t r number o ≡ offered u r number o
+  unfolding offered
+  offered-alike r number o =
+      ap (λ (q : Run). record { run = q; answer = answered t r number o }) (moved-alike r number o (answered t r number o) refl)
+      ∙ ap (λ (x : Answer). record { run = moved u r o x; answer = x }) (answered-alike r number o)
+
+  pub begun-alike : (s z : List ℕ) → OwnState (t .counts) s z → begun t s ≡ begun u z
+  unfolding begun copied
+  begun-alike s z O =
+      started-same _ _ _ _ (input-same E s z O)
+      (λ e.
+      ap fresh
+      (filled-same (stateOf s) (stateOf z) (replicate mostVars 0) (t .counts .vars) (O .values)
+      ∙ ap (overwritten (stateOf z) (replicate mostVars 0)) (E .task (input-clean t s e .0) .sas .vars)))
