@@ -18,3 +18,4 @@ pub mod SpellShort
 pub mod SpellRead
 pub mod SpellBeyond
 pub mod SpellKinds
+pub mod SpellLeft

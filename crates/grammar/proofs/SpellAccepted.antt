@@ -166,7 +166,7 @@ tables-spell τ s =
 
 -- ---- the theorems
 
-judged-accepted : (f : Found) (U T : Tables) → judged f (accepted U) ≡ accepted T → (f ≡ Clean) × (U ≡ T)
+pub judged-accepted : (f : Found) (U T : Tables) → judged f (accepted U) ≡ accepted T → (f ≡ Clean) × (U ≡ T)
 judged-accepted Clean U T p = (refl, cc)
 judged-accepted (Fault r) U T p = not-refused p
 

@@ -98,12 +98,9 @@ keyed-short : (key : String) (xs : List ℕ) (c b : ℕ) → length (bytesOf key
 unfolding keyed
 keyed-short key xs c b p q = simp length-append (omega arith)
 
--- the sum of the longest lines
-abbrev pub longestText : ℕ
-longestText = 10449
-
+-- ten lines and what they come to
 ten : (a b c d e f g h i j : List ℕ) → length a ≤ 10 → length b ≤ 7 → length c ≤ 21 → length d ≤ 22 → length e ≤ 39 → length f ≤ 7 → length g ≤ 5056 → length h ≤ 7
-    → length i ≤ 1128 → length j ≤ 4152 → length (a ++ b ++ c ++ d ++ e ++ f ++ g ++ h ++ i ++ j) ≤ longestText
+    → length i ≤ 1128 → length j ≤ 4152 → length (a ++ b ++ c ++ d ++ e ++ f ++ g ++ h ++ i ++ j) ≤ 10449
 ten a b c d e f g h i j p₁ p₂ p₃ p₄ p₅ p₆ p₇ p₈ p₉ p₁₀ = simp length-append (omega arith)
 
 module _ (τ : Task) (k : Valid τ) where
@@ -160,7 +157,7 @@ module _ (τ : Task) (k : Valid τ) where
       let p = stacked-short (λ m. keyed "share=" (shareText (τ .share m) (τ .sas .ops))) 519 (τ .maps) 0 (λ m x y. share-short m (omega arith)) in
       omega arith
 
-  pub spelled-short : length (spelled edition τ) ≤ longestText
+  pub spelled-short : length (spelled edition τ) ≤ 10449
   unfolding spelled
   spelled-short =
       let a = k .vars .1 in

@@ -4,3 +4,4 @@ pub mod Rules
 pub mod Decides
 pub mod Validity
 pub mod Alike
+pub mod Numbers
