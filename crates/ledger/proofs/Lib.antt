@@ -9,3 +9,4 @@ pub mod Told
 pub mod History
 pub mod Sound
 pub mod Alike
+pub mod Seventeen

@@ -21,7 +21,7 @@ use Rattle.tables.specs.Task.{taskOf, sasOf, stateOf}
 use Rattle.ledger.specs.declared.Run.{Run}
 use Rattle.ledger.specs.declared.Tried.{Tried}
 use Rattle.ledger.specs.Ledger.{allColumns, fresh, advanced, canRun, replayed, given, startsAt, startIn, sameRun, isRun}
-use Rattle.ledger.specs.History.{mayFollow, Tells, Sized}
+use Rattle.ledger.specs.History.{mayFollow, Tells, GivenByStartAndLog, Sized}
 use Rattle.ledger.proofs.Answers.{start-within, start-beyond}
 use Rattle.ledger.proofs.Runs.{SamePlaces, same-places, replayed-yes, replayed-no, run-tested}
 use Rattle.ledger.proofs.Begun.{startOf, from-at, from-beyond, from-size}
@@ -180,5 +180,5 @@ module _ (t : Tables) (clean : tablesFault t ≡ Clean) (r : Run) (sized : Sized
       subst (λ (x : Run). isRun t x ≡ true) (sym one) (is-run t (r .start) clean state done q (on .1)))
       (λ off. absurd (off .1 (tells .legal)))
 
-  pub run-exactly : (isRun t r ≡ true) ↔ (IsState (sasOf t) (stateOf (r .start)) × TellsSteps)
+  pub run-exactly : (isRun t r ≡ true) ↔ GivenByStartAndLog (taskOf t) r
   run-exactly = (run-tells, λ h. tells-run (h .0) (h .1))

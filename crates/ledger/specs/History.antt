@@ -5,7 +5,7 @@ use mathlib.Core.Bool.{Bool, _&&_, cond}
 use mathlib.Core.List.{List, [], _∷_, _++_}
 use lib.Dec.{ltb, eqb}
 use lib.ListN.{length, getD, take}
-use Rattle.meaning.specs.Sas.{State, Sas, Runs, end, paid}
+use Rattle.meaning.specs.Sas.{State, Sas, IsState, Runs, end, paid}
 use Rattle.meaning.specs.Views.{complies}
 use Rattle.meaning.specs.Split.{Task}
 use Rattle.tables.specs.Layout.{Tables}
@@ -61,6 +61,10 @@ pub record Tells (T : Task) (s : State) (done : List ℕ) (r : Run) : Type 0 whe
   pub now : (v : ℕ) → v < T .sas .vars → stateOf (r .now) v ≡ end (T .sas) done s v
   pub now-unused : (v : ℕ) → T .sas .vars ≤ v → stateOf (r .now) v ≡ 0
   pub column : (c : ℕ) → c < allColumns → getD (r .columns) c 0 ≡ paid (gain T c) done
+
+-- A RUN IS WHAT ITS START AND LOG GIVE: the start is a state of the task, and the run tells steps from there
+abbrev pub GivenByStartAndLog : Task → Run → Type 0
+GivenByStartAndLog T r = IsState (T .sas) (stateOf (r .start)) × ((done : List ℕ) × Tells T (stateOf (r .start)) done r)
 
 -- TWO MOMENTS: the steps between run from the earlier state to the later one, and each column grew by what they add to it
 pub record Between (T : Task) (os : List ℕ) (earlier later : Run) : Type 0 where
