@@ -4,12 +4,12 @@
 use Prim.Native.Nat.{ℕ, _+_, _≤_}
 use mathlib.Core.Path.{_≡_, refl, ap, sym, _∙_}
 use mathlib.Core.List.{List, [], _∷_}
-use mathlib.Core.Bool.{true}
 use mathlib.Core.Logic.{_↔_}
 use native.Mathlib.Omega.{arith}
 use lib.ListN.{length, getD, set, length-set}
 use lib.Seq.{getD-set-same, getD-set-other, set-getD}
-use Rattle.meaning.specs.Sas.{IsState}
+use Rattle.refusals.specs.declared.Refusal.the-variants.{TableTooShort, NotARun}
+use Rattle.meaning.proofs.Facts.{by-cases}
 use Rattle.scan.specs.declared.Found.the-variants.{Clean}
 use Rattle.tables.specs.Layout.{Tables}
 use Rattle.tables.specs.Task.{taskOf, sasOf, stateOf}
@@ -19,17 +19,18 @@ use Rattle.ledger.specs.declared.Run.{Run}
 use Rattle.ledger.specs.declared.Answer.{Answer}
 use Rattle.ledger.specs.declared.Answer.the-variants.{Accepted, Repeated, Refused}
 use Rattle.ledger.specs.declared.Offered.{Offered}
-use Rattle.ledger.specs.Ledger.{allColumns, isRun, begun, offered}
-use Rattle.ledger.specs.History.{Offer, reallyRun, ran, runAfter, Tells, Sized}
+use Rattle.ledger.specs.Ledger.{allColumns, begun, offered}
+use Rattle.ledger.specs.History.{Offer, reallyRun, ran, runAfter, Tells, GivenByStartAndLog, Sized}
 use Rattle.ledger.proofs.Accepted.{not-refused, offer-stays}
 use Rattle.ledger.proofs.History.{history}
-use Rattle.ledger.proofs.Sound.{run-exactly}
-use Rattle.words.specs.Words.{answerWord}
+use Rattle.ledger.proofs.Seventeen.{seventeen-exactly}
+use Rattle.words.specs.Words.{refusedWord, answerWord}
+use Rattle.words.proofs.Told.{answer-told}
 use Rattle.lent_runs.specs.Lent.{columnsFrom, part, withPart, runBytes, runWords, runIn, bytesWith, wordsWith}
-use Rattle.lent_runs.specs.Left.{RunLeft, runLeft, leftBy, handed, unlessShort, beginHanded, offerHanded}
+use Rattle.lent_runs.specs.Left.{RunLeft, runLeft, leftBy, handed, runShort, unlessShort, beginHanded, offerHanded}
 use Rattle.lent_runs.proofs.Parts as parts
 use Rattle.lent_runs.proofs.Sizes.{run-in-lengths, begun-sized, offered-sized}
-use Rattle.lent_runs.proofs.Handed.{not-short}
+use Rattle.lent_runs.proofs.Handed.{long-enough, not-short}
 
 -- ---- what is handed back is what is taken again
 
@@ -209,9 +210,30 @@ module _ (t : Tables) (s bytes words : List ℕ) (long-bytes : runBytes ≤ leng
       → Tells (taskOf t) (stateOf s) (reallyRun (sasOf t) (stateOf s) xs) (runLent (offersHanded t (beginHanded t s bytes words) xs))
   history-carried xs = rw (memory-after xs) (history t s accepted xs)
 
--- AND WHATEVER C PUTS THERE: lent memory passes the test of 17 exactly if what stands in it tells steps from a state of the task
-pub memory-run-exactly : (t : Tables) (bytes words : List ℕ) → tablesFault t ≡ Clean
-    → (isRun t (runIn bytes words) ≡ true)
-    ↔ (IsState (sasOf t) (stateOf (runIn bytes words .start))
-    × ((done : List ℕ) × Tells (taskOf t) (stateOf (runIn bytes words .start)) done (runIn bytes words)))
-memory-run-exactly t bytes words clean = run-exactly t clean (runIn bytes words) (run-in-lengths bytes words)
+-- AND WHATEVER C PUTS THERE: an offer is answered 17 if and only if the memory is long enough, the tables are clean, and what stands in the memory isn't what its
+-- start and log give
+module _ (t : Tables) (bytes words : List ℕ) (number o : ℕ) where
+  abbrev Seventeen : Type 0
+  Seventeen =
+      (runBytes ≤ length bytes) × (runWords ≤ length words) × (tablesFault t ≡ Clean) × (GivenByStartAndLog (taskOf t) (runIn bytes words) → ⊥)
+
+  exactly : (offered t (runIn bytes words) number o .answer ≡ Refused NotARun)
+      ↔ ((tablesFault t ≡ Clean) × (GivenByStartAndLog (taskOf t) (runIn bytes words) → ⊥))
+  exactly = seventeen-exactly t (runIn bytes words) number o (run-in-lengths bytes words)
+
+  told-so : offerHanded t bytes words number o .word ≡ refusedWord NotARun → Seventeen
+  unfolding offerHanded
+  told-so e =
+      by-cases (runShort bytes words)
+      (λ p.
+      let q : refusedWord TableTooShort ≡ refusedWord NotARun = rw p at e in
+      absurd (let n : ⊥ = omega arith in n))
+      (λ p.
+      let long = long-enough bytes words p in
+      let told = offers-carried bytes words (long .0) (long .1) t number o .told in
+      let h = exactly .0 (answer-told (offered t (runIn bytes words) number o .answer) (Refused NotARun) (sym told ∙ e)) in
+      (long .0, long .1, h .0, h .1))
+
+  pub memory-seventeen-exactly : (offerHanded t bytes words number o .word ≡ refusedWord NotARun) ↔ Seventeen
+  memory-seventeen-exactly =
+      (told-so, λ h. offers-carried bytes words (h .0) (h .1) t number o .told ∙ ap answerWord (exactly .1 (h .2, h .3)))
