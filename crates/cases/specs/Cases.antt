@@ -2,7 +2,7 @@
 use mathlib.Core.List.{List, [], _∷_}
 use Prim.Native.String.{String, _++_}
 use Rattle.graph.specs.Cost.{none, fin}
-use Rattle.cases.specs.Told.{yes!, costs, again, no!, distances, boundAt, judging, run, Case}
+use Rattle.cases.specs.Told.{yes!, costs, again, no!, distances, distanceAt, boundAt, judging, run, Case}
 
 -- case A up to its operators' costs, its operators, its maps
 abbrev pub headA : String
@@ -68,6 +68,8 @@ table =
       claims =
           distances 0 (fin 1 ∷ fin 0 ∷ []) 2
           ∷ distances 1 (none ∷ fin 0 ∷ []) 1
+          ∷ distanceAt 0 (0 ∷ 0 ∷ []) (fin 1)
+          ∷ distanceAt 1 (0 ∷ 0 ∷ []) none
           ∷ boundAt (0 ∷ 0 ∷ []) (fin 1)
           ∷ [];
     }

@@ -1,19 +1,30 @@
 -- What an answer of the desk tells, in the paper's numbers; what a case claims; and when a claim holds.
+-- Everything is claimed over the contracts of the public entries (crates/desk/src/lib.rt). A contract that is an equation gives one outcome, and the claim
+-- is of that outcome. The contracts of distances and bounds say what the numbers mean, so there the claim is that an outcome meets the contract exactly if
+-- it is the one of the case: that one meets it, and no other does.
 use mathlib.Core.Path.{_≡_}
-use mathlib.Core.List.{List, [], _∷_}
-use Prim.Native.Nat.{ℕ, suc}
+use mathlib.Core.Logic.{_↔_}
+use mathlib.Core.List.{List, [], _∷_, _++_, map}
+use Prim.Native.Nat.{ℕ, suc, _≤_}
 use Prim.Native.String.{String}
-use lib.ListN.{length}
-use Rattle.graph.specs.Cost.{Cost}
-use Rattle.graph.specs.Least.{Rounds}
+use lib.ListN.{length, drop}
+use Rattle.graph.specs.Cost.{Cost, none, fin}
 use Rattle.refusals.specs.Listed.{numberOf, placeOf}
-use Rattle.meaning.specs.Views.{abstractStates, viewGraph}
+use Rattle.meaning.specs.Limits.{mostStates}
+use Rattle.meaning.specs.Views.{abstractStates}
 use Rattle.meaning.specs.Split.{view}
-use Rattle.meaning.specs.Bound.{distance, bound}
 use Rattle.tables.specs.Layout.{Tables}
-use Rattle.tables.specs.Task.{sasOf, taskOf, stateOf}
-use Rattle.grammar.specs.Fields.{bytesOf}
-use Rattle.grammar.specs.Grammar.{Verdict, accepted, refused, verdict}
+use Rattle.tables.specs.Task.{sasOf, taskOf, tables}
+use Rattle.grammar.specs.declared.Reading.{Reading}
+use Rattle.grammar.specs.declared.Reading.the-variants as reading
+use Rattle.grammar.specs.Fields.{Outcome, bytesOf}
+use Rattle.grammar.specs.Grammar.{readText}
+use Rattle.sweep.specs.Said.{NONE}
+use Rattle.views.specs.declared.DistancesAnswer.{DistancesAnswer}
+use Rattle.views.specs.declared.DistancesAnswer.the-variants.{Rounds}
+use Rattle.views.specs.declared.DistanceAnswer.{DistanceAnswer}
+use Rattle.views.specs.declared.BoundAnswer.{BoundAnswer}
+use Rattle.views.specs.Entries.{DistancesGiven, distanceSaid, DistanceGiven, boundSaid, BoundGiven}
 use Rattle.sequences.specs.declared.judging.Judged.{Judged}
 use Rattle.sequences.specs.declared.judging.Judged.the-variants as judged
 use Rattle.sequences.specs.Judging.{judgedOf}
@@ -29,9 +40,9 @@ pub data Told : Type 0 where
   again : Told
   no! : ℕ → ℕ → Told
 
-abbrev pub ofText : Verdict → Told
-ofText (accepted t) = yes!
-ofText (refused r) = no! (numberOf r) (placeOf r)
+abbrev pub ofText : Reading → Told
+ofText (reading.Accepted n) = yes!
+ofText (reading.Refused r) = no! (numberOf r) (placeOf r)
 
 abbrev pub ofSequence : Judged → Told
 ofSequence (judged.Passed c) = costs c
@@ -49,10 +60,11 @@ pub record Offering : Type 0 where
   pub answer : Told
   pub columns : List ℕ
 
--- what a case claims of a task: a map's distances at all abstract states and its rounds; the bound of a state; what judging a sequence from a state tells;
--- what a run from a state tells, offer by offer
+-- what a case claims of a task: a map's distances at all abstract states and its rounds; the distance of a state in a map; the bound of a state;
+-- what judging a sequence from a state tells; what a run from a state tells, offer by offer
 pub data Claim : Type 0 where
   distances : ℕ → List Cost → ℕ → Claim
+  distanceAt : ℕ → List ℕ → Cost → Claim
   boundAt : List ℕ → Cost → Claim
   judging : List ℕ → List ℕ → Told → Claim
   run : List ℕ → List Offering → Claim
@@ -62,6 +74,14 @@ abbrev pub EachAt : {X : Type 0} → (ℕ → X → Type 0) → ℕ → List X �
 EachAt P i [] = Unit {0}
 EachAt P i (x ∷ xs) = P i x × EachAt P (suc i) xs
 
+-- the number that stands for a distance in a table; the distances in the first places of a lent table, and beyond them what stood there
+abbrev pub entered : Cost → ℕ
+entered none = NONE
+entered (fin d) = d
+
+abbrev pub enteredIn : List Cost → List ℕ → List ℕ
+enteredIn ds out = map entered ds ++ drop (length ds) out
+
 -- the offers one after another, each to the run that the one before handed back
 abbrev pub SaysThat : Tables → Run → List Offering → Type 0
 SaysThat t r [] = Unit {0}
@@ -70,14 +90,16 @@ SaysThat t r (x ∷ xs) =
     × (offered t r (x .number) (x .operator) .run .columns ≡ x .columns)
     × SaysThat t (offered t r (x .number) (x .operator) .run) xs
 
+-- a lent distance table may hold anything, and more places than it has to; a run is from a start that is accepted
 abbrev pub ClaimHolds : Tables → Claim → Type 0
 ClaimHolds t (distances m ds r) =
     (length ds ≡ abstractStates (sasOf t) (view (taskOf t) m))
-    × EachAt (λ a d. distance (sasOf t) (view (taskOf t) m) a ≡ d) 0 ds
-    × Rounds (viewGraph (sasOf t) (view (taskOf t) m)) r
-ClaimHolds t (boundAt s v) = bound (taskOf t) (stateOf s) ≡ v
+    × ((out : List ℕ) → mostStates ≤ length out → (answer : DistancesAnswer) (out′ : List ℕ)
+    → DistancesGiven t m out answer out′ ↔ ((answer ≡ Rounds r) × (out′ ≡ enteredIn ds out)))
+ClaimHolds t (distanceAt m s v) = (answer : DistanceAnswer) → DistanceGiven t m s answer ↔ (answer ≡ distanceSaid v)
+ClaimHolds t (boundAt s v) = (answer : BoundAnswer) → BoundGiven t s answer ↔ (answer ≡ boundSaid v)
 ClaimHolds t (judging s os x) = ofSequence (judgedOf t s os) ≡ x
-ClaimHolds t (run s xs) = SaysThat t (begun t s .run) xs
+ClaimHolds t (run s xs) = (ofOffer (begun t s .answer) ≡ yes!) × SaysThat t (begun t s .run) xs
 
 -- a case: a text, what reading it tells, and what is claimed of the task that it spells
 pub record Case : Type 0 where
@@ -85,11 +107,16 @@ pub record Case : Type 0 where
   pub read : Told
   pub claims : List Claim
 
--- claims are made of the tables of an accepted text
-abbrev pub AllHold : Verdict → List Claim → Type 0
-AllHold (accepted t) cs = EachAt (λ i c. ClaimHolds t c) 0 cs
-AllHold (refused r) cs = cs ≡ []
+-- claims are made of what an accepted text leaves: its counts and the three lent tables
+abbrev pub AllHold : Reading → List ℕ → List ℕ → List ℕ → List Claim → Type 0
+AllHold (reading.Accepted n) f c s cs = EachAt (λ i x. ClaimHolds (tables n f c s) x) 0 cs
+AllHold (reading.Refused r) f c s cs = cs ≡ []
 
-pub record Right (c : Case) : Type 0 where
-  pub read : ofText (verdict (bytesOf (c .text))) ≡ c .read
-  pub claims : AllHold (verdict (bytesOf (c .text))) (c .claims)
+-- the case is right of an outcome of the reader
+pub record RightOf (x : Case) (o : Outcome) : Type 0 where
+  pub read : ofText (o .answer) ≡ x .read
+  pub claims : AllHold (o .answer) (o .facts) (o .costs) (o .shares) (x .claims)
+
+-- .. with the tables f, c and s lent to it
+abbrev pub Right : List ℕ → List ℕ → List ℕ → Case → Type 0
+Right f c s x = RightOf x (readText (bytesOf (x .text)) f c s)

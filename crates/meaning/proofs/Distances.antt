@@ -5,10 +5,10 @@ use mathlib.Core.Logic.{_↔_}
 use mathlib.Core.List.{List}
 use Prim.Native.Nat.{ℕ, _+_, _*_, _-_, _≤_, _<_}
 use Rattle.graph.specs.Cost.{Cost, none, fin, _⊑_}
-use Rattle.graph.specs.Graph.{AnyLength, IsDistance}
+use Rattle.graph.specs.Graph.{IsLeast, AnyLength, IsDistance}
 use Rattle.graph.specs.Least.{least, Rounds}
 use Rattle.meaning.specs.Sas.{State, Sas, IsState, MayRun, after, Passes, paid, Proper}
-use Rattle.meaning.specs.Views.{View, image, α, abstractStates, Onto, AbstractlyLeads, IsDistanceAt, classTask, viewGraph}
+use Rattle.meaning.specs.Views.{View, image, α, abstractStates, Onto, AbstractlyLeads, IsLeastAt, IsDistanceAt, classTask, viewGraph}
 use Rattle.meaning.specs.Bound.{distance}
 use Rattle.graph.proofs.Theorems.{distance-of, rounds-give-distances, least-is-unique, none-exactly-if-no-sequence, step-consistent}
 use Rattle.graph.proofs.Sizes as sizes
@@ -20,38 +20,38 @@ module _ (S : Sas) (W : View) (P : Proper S) (C : Onto S W) where
   pub distance-least : (a : ℕ) → a < abstractStates S W → IsDistance (viewGraph S W) a (distance S W a)
   distance-least a l = distance-of (viewGraph S W) (view-closed S W P C) a l
 
-  -- a distance among the numbered states is one in the induced abstraction, and the other way round
-  pub induced-distance : (a : ℕ) (v : Cost) → a < abstractStates S W → IsDistance (viewGraph S W) a v → IsDistanceAt S W a v
-  induced-distance a v l D =
+  -- a least cost among the numbered states is one in the induced abstraction, and the other way round
+  pub induced-least : (Q : List ℕ → Type 0) (a : ℕ) (v : Cost) → a < abstractStates S W → IsLeast (viewGraph S W) Q a v → IsLeastAt S W Q a v
+  induced-least Q a v l D =
       record {
         attained =
             λ d e.
             let t = D .attained d e in
-            (t .0, leads-abstractly S W P C (t .0) a l (t .2), sym (total-paid (viewGraph S W) (t .0)) ∙ t .3);
-        below = λ os h. rw (total-paid (viewGraph S W) os) at (D .below os tt (abstractly-leads S W P C os a h));
+            (t .0, t .1, leads-abstractly S W P C (t .0) a l (t .2), sym (total-paid (viewGraph S W) (t .0)) ∙ t .3);
+        below = λ os q h. rw (total-paid (viewGraph S W) os) at (D .below os q (abstractly-leads S W P C os a h));
       }
 
-  pub numbered-distance : (a : ℕ) (v : Cost) → a < abstractStates S W → IsDistanceAt S W a v → IsDistance (viewGraph S W) a v
-  numbered-distance a v l D =
+  pub numbered-least : (Q : List ℕ → Type 0) (a : ℕ) (v : Cost) → a < abstractStates S W → IsLeastAt S W Q a v → IsLeast (viewGraph S W) Q a v
+  numbered-least Q a v l D =
       record {
         attained =
             λ d e.
             let t = D .attained d e in
-            (t .0, tt, abstractly-leads S W P C (t .0) a (t .1), total-paid (viewGraph S W) (t .0) ∙ t .2);
-        below = λ os _ h. rw (total-paid (viewGraph S W) os) (D .below os (leads-abstractly S W P C os a l h));
+            (t .0, t .1, abstractly-leads S W P C (t .0) a (t .2), total-paid (viewGraph S W) (t .0) ∙ t .3);
+        below = λ os q h. rw (total-paid (viewGraph S W) os) (D .below os q (leads-abstractly S W P C os a l h));
       }
 
   pub distance-is : (a : ℕ) → a < abstractStates S W → IsDistanceAt S W a (distance S W a)
-  distance-is a l = induced-distance a (distance S W a) l (distance-least a l)
+  distance-is a l = induced-least AnyLength a (distance S W a) l (distance-least a l)
 
   pub distance-only : (a : ℕ) (v w : Cost) → a < abstractStates S W → IsDistanceAt S W a v → IsDistanceAt S W a w → v ≡ w
   distance-only a v w l D E =
-      least-is-unique (viewGraph S W) AnyLength a v w (numbered-distance a v l D) (numbered-distance a w l E)
+      least-is-unique (viewGraph S W) AnyLength a v w (numbered-least AnyLength a v l D) (numbered-least AnyLength a w l E)
 
   pub distance-none : (a : ℕ) (v : Cost) → a < abstractStates S W → IsDistanceAt S W a v
       → (v ≡ none) ↔ ((os : List ℕ) → AbstractlyLeads S W os a → ⊥)
   distance-none a v l D =
-      let f = none-exactly-if-no-sequence (viewGraph S W) AnyLength a v (numbered-distance a v l D) in
+      let f = none-exactly-if-no-sequence (viewGraph S W) AnyLength a v (numbered-least AnyLength a v l D) in
       ((λ e os h. f .0 e os tt (abstractly-leads S W P C os a h)), (λ g. f .1 (λ os _ h. g os (leads-abstractly S W P C os a l h))))
 
   -- the table of the counted round holds the distances
@@ -68,7 +68,7 @@ module _ (S : Sas) (W : View) (P : Proper S) (C : Onto S W) where
 
   -- so it pays at least the distance of the image
   pub distance-below : (os : List ℕ) (s : State) → IsState S s → Passes S os s → distance S W (α S W s) ⊑ paid (W .price) os
-  distance-below os s h p = distance-is (α S W s) (α-below S W P C s h) .below os (passes-abstractly os s h p)
+  distance-below os s h p = distance-is (α S W s) (α-below S W P C s h) .below os tt (passes-abstractly os s h p)
 
   -- a step lowers the distance of the image by at most its price
   pub step-falls : (o : ℕ) (s : State) (c : ℕ) → IsState S s → o < S .ops → MayRun S o s

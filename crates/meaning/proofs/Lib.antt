@@ -3,6 +3,7 @@ pub mod Facts
 pub mod Space
 pub mod Induced
 pub mod Distances
+pub mod Rounds
 pub mod Sums
 pub mod Bounds
 pub mod Theorems

@@ -8,16 +8,16 @@ use Prim.Native.Nat.{ℕ, _+_, _≤_, _<_}
 use Rattle.graph.specs.Cost.{Cost, none, fin, _⊑_}
 use Rattle.graph.specs.Graph.{to, Leads}
 use Rattle.graph.specs.Least.{least, Rounds}
-use Rattle.graph.proofs.Theorems as graphs
 use Rattle.meaning.specs.Numbering.{size, number, digit, Positive, Digits}
 use Rattle.meaning.specs.Sas.{State, Sas, IsState, MayRun, Transition, after, Passes, paid, Proper}
-use Rattle.meaning.specs.Views.{α, abstractStates, AbstractStep, AbstractGoal, AbstractlyLeads, IsDistanceAt, space, viewGraph}
+use Rattle.meaning.specs.Views.{α, abstractStates, AbstractStep, AbstractGoal, AbstractlyLeads, IsDistanceAt, IsRounds, space, viewGraph}
 use Rattle.meaning.specs.Split.{Task, sum, view, Valid}
 use Rattle.meaning.specs.Bound.{distance, away, summed, bound}
 use Rattle.meaning.proofs.Numbers as numbers
 use Rattle.meaning.proofs.Space as spaces
 use Rattle.meaning.proofs.Induced as induced
 use Rattle.meaning.proofs.Distances as distances
+use Rattle.meaning.proofs.Rounds as rounds
 use Rattle.meaning.proofs.Sums as sums
 use Rattle.meaning.proofs.Bounds as bounds
 
@@ -86,17 +86,28 @@ module _ (T : Task) (ok : Valid T) (m : ℕ) (lm : m < T .maps) where
       → (v ≡ none) ↔ ((os : List ℕ) → AbstractlyLeads (T .sas) (view T m) os a → ⊥)
   none-exactly-if-no-sequence a v l = distances.distance-none (T .sas) (view T m) (ok .proper) (bounds.view-onto T ok m lm) a v l
 
-  -- the table of the counted round holds the distances, and the rounds never pass the number of abstract states
-  pub round-holds-distances : (r : ℕ) → Rounds (viewGraph (T .sas) (view T m)) r → (a : ℕ) → a < abstractStates (T .sas) (view T m)
-      → least (viewGraph (T .sas) (view T m)) r a ≡ distance (T .sas) (view T m) a
-  round-holds-distances r R a l = distances.round-distance (T .sas) (view T m) (ok .proper) (bounds.view-onto T ok m lm) r R a l
+  -- rounds over the induced abstraction's own steps exist, are unique, and never pass the number of abstract states
+  pub rounds-exist : (r : ℕ) × IsRounds (T .sas) (view T m) r
+  rounds-exist = rounds.rounds-exist (T .sas) (view T m) (ok .proper) (bounds.view-onto T ok m lm)
 
-  pub rounds-at-most-states : (r : ℕ) → Rounds (viewGraph (T .sas) (view T m)) r → r ≤ abstractStates (T .sas) (view T m)
-  rounds-at-most-states r R =
-      graphs.rounds-never-pass-states (viewGraph (T .sas) (view T m))
-      (induced.view-closed (T .sas) (view T m) (ok .proper) (bounds.view-onto T ok m lm))
-      (induced.some-state (T .sas) (view T m) (ok .proper) (bounds.view-onto T ok m lm))
-      r R
+  pub rounds-unique : (r s : ℕ) → IsRounds (T .sas) (view T m) r → IsRounds (T .sas) (view T m) s → r ≡ s
+  rounds-unique r s R Q = rounds.rounds-unique (T .sas) (view T m) (ok .proper) (bounds.view-onto T ok m lm) r s R Q
+
+  pub rounds-at-most-states : (r : ℕ) → IsRounds (T .sas) (view T m) r → r ≤ abstractStates (T .sas) (view T m)
+  rounds-at-most-states r R = rounds.rounds-most (T .sas) (view T m) (ok .proper) (bounds.view-onto T ok m lm) r R
+
+  -- they are the rounds of the computed graph ..
+  pub computed-rounds-exactly-induced : (r : ℕ) → Rounds (viewGraph (T .sas) (view T m)) r ↔ IsRounds (T .sas) (view T m) r
+  computed-rounds-exactly-induced r = (
+    rounds.induced-rounds (T .sas) (view T m) (ok .proper) (bounds.view-onto T ok m lm) r,
+    rounds.numbered-rounds (T .sas) (view T m) (ok .proper) (bounds.view-onto T ok m lm) r,
+  )
+
+  -- .. whose table after so many rounds holds the distances
+  pub round-holds-distances : (r : ℕ) → IsRounds (T .sas) (view T m) r → (a : ℕ) → a < abstractStates (T .sas) (view T m)
+      → least (viewGraph (T .sas) (view T m)) r a ≡ distance (T .sas) (view T m) a
+  round-holds-distances r R a l =
+      distances.round-distance (T .sas) (view T m) (ok .proper) (bounds.view-onto T ok m lm) r (computed-rounds-exactly-induced r .1 R) a l
 
   -- the longest distance
   pub distance-at-most : (a d : ℕ) → a < abstractStates (T .sas) (view T m) → distance (T .sas) (view T m) a ≡ fin d → d ≤ 4095000000

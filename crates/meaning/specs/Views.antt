@@ -2,10 +2,10 @@
 use mathlib.Core.Path.{_≡_}
 use mathlib.Core.Bool.{Bool, true, false, _&&_}
 use mathlib.Core.List.{List, [], _∷_}
-use Prim.Native.Nat.{ℕ, zero, suc, _<_}
+use Prim.Native.Nat.{ℕ, zero, suc, _-_, _≤_, _<_}
 use lib.Dec.{eqb}
 use Rattle.graph.specs.Cost.{Cost, fin, _⊑_}
-use Rattle.graph.specs.Graph.{Next, stop, to, Graph}
+use Rattle.graph.specs.Graph.{Next, stop, to, Graph, AtMost, AnyLength}
 use Rattle.meaning.specs.Numbering.{size, number, digit}
 use Rattle.meaning.specs.Sas.{State, Facts, Sas, IsState, IsGoal, Transition, after, paid}
 
@@ -48,10 +48,25 @@ abbrev pub AbstractlyLeads : Sas → View → List ℕ → ℕ → Type 0
 AbstractlyLeads S W [] a = AbstractGoal S W a
 AbstractlyLeads S W (o ∷ os) a = (b : ℕ) × AbstractStep S W o a b × AbstractlyLeads S W os b
 
--- v is the view's distance at a: the price of some sequence from there to a goal, and no sequence of any length is cheaper; none exactly if there is none
-pub record IsDistanceAt (S : Sas) (W : View) (a : ℕ) (v : Cost) : Type 0 where
-  pub attained : (d : ℕ) → v ≡ fin d → (os : List ℕ) × AbstractlyLeads S W os a × (paid (W .price) os ≡ d)
-  pub below : (os : List ℕ) → AbstractlyLeads S W os a → v ⊑ paid (W .price) os
+-- v is the least price of the sequences that satisfy P and lead from a to a goal: the price of some such sequence, and none is cheaper; none exactly if
+-- there is none
+pub record IsLeastAt (S : Sas) (W : View) (P : List ℕ → Type 0) (a : ℕ) (v : Cost) : Type 0 where
+  pub attained : (d : ℕ) → v ≡ fin d → (os : List ℕ) × P os × AbstractlyLeads S W os a × (paid (W .price) os ≡ d)
+  pub below : (os : List ℕ) → P os → AbstractlyLeads S W os a → v ⊑ paid (W .price) os
+
+-- the view's distance at a: the least over sequences of any length
+abbrev pub IsDistanceAt : Sas → View → ℕ → Cost → Type 0
+IsDistanceAt S W a v = IsLeastAt S W AnyLength a v
+
+-- at all abstract states the least price over at most i steps equals that over at most i - 1 steps
+abbrev pub UnchangedAt : Sas → View → ℕ → Type 0
+UnchangedAt S W i = (a : ℕ) → a < abstractStates S W → (v : Cost) × IsLeastAt S W (AtMost i) a v × IsLeastAt S W (AtMost (i - 1)) a v
+
+-- the view's rounds: the smallest i of at least 1 for which that is so
+pub record IsRounds (S : Sas) (W : View) (r : ℕ) : Type 0 where
+  pub positive : 1 ≤ r
+  pub unchanged : UnchangedAt S W r
+  pub smallest : (i : ℕ) → 1 ≤ i → i < r → UnchangedAt S W i → ⊥
 
 -- THE TASK OF CLASSES. What is said of a variable, seen by classes
 abbrev pub seen : (ℕ → ℕ) → ℕ → ℕ

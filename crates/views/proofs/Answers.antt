@@ -15,10 +15,10 @@ use Rattle.meaning.specs.Split.{Task, view, Valid}
 use Rattle.meaning.specs.Bound.{away, join, summed, bound}
 use Rattle.meaning.proofs.Induced.{α-below}
 use Rattle.meaning.proofs.Bounds.{view-onto}
-use Rattle.meaning.proofs.Theorems.{distance-is-least, distance-unique, round-holds-distances}
+use Rattle.meaning.proofs.Theorems.{distance-is-least, distance-unique, computed-rounds-exactly-induced, round-holds-distances}
 use Rattle.sweep.specs.Said.{saidAt}
 use Rattle.sweep.specs.Inside.Sweeps.{Counted}
-use Rattle.views.specs.Entries.{DistancesOf, IsAway, IsBound}
+use Rattle.views.specs.Entries.{DistancesOf, RoundsOf, IsAway, IsBound}
 use Rattle.sweep.proofs.Saids.{said-inj}
 
 module _ (T : Task) (ok : Valid T) (m : ℕ) (lm : m < T .maps) where
@@ -31,14 +31,17 @@ module _ (T : Task) (ok : Valid T) (m : ℕ) (lm : m < T .maps) where
           said-inj (getD o a 0) (getD u a 0) (distance-unique T ok m lm a (saidAt o a) (saidAt u a) l (D .distances a l) (E .distances a l))
       pick a (no l) = D .others a (omega arith) ∙ sym (E .others a (omega arith))
 
-  -- the table of the counted rounds holds the distances
+  -- the counted rounds are the map's, and their table holds the distances
+  pub counted-rounds : (out out′ : List ℕ) (r : ℕ) → Counted (viewGraph (T .sas) (view T m)) out out′ r → RoundsOf T m r
+  counted-rounds out out′ r C = computed-rounds-exactly-induced T ok m lm r .0 (C .rounds)
+
   pub counted-distances : (out out′ : List ℕ) (r : ℕ) → Counted (viewGraph (T .sas) (view T m)) out out′ r → DistancesOf T m out out′
   counted-distances out out′ r C =
       record {
         distances =
             λ a l.
             subst (λ (v : Cost). IsDistanceAt (T .sas) (view T m) a v)
-            (sym (C .table .made a l ∙ round-holds-distances T ok m lm r (C .rounds) a l)) (distance-is-least T ok m lm a l);
+            (sym (C .table .made a l ∙ round-holds-distances T ok m lm r (counted-rounds out out′ r C) a l)) (distance-is-least T ok m lm a l);
         others = C .table .kept;
         room = C .table .size;
       }

@@ -31,7 +31,7 @@ use Rattle.sweep.specs.Inside.Classes.{viewGraphOf}
 use Rattle.views.specs.Entries.{noSuchMap, askedFault, distancesFault, distanceFault, ByFault, DistancesGiven, distanceSaid, boundSaid, DistanceGiven, BoundGiven}
 use Rattle.sweep.proofs.Alike.{counted-alike}
 use Rattle.sweep.proofs.Viewing.{priced-alike}
-use Rattle.views.proofs.Answers.{counted-distances, away-is, bound-is}
+use Rattle.views.proofs.Answers.{counted-rounds, counted-distances, away-is, bound-is}
 
 -- ---- one fault after the other
 
@@ -111,7 +111,7 @@ module _ (t : Tables) where
       let asked = asked-clean t m e in
       let D = counted-alike (priced-alike (t .counts) (t .facts) (t .costs) (t .shares) m prices row) C in
       by-clean (distancesFault t m out) _ _ (distances-asked t m out l ∙ e)
-      (r, refl, D .rounds, counted-distances (taskOf t) (asked .0) m (asked .1) out out′ r D)
+      (r, refl, counted-rounds (taskOf t) (asked .0) m (asked .1) out out′ r D, counted-distances (taskOf t) (asked .0) m (asked .1) out out′ r D)
 
   pub given-distance : (m : ℕ) (s : List ℕ) (d : ℕ) {answer : DistanceAnswer} → distanceFault t m s ≡ Clean
       → said d ≡ away costless (stateOf s) m → answer ≡ distanceSaid (said d) → DistanceGiven t m s answer

@@ -5,14 +5,13 @@ use mathlib.Core.List.{List}
 use Prim.Native.Nat.{ℕ, _≤_}
 use native.Mathlib.Omega.{arith}
 use Rattle.graph.specs.Cost.{Cost, none, fin, _⊑_}
-use Rattle.graph.proofs.Theorems.{rounds-unique}
 use Rattle.refusals.specs.declared.Refusal.{Refusal}
 use Rattle.meaning.specs.Sas.{Passes, paid}
-use Rattle.meaning.specs.Views.{α, abstractStates, viewGraph}
+use Rattle.meaning.specs.Views.{α, abstractStates}
 use Rattle.meaning.specs.Split.{view}
 use Rattle.meaning.specs.Bound.{bound}
 use Rattle.meaning.proofs.Bounds.{admissible}
-use Rattle.meaning.proofs.Theorems.{rounds-at-most-states}
+use Rattle.meaning.proofs.Theorems.{rounds-unique, rounds-at-most-states}
 use Rattle.scan.specs.declared.Found.{Found}
 use Rattle.scan.specs.declared.Found.the-variants.{Clean, Fault}
 use Rattle.tables.specs.Layout.{Tables}
@@ -52,7 +51,7 @@ distances-unique t m out =
     (λ x y f p q. outcome (p .0 ∙ sym (q .0)) (p .1 ∙ sym (q .1)))
     (λ x y e p q.
     let c = distances-clean t m out e in
-    outcome (p .1 ∙ ap distances.Rounds (rounds-unique (viewGraph (sasOf t) (view (taskOf t) m)) (p .0) (q .0) (p .2) (q .2)) ∙ sym (q .1))
+    outcome (p .1 ∙ ap distances.Rounds (rounds-unique (taskOf t) (c .0) m (c .1) (p .0) (q .0) (p .2) (q .2)) ∙ sym (q .1))
     (distances-only (taskOf t) (c .0) m (c .1) out (x .table) (y .table) (p .3) (q .3)))
 
 pub distance-at-unique : (t : Tables) (m : ℕ) (s : List ℕ) (x y : DistanceAnswer) → DistanceGiven t m s x → DistanceGiven t m s y → x ≡ y

@@ -5,12 +5,11 @@ use Prim.Native.Nat.{ℕ, _≤_, _<_}
 use lib.Dec.{leb, ltb}
 use lib.ListN.{length, getD}
 use Rattle.graph.specs.Cost.{Cost, none, fin}
-use Rattle.graph.specs.Least.{Rounds}
 use Rattle.refusals.specs.declared.Refusal.{Refusal}
 use Rattle.refusals.specs.declared.Refusal.the-variants.{OutOfRange, TableTooShort}
 use Rattle.meaning.specs.Limits.{mostStates}
 use Rattle.meaning.specs.Sas.{State}
-use Rattle.meaning.specs.Views.{α, abstractStates, IsDistanceAt, viewGraph}
+use Rattle.meaning.specs.Views.{α, abstractStates, IsDistanceAt, IsRounds}
 use Rattle.meaning.specs.Split.{Task, view}
 use Rattle.meaning.specs.Bound.{summed}
 use Rattle.scan.specs.declared.Found.{Found}
@@ -32,9 +31,9 @@ pub record DistancesOf (T : Task) (m : ℕ) (out out′ : List ℕ) : Type 0 whe
   pub others : (a : ℕ) → abstractStates (T .sas) (view T m) ≤ a → getD out′ a 0 ≡ getD out a 0
   pub room : length out′ ≡ length out
 
--- the rounds: r is the count of rounds of map m
+-- the rounds: the smallest i of at least 1 for which, at all abstract states, the least over at most i steps equals that over at most i - 1 steps
 abbrev pub RoundsOf : Task → ℕ → ℕ → Type 0
-RoundsOf T m r = Rounds (viewGraph (T .sas) (view T m)) r
+RoundsOf T m r = IsRounds (T .sas) (view T m) r
 
 -- v is the distance of the state's image in map m
 abbrev pub IsAway : Task → State → ℕ → Cost → Type 0
