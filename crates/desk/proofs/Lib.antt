@@ -1,1 +1,3 @@
 pub mod Unique
+pub mod Own
+pub mod Reading

@@ -11,7 +11,7 @@ use borrow.Author.Tests.{ltb-true}
 use Rattle.graph.specs.Cost.{Cost, _⊑_}
 use Rattle.meaning.specs.Numbering.{size, number, digit}
 use Rattle.meaning.specs.Sas.{State, Facts, Sas, IsState, Holds, Complies, Transition, paid}
-use Rattle.meaning.specs.Views.{View, α, abstractStates, AbstractStep, AbstractGoal, AbstractlyLeads, IsDistanceAt, holds, every, complies}
+use Rattle.meaning.specs.Views.{View, α, abstractStates, AbstractStep, AbstractGoal, AbstractlyLeads, IsLeastAt, UnchangedAt, IsRounds, holds, every, complies}
 use Rattle.meaning.specs.Split.{Task, countOf, view}
 use Rattle.meaning.specs.Columns.{unshared, rest, gain}
 use Rattle.meaning.proofs.Facts.{by-cases, every-same}
@@ -148,18 +148,32 @@ module _ {S R : Sas} (E : SameSas S R) {W X : View} (C : SameView S W X) where
   price-alike [] a h = refl
   price-alike (o ∷ os) a h = ap₂ _+_ (C .price o (h .1 .3 .3 .operator)) (price-alike os (h .0) (h .2))
 
--- the same distances
-pub distance-alike : {S R : Sas} (E : SameSas S R) {W X : View} (C : SameView S W X) (a : ℕ) (v : Cost) → IsDistanceAt S W a v → IsDistanceAt R X a v
-distance-alike {S = S} {R = R} E {W = W} {X = X} C a v D =
+-- the same least prices, and so the same rounds
+module _ {S R : Sas} (E : SameSas S R) {W X : View} (C : SameView S W X) where
+  pub least-alike : {P : List ℕ → Type 0} (a : ℕ) (v : Cost) → IsLeastAt S W P a v → IsLeastAt R X P a v
+  least-alike a v D =
+      record {
+        attained =
+            λ d e.
+            let t = D .attained d e in
+            (t .0, t .1, leads-alike E C (t .0) a (t .2), sym (price-alike E C (t .0) a (t .2)) ∙ t .3);
+        below =
+            λ os p h.
+            let g = leads-alike (sas-back E) (view-back E C) os a h in
+            subst (λ (c : ℕ). v ⊑ c) (price-alike E C os a g) (D .below os p g);
+      }
+
+  unchanged-alike : (i : ℕ) → UnchangedAt S W i → UnchangedAt R X i
+  unchanged-alike i h a l =
+      let t = h a (omega (arith, states-alike E C)) in
+      (t .0, least-alike a (t .0) (t .1), least-alike a (t .0) (t .2))
+
+pub rounds-alike : {S R : Sas} (E : SameSas S R) {W X : View} (C : SameView S W X) (r : ℕ) → IsRounds S W r → IsRounds R X r
+rounds-alike E C r H =
     record {
-      attained =
-          λ d e.
-          let t = D .attained d e in
-          (t .0, leads-alike E C (t .0) a (t .1), sym (price-alike E C (t .0) a (t .1)) ∙ t .2);
-      below =
-          λ os h.
-          let g = leads-alike (sas-back E) (view-back E C) os a h in
-          subst (λ (c : ℕ). v ⊑ c) (price-alike E C os a g) (D .below os g);
+      positive = H .positive;
+      unchanged = unchanged-alike E C r (H .unchanged);
+      smallest = λ i p l u. H .smallest i p l (unchanged-alike (sas-back E) (view-back E C) i u);
     }
 
 -- ---- tasks with their maps and shares

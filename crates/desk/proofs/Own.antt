@@ -1,0 +1,53 @@
+-- TABLE PLACES BEYOND A TASK'S OWN COUNTS AREN'T READ, entry by entry: tables of the same counts that both have room or neither, and agree at the task's own
+-- places, get the same answer and leave the same bytes; so do states that agree at the variables. What meets an entry's contract over the ones meets it over the
+-- others, and by Unique.antt nothing else does. `read` takes no tables: what it leaves follows from the text and the tables' lengths alone. Assumes nothing.
+use mathlib.Core.Path.{_≡_, ap}
+use mathlib.Core.List.{List}
+use Prim.Native.Nat.{ℕ}
+use denote.Ref.{RefT}
+use Rattle.tables.specs.Layout.{Tables}
+use Rattle.scan.specs.Scan.{tablesFault}
+use Rattle.scan.specs.Own.{OwnSame, OwnState}
+use Rattle.scan.proofs.Alike.{own-alike}
+use Rattle.views.specs.declared.DistancesAnswer.{DistancesAnswer}
+use Rattle.views.specs.declared.DistanceAnswer.{DistanceAnswer}
+use Rattle.views.specs.declared.BoundAnswer.{BoundAnswer}
+use Rattle.views.specs.Entries.{DistancesGiven, DistanceGiven, BoundGiven}
+use Rattle.views.proofs.Alike as views
+use Rattle.sequences.specs.Judging.{judgedOf}
+use Rattle.sequences.specs.Choosing.{namedOf, cheaperOf}
+use Rattle.sequences.specs.Opening.{OpeningOf}
+use Rattle.sequences.proofs.Alike as sequences
+use Rattle.ledger.specs.declared.Run.{Run}
+use Rattle.ledger.specs.Ledger.{begun, offered}
+use Rattle.ledger.proofs.Alike as ledger
+
+module _ (t u : Tables) (O : OwnSame t u) where
+  pub check-own : tablesFault t ≡ tablesFault u
+  check-own = own-alike t u O .fault
+
+  pub distances-own : (map : ℕ) (out out′ : List ℕ) (x : DistancesAnswer) → DistancesGiven t map out x out′ → DistancesGiven u map out x out′
+  distances-own map out out′ x = views.distances-given-alike (own-alike t u O) map out out′ x
+
+  pub offer-own : (run : Run) (number op : ℕ) → offered t run number op ≡ offered u run number op
+  offer-own run number op = ledger.offered-alike (own-alike t u O) run number op
+
+  -- beside them a state
+  module _ (s z : List ℕ) (S : OwnState (t .counts) s z) where
+    pub distance-at-own : (map : ℕ) (x : DistanceAnswer) → DistanceGiven t map s x → DistanceGiven u map z x
+    distance-at-own map x = views.distance-given-alike (own-alike t u O) s z S map x
+
+    pub bound-own : (x : BoundAnswer) → BoundGiven t s x → BoundGiven u z x
+    bound-own x = views.bound-given-alike (own-alike t u O) s z S x
+
+    pub judge-own : (ops : List ℕ) → judgedOf t s ops ≡ judgedOf u z ops
+    judge-own ops = sequences.judged-alike (own-alike t u O) s z S ops
+
+    pub cheaper-own : (a b : List ℕ) → cheaperOf t s a b ≡ cheaperOf u z a b
+    cheaper-own a b = ap namedOf (sequences.chosen-alike (own-alike t u O) s z S a b)
+
+    pub opening-own : (a b r : RefT (List ℕ)) → OpeningOf t s a b r → OpeningOf u z a b r
+    opening-own a b r = sequences.opening-alike (own-alike t u O) s z S a b r
+
+    pub begin-own : begun t s ≡ begun u z
+    begin-own = ledger.begun-alike (own-alike t u O) s z S
