@@ -1,14 +1,19 @@
 -- TABLE PLACES BEYOND A TASK'S OWN COUNTS AREN'T READ, entry by entry: tables of the same counts that both have room or neither, and agree at the task's own
 -- places, get the same answer and leave the same bytes; so do states that agree at the variables. What meets an entry's contract over the ones meets it over the
--- others, and by Unique.antt nothing else does. `read` takes no tables: what it leaves follows from the text and the tables' lengths alone. Assumes nothing.
+-- others, and by Unique.antt nothing else does. Nor does `read` look at what stands in the tables that it is lent. Assumes nothing.
 use mathlib.Core.Path.{_≡_, ap}
 use mathlib.Core.List.{List}
 use Prim.Native.Nat.{ℕ}
+use lib.ListN.{length}
 use denote.Ref.{RefT}
+use Rattle.tables.specs.declared.Counts.{Counts}
 use Rattle.tables.specs.Layout.{Tables}
 use Rattle.scan.specs.Scan.{tablesFault}
 use Rattle.scan.specs.Own.{OwnSame, OwnState}
 use Rattle.scan.proofs.Alike.{own-alike}
+use Rattle.grammar.specs.declared.Reading.the-variants.{Accepted}
+use Rattle.grammar.specs.Grammar.{readText}
+use Rattle.grammar.proofs.SpellLeft.{read-answer-same, read-accepted-same}
 use Rattle.views.specs.declared.DistancesAnswer.{DistancesAnswer}
 use Rattle.views.specs.declared.DistanceAnswer.{DistanceAnswer}
 use Rattle.views.specs.declared.BoundAnswer.{BoundAnswer}
@@ -21,6 +26,14 @@ use Rattle.sequences.proofs.Alike as sequences
 use Rattle.ledger.specs.declared.Run.{Run}
 use Rattle.ledger.specs.Ledger.{begun, offered}
 use Rattle.ledger.proofs.Alike as ledger
+
+-- tables of the same lengths: the same answer; and where it is accepted, the same numbers in them
+module _ (task f f′ c c′ s s′ : List ℕ) (p : length f ≡ length f′) (q : length c ≡ length c′) (r : length s ≡ length s′) where
+  pub read-own : readText task f c s .answer ≡ readText task f′ c′ s′ .answer
+  read-own = read-answer-same task f f′ c c′ s s′ p q r
+
+  pub read-own-accepted : (n : Counts) → readText task f c s .answer ≡ Accepted n → readText task f c s ≡ readText task f′ c′ s′
+  read-own-accepted n h = read-accepted-same task f f′ c c′ s s′ p q r n h
 
 module _ (t u : Tables) (O : OwnSame t u) where
   pub check-own : tablesFault t ≡ tablesFault u

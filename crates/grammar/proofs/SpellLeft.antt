@@ -3,18 +3,22 @@
 use Prim.Native.Nat.{ℕ, zero, suc, _-_, _≤_, _<_}
 use native.Mathlib.Omega.{arith}
 use mathlib.Core.Path.{_≡_, refl, sym, ap, _∙_, subst}
+use mathlib.Core.Bool.{Bool, true, false, cond}
 use mathlib.Core.List.{List, [], _∷_, _++_}
+use lib.Dec.{ltb}
 use lib.ListN.{length, getD, replicate, length-append, length-replicate}
+use Rattle.refusals.specs.declared.Refusal.the-variants.{TextTooLong, TableTooShort}
+use Rattle.meaning.specs.Limits.{mostBytes}
 use Rattle.meaning.specs.Split.{Task, Valid}
 use Rattle.meaning.proofs.Facts.{by-order}
 use Rattle.tables.specs.declared.Counts.{Counts}
-use Rattle.tables.specs.Layout.{factsRoom, costsRoom, sharesRoom, domPlace, initPlace, goalPlace, prePlace, effPlace, classPlace, sharePlace}
+use Rattle.tables.specs.Layout.{Tables, factsRoom, costsRoom, sharesRoom, domPlace, initPlace, goalPlace, prePlace, effPlace, classPlace, sharePlace}
 use Rattle.tables.specs.Task.{tables, taskOf}
 use Rattle.scan.specs.declared.Found.the-variants.{Clean}
 use Rattle.scan.specs.Scan.{taskFault}
-use Rattle.grammar.specs.declared.Reading.the-variants.{Accepted}
-use Rattle.grammar.specs.Fields.{edition, Outcome, filled}
-use Rattle.grammar.specs.Grammar.{Verdict, accepted, outcome, verdict, readText}
+use Rattle.grammar.specs.declared.Reading.the-variants.{Accepted, Refused}
+use Rattle.grammar.specs.Fields.{edition, Outcome, leaves, filled, admitted}
+use Rattle.grammar.specs.Grammar.{Verdict, accepted, refused, outcome, verdict, readText}
 use Rattle.grammar.specs.Spelling.{spelled, tablesOf}
 use Rattle.grammar.proofs.Admission.{not-accepted, facts-short, costs-short, shares-short, accepted-outcome}
 use Rattle.grammar.proofs.SpellTables.{zeros, long-row}
@@ -131,3 +135,41 @@ pub accepted-short : (x f c s : List ℕ) (n : Counts) → readText x f c s .ans
 accepted-short x f c s n h =
     let t = accepted-task-of x f c s n h in
     subst (λ (y : List ℕ). length y ≤ 10449) (sym (t .1)) (spelled-short (t .0) (t .2))
+
+-- ---- WHAT STOOD IN THE LENT TABLES DOESN'T MATTER: tables of the same lengths get the same answer, and the same numbers where it is accepted
+
+module _ (x f f′ c c′ s s′ : List ℕ) (p : length f ≡ length f′) (q : length c ≡ length c′) (r : length s ≡ length s′) where
+  outcome-answer : (v : Verdict) → outcome v f c s .answer ≡ outcome v f′ c′ s′ .answer
+  unfolding outcome
+  outcome-answer (accepted T) = refl
+  outcome-answer (refused w) = refl
+
+  -- by the four tests before the text
+  tested-answer : (a b d e : Bool) (o u : Outcome) → o .answer ≡ u .answer
+      → cond a (leaves (Refused TableTooShort) f c s)
+      (cond b (leaves (Refused TableTooShort) f c s) (cond d (leaves (Refused TableTooShort) f c s) (cond e (leaves (Refused TextTooLong) f c s) o))) .answer
+      ≡ cond a (leaves (Refused TableTooShort) f′ c′ s′)
+      (cond b (leaves (Refused TableTooShort) f′ c′ s′) (cond d (leaves (Refused TableTooShort) f′ c′ s′) (cond e (leaves (Refused TextTooLong) f′ c′ s′) u))) .answer
+  tested-answer true b d e o u h = refl
+  tested-answer false true d e o u h = refl
+  tested-answer false false true e o u h = refl
+  tested-answer false false false true o u h = refl
+  tested-answer false false false false o u h = h
+
+  pub read-answer-same : readText x f c s .answer ≡ readText x f′ c′ s′ .answer
+  unfolding readText admitted
+  read-answer-same =
+      rw (p, q, r)
+      (tested-answer (ltb (length f′) factsRoom) (ltb (length c′) costsRoom) (ltb (length s′) sharesRoom) (ltb mostBytes (length x)) (outcome (verdict x) f c s) (outcome (verdict x) f′ c′ s′)
+      (outcome-answer (verdict x)))
+
+  pub read-accepted-same : (n : Counts) → readText x f c s .answer ≡ Accepted n → readText x f c s ≡ readText x f′ c′ s′
+  unfolding outcome filled
+  read-accepted-same n h =
+      let R = read-accepted f c s x n h in
+      accepted-outcome x f c s n h ∙ ap (λ (v : Verdict). outcome v f c s) (spells-accepted x (R .tables) (R .spells)) ∙ filled-alike (R .tables)
+      ∙ sym
+      (accepted-outcome x f′ c′ s′ n (sym read-answer-same ∙ h) ∙ ap (λ (v : Verdict). outcome v f′ c′ s′) (spells-accepted x (R .tables) (R .spells)))
+    where
+      filled-alike : (T : Tables) → outcome (accepted T) f c s ≡ outcome (accepted T) f′ c′ s′
+      filled-alike T = rw (p, q, r) refl

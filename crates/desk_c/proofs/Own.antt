@@ -1,0 +1,50 @@
+-- Table places beyond a task's own counts aren't read, entry by entry: tables of the same counts that both have room or neither, and agree at the task's own
+-- places, get the same word and leave the same lent bytes; so do states that agree at the variables. From the desk's entries. Assumes nothing.
+use mathlib.Core.Path.{_≡_, ap}
+use mathlib.Core.List.{List}
+use Prim.Native.Nat.{ℕ}
+use Rattle.tables.specs.Layout.{Tables}
+use Rattle.scan.specs.Scan.{tablesFault}
+use Rattle.scan.specs.Own.{OwnSame, OwnState}
+use Rattle.scan.proofs.Alike.{own-alike}
+use Rattle.sequences.specs.Judging.{judgedOf}
+use Rattle.sequences.specs.Choosing.{cheaperOf, chosenOf}
+use Rattle.sequences.proofs.Alike.{chosen-alike}
+use Rattle.ledger.specs.declared.Offered.{Offered}
+use Rattle.desk.proofs.Own as desk
+use Rattle.words.specs.Words.{foundWord, judgedWord, cheaperWord, openingWord}
+use Rattle.lent_runs.specs.Lent.{runIn}
+use Rattle.lent_runs.specs.Left.{unlessShort, beginHanded, offerHanded}
+use Rattle.desk_c.specs.Handing.{DistancesHanded, DistanceHanded, BoundHanded}
+
+module _ (t u : Tables) (O : OwnSame t u) where
+  pub check-own : foundWord (tablesFault t) ≡ foundWord (tablesFault u)
+  check-own = ap foundWord (desk.check-own t u O)
+
+  pub distances-own : (map : ℕ) (out out′ : List ℕ) (w : ℕ) → DistancesHanded t map out w out′ → DistancesHanded u map out w out′
+  distances-own map out out′ w h = (h .0, desk.distances-own t u O map out out′ (h .0) (h .1), h .2)
+
+  pub offer-own : (bytes words : List ℕ) (number op : ℕ) → offerHanded t bytes words number op ≡ offerHanded u bytes words number op
+  unfolding offerHanded
+  offer-own bytes words number op = ap (λ (o : Offered). unlessShort o bytes words) (desk.offer-own t u O (runIn bytes words) number op)
+
+  -- beside them a state
+  module _ (s z : List ℕ) (S : OwnState (t .counts) s z) where
+    pub distance-at-own : (map w : ℕ) → DistanceHanded t map s w → DistanceHanded u map z w
+    distance-at-own map w h = (h .0, desk.distance-at-own t u O s z S map (h .0) (h .1), h .2)
+
+    pub bound-own : (w : ℕ) → BoundHanded t s w → BoundHanded u z w
+    bound-own w h = (h .0, desk.bound-own t u O s z S (h .0) (h .1), h .2)
+
+    pub judge-own : (ops : List ℕ) → judgedWord (judgedOf t s ops) ≡ judgedWord (judgedOf u z ops)
+    judge-own ops = ap judgedWord (desk.judge-own t u O s z S ops)
+
+    pub cheaper-own : (a b : List ℕ) → cheaperWord (cheaperOf t s a b) ≡ cheaperWord (cheaperOf u z a b)
+    cheaper-own a b = ap cheaperWord (desk.cheaper-own t u O s z S a b)
+
+    pub opening-own : (a b : List ℕ) → openingWord (chosenOf t s a b) ≡ openingWord (chosenOf u z a b)
+    opening-own a b = ap openingWord (chosen-alike (own-alike t u O) s z S a b)
+
+    pub begin-own : (bytes words : List ℕ) → beginHanded t s bytes words ≡ beginHanded u z bytes words
+    unfolding beginHanded
+    begin-own bytes words = ap (λ (o : Offered). unlessShort o bytes words) (desk.begin-own t u O s z S)
