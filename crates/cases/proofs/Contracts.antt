@@ -18,7 +18,7 @@ use Rattle.tables.specs.Layout.{Tables}
 use Rattle.tables.specs.Task.{sasOf, taskOf, stateOf}
 use Rattle.tables.specs.Steps.{copied}
 use Rattle.scan.specs.declared.Found.the-variants.{Clean}
-use Rattle.scan.specs.Scan.{tablesFault, stateFault, inputFault}
+use Rattle.scan.specs.Scan.{tablesFault, inputFault}
 use Rattle.scan.proofs.Validity.{clean-valid, state-clean}
 use Rattle.sweep.specs.Said.{said}
 use Rattle.views.specs.declared.DistancesAnswer.{DistancesAnswer}
@@ -30,7 +30,6 @@ use Rattle.views.proofs.Promises.{Outcome, distances-unique, distance-at-unique
 use Rattle.sequences.specs.Judging.{limited, judgedOf}
 use Rattle.ledger.specs.Ledger.{fresh, started, begun}
 use Rattle.ledger.specs.declared.Answer.the-variants.{Accepted}
-use Rattle.ledger.specs.declared.Offered.{Offered}
 use Rattle.cases.specs.Told.{Told, ofSequence, distances, distanceAt, boundAt, judging, entered, enteredIn, ClaimHolds}
 
 -- ---- what is computed of a task
@@ -39,7 +38,7 @@ use Rattle.cases.specs.Told.{Told, ofSequence, distances, distanceAt, bo
 abbrev pub Inside : Task → List ℕ → Type 0
 Inside T s = (T .sas .vars ≤ length s) × IsState (T .sas) (stateOf s)
 
--- the task has map m, and ds are the distances at its abstract states, each as its number in a table says it
+-- the task has map m; ds are the distances at all its abstract states, each as its number in a table says it, and r is its count of rounds
 pub record Shows (T : Task) (m : ℕ) (ds : List Cost) (r : ℕ) : Type 0 where
   pub asked : m < T .maps
   pub count : length ds ≡ abstractStates (T .sas) (view T m)

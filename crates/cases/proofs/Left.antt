@@ -1,6 +1,6 @@
 -- What a reading leaves in lent tables of enough room is the task of its text, and is clean: beyond the task's places it is 0, and so is what is read
 -- beyond a table's end. So what is computed of the tables of the text gives the claims of the tables that are left. Assumes nothing.
-use mathlib.Core.Path.{_≡_, refl, sym, ap, subst, fun-ext}
+use mathlib.Core.Path.{_≡_, refl, sym, subst, fun-ext}
 use mathlib.Core.List.{List, [], _∷_, _++_}
 use mathlib.Core.Bool.{true, _&&_}
 use Prim.Native.Nat.{ℕ, zero, suc, _-_, _<_}

@@ -1,10 +1,11 @@
--- THE STARRED CASES HOLD, from text to answers, whatever tables of enough room are lent: every row of the table by one computation. Assumes nothing.
+-- THE STARRED CASES HOLD, from text to answers, whatever tables of enough room are lent: every row of the table by one computation over the tables of its
+-- text, and from those to the lent ones by `left-holds`. Assumes nothing.
 use mathlib.Core.Path.{_≡_, refl, sym, subst}
 use mathlib.Core.List.{List, [], _∷_}
 use Prim.Native.Nat.{ℕ, suc, _≤_}
 use lib.ListN.{length}
 use mathlib.Core.Bool.{true, false, false≢true}
-use Rattle.tables.specs.Steps.{rowHolds, mayRun, meetsGoal, overwritten, stepped, copied}
+use Rattle.tables.specs.Steps.{rowHolds, mayRun, overwritten, stepped, copied}
 use Rattle.scan.specs.Scan.{each, splitFault}
 use Rattle.scan.proofs.Validity.{clean-valid}
 use Rattle.refusals.specs.Listed.{numberOf, placeOf}
@@ -144,7 +145,7 @@ opened-scan = tt
 
 -- steps and sequences
 opened-steps : Unit {0}
-unfolding rowHolds mayRun meetsGoal overwritten stepped copied mostSteps stepOf walked limited
+unfolding rowHolds mayRun overwritten stepped copied mostSteps stepOf walked limited
 opened-steps = tt
 
 -- a run

@@ -1,7 +1,6 @@
 -- The rounds of the computed graph are the view's: its table over at most i steps is the least price over at most i of the induced abstraction's steps,
 -- and that is unique. Assumes nothing.
 use mathlib.Core.Path.{_≡_, sym, _∙_, subst}
-use mathlib.Core.Logic.{_↔_}
 use Prim.Native.Nat.{ℕ, _-_, _≤_, _<_}
 use Rattle.graph.specs.Cost.{Cost}
 use Rattle.graph.specs.Graph.{AtMost}
