@@ -85,5 +85,5 @@ module _ (t : Tables) (r : Run) (number o : ℕ) where
         (h .0, λ g. false≢true (sym (h .1) ∙ run-exactly t (h .0) r sized .1 g)),
     λ h.
         by-cases (isRun t r) (λ p. absurd (h .1 (run-exactly t (h .0) r sized .0 p)))
-            (λ p. sym (answered-not-a-run t r number o (h .0) p)),
+        (λ p. sym (answered-not-a-run t r number o (h .0) p)),
   )

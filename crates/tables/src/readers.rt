@@ -6,6 +6,7 @@ ghost use Rattle.meaning.specs.Limits.{mostVars, mostOps, mostMaps};
 ghost use Rattle.tables.specs.Layout.{rowAt, preRow, effRow, classRow, costAt, shareAt};
 ghost use Rattle.tables.specs.Task.{was};
 use meaning::OpNo;
+use meaning::op_index;
 
 // The row of the variables' numbers of values, of the initial state, of the goal.
 pub const DOM_ROW: u32 = 0;
@@ -77,12 +78,12 @@ pub fn row_at(facts: &[u8], row: u32, v: u32) -> u8
 pub fn cost_at(costs: &[u32], o: OpNo) -> u32
     ensures { λ r. ⌜ r ≡ costAt (was costs) (o .0) ⌝ }
 {
-    word_at(costs, o.0 as usize)
+    word_at(costs, op_index(o))
 }
 
 // What an operator costs in a map.
 pub fn share_at(shares: &[u32], m: u32, o: OpNo) -> u32
     ensures { λ r. ⌜ r ≡ shareAt (was shares) m (o .0) ⌝ }
 {
-    word_at(shares, m as usize * 64 + o.0 as usize)
+    word_at(shares, m as usize * 64 + op_index(o))
 }
