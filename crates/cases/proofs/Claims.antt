@@ -26,8 +26,7 @@ use Rattle.cases.specs.Told.{ofSequence, ofOffer, Offering, Claim, dista
 use Rattle.cases.proofs.Tests.{Test, le?, lt?, eq?, same?, told?, list?, _and_, all, into, always}
 use Rattle.cases.proofs.Rounds.{tableOf, table-is, rounds?}
 use Rattle.cases.proofs.Contracts.{Inside, Shows}
-use Rattle.cases.proofs.Alike.{offeredPast}
-use Rattle.cases.proofs.Left.{SaysPast, Shown}
+use Rattle.cases.proofs.Left.{offeredPast, SaysPast, Shown}
 
 -- the graph of a map, and its table over as many steps as it has abstract states
 abbrev pub graphOf : Tables → ℕ → Graph

@@ -1,7 +1,6 @@
 pub mod Tests
 pub mod Rounds
 pub mod Contracts
-pub mod Alike
 pub mod Left
 pub mod Claims
 pub mod Table

@@ -36,7 +36,7 @@ zeros-append [] n p = zeros n p
 zeros-append (x ∷ xs) n zero = refl
 zeros-append (x ∷ xs) n (suc p) = zeros-append xs n p
 
-filled-at : (room : ℕ) (xs lent : List ℕ) (p : ℕ) → getD (filled room xs lent) p 0 ≡ getD xs p 0
+pub filled-at : (room : ℕ) (xs lent : List ℕ) (p : ℕ) → getD (filled room xs lent) p 0 ≡ getD xs p 0
 unfolding filled
 filled-at room xs lent p = zeros-append xs (length lent - room) p
 

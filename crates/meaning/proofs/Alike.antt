@@ -184,6 +184,18 @@ pub record SameTask (T U : Task) : Type 0 where
   pub class : (m v x : ℕ) → m < T .maps → v < T .sas .vars → x < T .sas .dom v → T .class m v x ≡ U .class m v x
   pub share : (m o : ℕ) → m < T .maps → o < T .sas .ops → T .share m o ≡ U .share m o
 
+pub task-back : {T U : Task} → SameTask T U → SameTask U T
+task-back {T = T} E =
+    record {
+      sas = sas-back (E .sas);
+      maps = sym (E .maps);
+      class =
+          λ m v x lm l h.
+          let g : v < T .sas .vars = omega (arith, E .sas .vars) in
+          sym (E .class m v x (omega (arith, E .maps)) g (omega (arith, E .sas .dom v g)));
+      share = λ m o lm l. sym (E .share m o (omega (arith, E .maps)) (omega (arith, E .sas .ops)));
+    }
+
 pub view-alike : {T U : Task} → SameTask T U → (m : ℕ) → m < T .maps → SameView (T .sas) (view T m) (view U m)
 view-alike {T = T} {U = U} E m lm =
     record {

@@ -14,7 +14,7 @@ use Rattle.meaning.specs.Sas.{Facts}
 use Rattle.meaning.specs.Views.{every}
 use Rattle.meaning.specs.Split.{Task, countOf, Valid}
 use Rattle.meaning.proofs.Columns.{sum-same}
-use Rattle.meaning.proofs.Alike.{size-alike, count-alike, SameTask}
+use Rattle.meaning.proofs.Alike.{size-alike, count-alike, SameTask, task-back}
 use Rattle.tables.specs.declared.Counts.{Counts}
 use Rattle.tables.specs.Layout.{Tables, domAt, initAt, goalAt, preAt, effAt, classAt, costAt, shareAt}
 use Rattle.tables.specs.Task.{tables, taskOf, stateOf}
@@ -187,6 +187,9 @@ module _ (c : Counts) (f f′ k k′ s s′ : List ℕ) (A : Agree c f f′ k k�
 pub record ReadAlike (t u : Tables) : Type 0 where
   pub fault : tablesFault t ≡ tablesFault u
   pub task : tablesFault t ≡ Clean → SameTask (taskOf t) (taskOf u)
+
+pub read-back : (t u : Tables) → ReadAlike t u → ReadAlike u t
+read-back t u E = record { fault = sym (E .fault); task = λ e. task-back (E .task (E .fault ∙ e)) }
 
 -- ---- THE FIRST FAULT IS THE SAME
 
