@@ -202,9 +202,16 @@ module _ {M : Type 1} (𝓤 : URA M) (H : Heap 𝓤) (A : Atoms 𝓤) (W : Given
   S l α γ = ShrSlice (named 1) (α ∷ []) T.the-row .own (s l γ) (sliceVal (l, 0) (length xs) ∷ [])
 
   abbrev to : ℕ → ℕ → GName → Rows 𝓤 H A mem run .Ghost
-  to l α γ =
-      (((κ, (α ∷ [], tt)), (q, (fullShare, tt)), tt, (c, (f, (h, (s l γ, (z, (y, tt)))))),
-      (vc ∷ [], (val f ∷ [], (val h ∷ [], (sliceVal (l, 0) (length xs) ∷ [], (val z ∷ [], (val y ∷ [], tt))))))), tt)
+  to l α γ = (
+    (
+      (κ, (α ∷ [], tt)),
+      (q, (fullShare, tt)),
+      tt,
+      (c, (f, (h, (s l γ, (z, (y, tt)))))),
+      (vc ∷ [], (val f ∷ [], (val h ∷ [], (sliceVal (l, 0) (length xs) ∷ [], (val z ∷ [], (val y ∷ [], tt)))))),
+    ),
+    tt,
+  )
 
   asks : (l α : ℕ) (γ : GName) → Is N.the-row c (vc ∷ [])
       → ent 𝓤 (⋆ 𝓤 H A ((‵ (flft κ q) ⊛ ‵ (flft (α ∷ []) fullShare)) ∷ ‵ (fsep F (fsep G (fsep (S l α γ) (fsep Z Y)))) ∷ [])) (Rows 𝓤 H A mem run .pre (to l α γ))
