@@ -53,10 +53,15 @@ fn case_a() -> Vec<Vector> {
         judged("case A as a row: 0 alone ends without goal", &[0]),
         judged("case A as a row: the empty list ends without goal", &[]),
         judged("case A as a row: an operator that isn't there", &[0, 4]),
-        a("case A as a row: each operator alone, at two states").lines("l 5 1; s 5 0 0; W; s 5 0 1; W; s 5 0 2; W; s 5 0 3; W; s 4 0 1 1 2; s 5 0 0; W; s 5 0 1; W; s 5 0 2; W; s 5 0 3; W"),
+        a("case A as a row: each operator alone, at two states")
+            .lines("l 5 1; s 5 0 0; W; s 5 0 1; W; s 5 0 2; W; s 5 0 3; W; s 4 0 1 1 2; s 5 0 0; W; s 5 0 1; W; s 5 0 2; W; s 5 0 3; W"),
         a_whole("case A as a row: a state outside, and one of too few places", "s 4 1 3; W; l 4 2; W; l 4 3; W; s 4 1 0; W"),
         a("case A as a row: 257 steps are too many").lend(FIRST, &[1; 257]).lines("W; l 5 256; W"),
-        Vector::new("case A as a row and as tables").task(&case()).row(&row_of(&case())).lend(FIRST, &[0, 1, 2, 3]).lines("W; J; l 13 0; W; J; n 3 0 3; W; J"),
+        Vector::new("case A as a row and as tables")
+            .task(&case())
+            .row(&row_of(&case()))
+            .lend(FIRST, &[0, 1, 2, 3])
+            .lines("W; J; l 13 0; W; J; n 3 0 3; W; J"),
     ]
 }
 
@@ -88,7 +93,7 @@ fn tables_beside_the_row() -> Vec<Vector> {
         a_whole("facts too short come before too many records", "l 13 65; W; l 0 1623; W"),
         a_whole("no variables, nine variables, no maps, nine maps", "n 0 0 3; W; n 9 0 3; W; n 3 0 0; W; n 3 0 9; W; n 9 0 9; W"),
         a_whole("a fault of the goal comes before too many records", "l 13 65; W; s 0 16 4; W; s 0 8 2; W; s 0 0 9; W"),
-        a_whole("the lines of the maps follow the row's length", "s 0 1123 1; s 0 1122 0; W; s 0 1121 2; W; l 13 2; W; l 13 0; W; l 13 64; W"),
+        a_whole("the lines of the maps follow the row's length", "s 0 1122 0; W; s 0 1121 2; W; l 13 2; W; l 13 0; W; l 13 64; W"),
         a_whole("the lines of the shares follow the row's length", "s 2 65 1000001; W; l 13 2; W; l 13 1; W; l 13 64; W"),
     ]
 }

@@ -1,4 +1,4 @@
-// A row of records that is held by value, and judging by its first ones.
+// Judging by the first records of a row that is held by value. A row has 80 records, more than there may be operators, so that rows that are too long can be lent too.
 ghost use mathlib.Core.Path.{_≡_};
 ghost use Prim.Native.Nat.{_≤_};
 ghost use lib.ListN.{take};
