@@ -1,9 +1,11 @@
 //! Writes vectors in the form of the script.
 
+use crate::limits::*;
+use crate::row::Record;
 use crate::run::Run;
 use crate::script::*;
 use crate::tables::{counts_of, text_of, write_tables, Lent};
-use crate::task::{State, Task};
+use crate::task::{Facts, State, Task};
 
 /// One vector: what it tries, and its lines after the reset.
 pub struct Vector {
@@ -23,6 +25,16 @@ pub fn tables_of(task: &Task) -> Tables {
     let mut tables = Tables { facts: vec![0; room(FACTS)], costs: vec![0; room(COSTS)], shares: vec![0; room(SHARES)] };
     write_tables(task, &mut tables.facts, &mut tables.costs, &mut tables.shares);
     tables
+}
+
+/// The operators of a task as records.
+pub fn row_of(task: &Task) -> Vec<Record> {
+    let places = |facts: &Facts| {
+        let mut places = [0; VARS];
+        facts.iter().zip(&mut places).for_each(|(fact, place)| *place = fact.map_or(0, |value| value as u8 + 1));
+        places
+    };
+    task.ops.iter().map(|op| Record { cost: op.cost as u32, pre: places(&op.pre), eff: places(&op.eff) }).collect()
 }
 
 pub fn text_of_task(task: &Task) -> Vec<u8> {
@@ -82,6 +94,19 @@ impl Vector {
         self.set(k, 0, values).lines(&format!("l {} {}", k, values.len()))
     }
 
+    /// A record of the row, in its places.
+    pub fn record(self, o: usize, record: &Record) -> Vector {
+        let facts = [record.pre, record.eff].concat().into_iter().map(u32::from);
+        let places: Vec<u32> = std::iter::once(record.cost).chain(facts).collect();
+        self.set(RECORDS, RECORD * o, &places)
+    }
+
+    /// A row of records, lent with just these.
+    pub fn row(self, row: &[Record]) -> Vector {
+        let set = row.iter().enumerate().fold(self, |vector, (o, record)| vector.record(o, record));
+        set.lines(&format!("l {} {}", RECORDS, row.len()))
+    }
+
     pub fn state(self, state: &State) -> Vector {
         let values: Vec<u32> = state.iter().map(|value| *value as u32).collect();
         self.set(STATE, 0, &values)
@@ -95,6 +120,23 @@ impl Vector {
             .set(LEN, 0, &[run.len])
             .set(NOW, 0, &run.now.map(u32::from))
             .set(COLUMN, 0, &run.columns)
+    }
+
+    /// The tables of a task set by hand where they are read: these rows of its facts, its maps and its shares.
+    pub fn by_hand(mut self, task: &Task, rows: impl Iterator<Item = usize>) -> Vector {
+        let (tables, vars, ops) = (tables_of(task), task.dom.len(), task.ops.len());
+        for row in rows {
+            let places: Vec<u32> = tables.facts[ROW * row..ROW * row + vars].iter().map(|place| u32::from(*place)).collect();
+            self = self.set(FACTS, ROW * row, &places);
+        }
+        for (m, map) in task.maps.iter().enumerate() {
+            for (v, classes) in map.iter().enumerate() {
+                let classes: Vec<u32> = classes.iter().map(|class| *class as u32).collect();
+                self = self.set(FACTS, ROW * (ROW_MAP + MAPS * m + v), &classes);
+            }
+            self = self.set(SHARES, OPS * m, &tables.shares[OPS * m..OPS * m + ops]);
+        }
+        self
     }
 
     /// Something in every place of the tables and of the distance table.

@@ -1,6 +1,7 @@
 //! The desk's entries, each with the answer that the rules give.
 
 use crate::limits::*;
+use crate::row::{laid, Record};
 use crate::run::{Offered, Run};
 use crate::sequence::{self, Cheaper};
 use crate::space;
@@ -131,6 +132,13 @@ pub fn judge(lent: Lent, state: &[u8], list: &[u32]) -> Answer {
         let state = state_of(&task, state)?;
         Ok(Answer::Passed(sequence::judge(&task, &state, list)?))
     }))
+}
+
+/// The same with the operators in a row: its length is their number, and neither the lent count nor lent costs are read.
+pub fn judge_row(lent: Lent, row: &[Record], state: &[u8], list: &[u32]) -> Answer {
+    let (facts, costs) = laid(row, lent.facts);
+    let counts = Counts { ops: row.len() as u32, ..lent.counts };
+    judge(Lent { counts, facts: &facts, costs: &costs, ..lent }, state, list)
 }
 
 fn compared(lent: Lent, state: &[u8], a: &[u32], b: &[u32]) -> Result<Cheaper, Fault> {

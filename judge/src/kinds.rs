@@ -5,6 +5,7 @@ use crate::edges::run_of;
 use crate::limits::*;
 use crate::random::*;
 use crate::rng::Rng;
+use crate::rows;
 use crate::run::Run;
 use crate::script::*;
 use crate::tables::counts_of;
@@ -39,9 +40,18 @@ const KINDS: [Kind; 24] = [
     shares_at_cost,
 ];
 
+/// The kinds over a row of records.
+const ROW_KINDS: [Kind; 2] = [rows::row_of_a_task, rows::damaged_row];
+
 /// The i-th vector by chance: the kinds take turns.
 pub fn by_chance(rng: &mut Rng, i: usize) -> Vector {
     KINDS[i % KINDS.len()](rng)
+}
+
+/// The same with the kinds over a row of records, which come after the others.
+pub fn any_by_chance(rng: &mut Rng, i: usize) -> Vector {
+    let turn = i % (KINDS.len() + ROW_KINDS.len());
+    KINDS.iter().chain(&ROW_KINDS).nth(turn).unwrap()(rng)
 }
 
 fn valid(rng: &mut Rng, name: &str, size: Size, all_maps: bool) -> Vector {
@@ -91,7 +101,7 @@ fn damaged_texts(rng: &mut Rng, name: &str, size: Size, copies: usize) -> Vector
 }
 
 /// A place of the tables, one that is read more often than not, with its value and another one.
-fn some_place(rng: &mut Rng, task: &Task) -> (u32, usize, u32, u32) {
+pub fn some_place(rng: &mut Rng, task: &Task) -> (u32, usize, u32, u32) {
     let tables = tables_of(task);
     let (vars, ops, maps) = (task.dom.len(), task.ops.len().max(1), task.maps.len());
     let (v, o, m) = (rng.below(vars), rng.below(ops), rng.below(maps));
@@ -117,7 +127,7 @@ fn some_place(rng: &mut Rng, task: &Task) -> (u32, usize, u32, u32) {
     (FACTS, place, u32::from(tables.facts[place]), if near { rng.below(10) as u32 } else { rng.below(256) as u32 })
 }
 
-fn some_cost(rng: &mut Rng, old: u32) -> u32 {
+pub fn some_cost(rng: &mut Rng, old: u32) -> u32 {
     let any = rng.word();
     rng.pick(&[0, 1, old + 1, old.saturating_sub(1), 1_000_000, 1_000_001, u32::MAX, any])
 }
@@ -154,28 +164,17 @@ fn damaged_tables(rng: &mut Rng, name: &str, size: Size, times: usize) -> Vector
 fn unread_places(rng: &mut Rng) -> Vector {
     let size = rng.pick(&[TINY, SMALL, SMALL, MEDIUM]);
     let task = telling_task(rng, size);
-    let (vars, ops) = (task.dom.len(), task.ops.len());
-    let tables = tables_of(&task);
+    let ops = task.ops.len();
     let counts = counts_of(&task);
-    let mut vector = Vector::new("places beyond the task's counts aren't read")
+    let vector = Vector::new("places beyond the task's counts aren't read")
         .dirty()
         .lines(&format!("n {} {} {}", counts.vars, counts.ops, counts.maps));
     let rows = (0..ROW_PRE + ops).chain(ROW_EFF..ROW_EFF + ops);
-    for row in rows {
-        let places: Vec<u32> = tables.facts[ROW * row..ROW * row + vars].iter().map(|place| u32::from(*place)).collect();
-        vector = vector.set(FACTS, ROW * row, &places);
-    }
-    for (m, map) in task.maps.iter().enumerate() {
-        for (v, classes) in map.iter().enumerate() {
-            let classes: Vec<u32> = classes.iter().map(|class| *class as u32).collect();
-            vector = vector.set(FACTS, ROW * (ROW_MAP + MAPS * m + v), &classes);
-        }
-        vector = vector.set(SHARES, OPS * m, &tables.shares[OPS * m..OPS * m + ops]);
-    }
     let (list, _) = walk(rng, &task, &task.init.clone(), 5);
     let first = list.first().copied().unwrap_or(0);
     vector
-        .set(COSTS, 0, &tables.costs[..ops])
+        .by_hand(&task, rows)
+        .set(COSTS, 0, &tables_of(&task).costs[..ops])
         .state(&task.init)
         .lend(FIRST, &list)
         .lines("K; D 0; B; J; C; P; G")
@@ -201,7 +200,7 @@ fn states(rng: &mut Rng) -> Vector {
 }
 
 /// A list with or without a fault somewhere.
-fn some_list(rng: &mut Rng, task: &Task, start: &State) -> Vec<u32> {
+pub fn some_list(rng: &mut Rng, task: &Task, start: &State) -> Vec<u32> {
     let steps = rng.between(0, 12);
     let mut list = walk_to_goal(rng, task, start, 40).filter(|_| rng.chance(3, 4)).unwrap_or_else(|| walk(rng, task, start, steps).0);
     if rng.chance(1, 3) && !list.is_empty() {

@@ -9,6 +9,8 @@ mod kinds;
 mod limits;
 mod random;
 mod rng;
+mod row;
+mod rows;
 mod run;
 mod script;
 mod sequence;
@@ -35,7 +37,7 @@ fn input() -> Vec<u8> {
     bytes
 }
 
-/// The cases by name, then vectors by chance, as many as are asked for; and the small texts last.
+/// The cases by name, then vectors by chance, as many as are asked for; then the small texts, and the rows of records last.
 fn vectors(seed: u64, count: usize) -> Vec<u8> {
     let mut vectors = cases::bench();
     vectors.extend(edges::edges());
@@ -46,12 +48,13 @@ fn vectors(seed: u64, count: usize) -> Vec<u8> {
     }
     vectors.truncate(count);
     vectors.push(edits::small());
+    vectors.extend(rows::rows(seed));
     builder::script_of(&vectors)
 }
 
 /// Scripts of one vector by chance, one a seed from the first on; the seed also tells the kind.
 fn seeds(first: u64, count: usize) -> Vec<u8> {
-    let vectors: Vec<_> = (0..count).map(|i| kinds::by_chance(&mut rng::Rng::new(first + i as u64), i)).collect();
+    let vectors: Vec<_> = (0..count).map(|i| kinds::any_by_chance(&mut rng::Rng::new(first + i as u64), i)).collect();
     builder::script_of(&vectors)
 }
 

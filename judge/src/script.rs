@@ -2,6 +2,7 @@
 
 use crate::desk::{self, Answer};
 use crate::limits::*;
+use crate::row::Record;
 use crate::run::Run;
 use crate::tables::{Counts, Lent};
 
@@ -28,9 +29,16 @@ pub const LOG: u32 = 8;
 pub const LEN: u32 = 9;
 pub const NOW: u32 = 10;
 pub const COLUMN: u32 = 11;
+pub const RECORDS: u32 = 13;
 
-/// The arrays by number: name, places, places lent after a reset, greatest value.
-pub const ARRAYS: [(&str, usize, usize, u32); 12] = [
+/// The places of a record: its cost, and a place a variable for its preconditions and for its effects.
+pub const RECORD: usize = 1 + 2 * VARS;
+/// The room of the row, in records: more than there may be operators.
+pub const ROW_ROOM: usize = 80;
+
+/// The arrays by number: name, places, places lent after a reset, greatest value. There is no array 12. Of a record only
+/// the cost goes so far; the others of its places are bytes.
+pub const ARRAYS: [(&str, usize, usize, u32); 14] = [
     ("facts", 1_700, FACTS_ROOM, 255),
     ("costs", 80, COSTS_ROOM, u32::MAX),
     ("shares", 600, SHARES_ROOM, u32::MAX),
@@ -43,7 +51,17 @@ pub const ARRAYS: [(&str, usize, usize, u32); 12] = [
     ("len", 1, 1, u32::MAX),
     ("now", VARS, VARS, 255),
     ("column", MAPS + 1, MAPS + 1, u32::MAX),
+    ("", 0, 0, 0),
+    ("records", RECORD * ROW_ROOM, 0, u32::MAX),
 ];
+
+/// The greatest value that a place can hold.
+fn greatest(k: usize, place: usize) -> u32 {
+    if k == RECORDS as usize && place % RECORD > 0 {
+        return 255;
+    }
+    ARRAYS[k].3
+}
 
 /// All that the program holds.
 pub struct Bench {
@@ -152,9 +170,14 @@ impl Bench {
         true
     }
 
-    /// Only what a caller lends has a length to set, and none is beyond its array.
+    /// Only what a caller lends has a length to set, and none is beyond its array. Of the row a record is counted as one.
     fn lend(&mut self, k: usize, length: usize) {
-        if k <= SECOND as usize && length <= ARRAYS[k].1 {
+        let most = match k as u32 {
+            FACTS..=SECOND => ARRAYS[k].1,
+            RECORDS => ROW_ROOM,
+            _ => return,
+        };
+        if length <= most {
             self.lent[k] = length;
         }
     }
@@ -163,7 +186,7 @@ impl Bench {
     fn write(&mut self, k: usize, place: usize, values: &[u32]) {
         let places = self.arrays.get(k).map_or(0, Vec::len);
         for (i, value) in values.iter().enumerate() {
-            if place + i < places && *value <= ARRAYS[k].3 {
+            if place + i < places && *value <= greatest(k, place + i) {
                 self.arrays[k][place + i] = *value;
             }
         }
@@ -190,6 +213,15 @@ impl Bench {
     /// The places lent of an array.
     fn words(&self, k: u32) -> &[u32] {
         &self.arrays[k as usize][..self.lent[k as usize]]
+    }
+
+    /// The records lent of the row.
+    fn row(&self) -> Vec<Record> {
+        let places = &self.arrays[RECORDS as usize][..RECORD * self.lent[RECORDS as usize]];
+        let byte = |place: &u32| *place as u8;
+        let facts = |places: &[u32]| -> [u8; VARS] { places.iter().map(byte).collect::<Vec<u8>>().try_into().unwrap() };
+        let record = |record: &[u32]| Record { cost: record[0], pre: facts(&record[1..1 + VARS]), eff: facts(&record[1 + VARS..]) };
+        places.chunks(RECORD).map(record).collect()
     }
 
     fn put(&mut self, k: u32, values: &[u32]) {
@@ -245,6 +277,7 @@ impl Bench {
             (b'A', [map]) => desk::distance_at(lent, *map, &state),
             (b'B', []) => desk::bound(lent, &state),
             (b'J', []) => desk::judge(lent, &state, a),
+            (b'W', []) => desk::judge_row(Lent { costs: &[], ..lent }, &self.row(), &state, a),
             (b'C', []) => desk::cheaper(lent, &state, a, b),
             (b'P', []) => desk::opening(lent, &state, a, b),
             (b'G', []) => {

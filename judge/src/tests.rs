@@ -1,12 +1,13 @@
 //! The cases of the bench, and what must hold for any task.
 
-use crate::builder::{tables_of, text_of_task, Tables};
-use crate::cases::{a_with, c, d, f, A, E};
+use crate::builder::{row_of, tables_of, text_of_task, Tables};
+use crate::cases::{a_with, c, d, f, row_of_ops, A, E};
 use crate::desk;
 use crate::edges::{counters, run_of};
 use crate::limits::*;
 use crate::random::{self, Size};
 use crate::rng::Rng;
+use crate::row::Record;
 use crate::script::expect;
 use crate::space::{self, distances, view_by_classes, view_by_states};
 use crate::tables::{counts_of, read_tables, Counts, Lent};
@@ -216,6 +217,66 @@ fn tables_are_judged_as_their_text_is() {
     }
 }
 
+fn bytes(state: &[usize]) -> Vec<u8> {
+    state.iter().map(|value| *value as u8).collect()
+}
+
+/// What is answered for a row, with rubbish where the operators would stand in the tables, and no costs.
+fn by_row(task: &Task, row: &[Record], list: &[u32]) -> desk::Answer {
+    let mut tables = tables_of(task);
+    tables.facts[ROW * ROW_PRE..ROW * ROW_MAP].fill(201);
+    let counts = Counts { ops: 77, ..counts_of(task) };
+    desk::judge_row(Lent { counts, facts: &tables.facts, costs: &[], shares: &tables.shares }, row, &bytes(&task.init), list)
+}
+
+#[test]
+fn case_a_as_a_row() {
+    let task = read(A);
+    let said = |list: &[u32]| by_row(&task, &row_of(&task), list).to_string();
+    assert_eq!(said(&[0, 1, 2, 3]), "passed 4");
+    assert_eq!(said(&[0, 2]), "refused 12 2");
+    assert_eq!(said(&[0]), "refused 16 1");
+    assert_eq!(said(&[]), "refused 16 0");
+}
+
+#[test]
+fn a_row_has_the_length_that_it_has() {
+    let task = row_of_ops(&[7; 64]);
+    let row = row_of(&task);
+    let said = |row: &[Record], op: u32| by_row(&task, row, &[op]).to_string();
+    assert_eq!(said(&row, 63), "passed 7");
+    assert_eq!(said(&row[..63], 63), "refused 10 1");
+    assert_eq!(said(&[], 0), "refused 10 1");
+    assert_eq!(said(&[&row[..], &row[..1]].concat(), 63), "refused 3 6");
+    let tables = tables_of(&task);
+    let short = Lent { counts: counts_of(&task), facts: &tables.facts[1..], costs: &tables.costs, shares: &tables.shares };
+    assert_eq!(desk::judge_row(short, &row, &[0], &[0]).to_string(), "refused 8 0");
+}
+
+/// A row and tables with the same things changed in both.
+#[test]
+fn a_row_is_judged_as_its_tables_are() {
+    let mut rng = Rng::new(7);
+    for task in some_tasks(7, 1_000, &[random::TINY, random::SMALL, random::MEDIUM, random::LARGE]) {
+        let (mut row, mut tables) = (row_of(&task), tables_of(&task));
+        let changes = if row.is_empty() { 0 } else { rng.between(0, 2) };
+        for _ in 0..changes {
+            let (o, v, value) = (rng.below(row.len()), rng.below(VARS), rng.below(9) as u8);
+            match rng.below(3) {
+                0 => (row[o].pre[v], tables.facts[ROW * (ROW_PRE + o) + v]) = (value, value),
+                1 => (row[o].eff[v], tables.facts[ROW * (ROW_EFF + o) + v]) = (value, value),
+                _ => {
+                    let cost = rng.below(1_000_002) as u32;
+                    (row[o].cost, tables.costs[o]) = (cost, cost);
+                }
+            }
+        }
+        let (list, _) = random::walk(&mut rng, &task, &task.init, 9);
+        let lent = Lent { counts: counts_of(&task), facts: &tables.facts, costs: &tables.costs, shares: &tables.shares };
+        assert_eq!(by_row(&task, &row, &list), desk::judge(lent, &bytes(&task.init), &list));
+    }
+}
+
 #[test]
 fn a_text_read_and_written_is_the_same() {
     for task in some_tasks(6, 200, &[random::TINY, random::SMALL, random::MEDIUM, random::LARGE]) {
@@ -225,5 +286,9 @@ fn a_text_read_and_written_is_the_same() {
 
 #[test]
 fn the_script_ignores_what_is_not_there_and_says_bad() {
+    assert_eq!(
+        expect(b"s 13 16 9 300 300\np 13 16\np 13 17\np 13 18\np 12 0\nl 13 81\nW 1\n"),
+        b"records 16 9\nrecords 17 300\nrecords 18 0\nbad\n"
+    );
     assert_eq!(expect(b"s 0 1699 7 7\np 0 1699\np 0 1700\nx\ns 0\n\n#a\nq"), b"facts 1699 7\nbad\nbad\nbad\n#a\n");
 }

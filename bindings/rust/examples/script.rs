@@ -8,6 +8,9 @@ mod ffi;
 #[path = "../../../judge/src/limits.rs"]
 #[allow(dead_code)]
 mod limits;
+#[path = "../../../judge/src/row.rs"]
+#[allow(dead_code)]
+mod row;
 #[path = "../../../judge/src/script.rs"]
 #[allow(dead_code)]
 mod script;
@@ -65,6 +68,7 @@ mod run {
 mod desk {
     use crate::ffi;
     use crate::limits::{MAPS, STEPS, VARS};
+    use crate::row::{laid, Record};
     use crate::run::Run;
     use crate::tables::{Counts, Lent};
     use std::fmt;
@@ -129,6 +133,13 @@ mod desk {
 
     pub fn judge(lent: Lent<'_>, state: &[u8], list: &[u32]) -> Answer {
         told(ffi::judge(over(lent), state, list), "passed", true)
+    }
+
+    /// The library has no function for a row of records: it is lent the tables that the row stands for.
+    pub fn judge_row(lent: Lent<'_>, row: &[Record], state: &[u8], list: &[u32]) -> Answer {
+        let (facts, costs) = laid(row, lent.facts);
+        let counts = Counts { ops: row.len() as u32, ..lent.counts };
+        judge(Lent { counts, facts: &facts, costs: &costs, ..lent }, state, list)
     }
 
     pub fn cheaper(lent: Lent<'_>, state: &[u8], a: &[u32], b: &[u32]) -> Answer {

@@ -28,12 +28,14 @@ pub const NOW: u32 = 10;
 
 pub const COLUMN: u32 = 11;
 
+pub const RECORDS: u32 = 13;
+
 // The program's own: the lengths of the lent arrays, the counts of variables, operators and maps, and the length of the text.
 pub const LENT: u32 = 12;
 
-pub const COUNTS: u32 = 13;
+pub const COUNTS: u32 = 14;
 
-pub const TEXT: u32 = 14;
+pub const TEXT: u32 = 15;
 
 // How many places the lent arrays have: each more than the largest task or the longest list takes, so that lengths beyond can be tried.
 pub const FACTS_PLACES: usize = 1700;
@@ -48,6 +50,13 @@ pub const STATE_PLACES: usize = 16;
 
 pub const LIST_PLACES: usize = 400;
 
+// The row of records, and the places of a record: its cost, its preconditions and its effects.
+pub const ROW_RECORDS: usize = 80;
+
+pub const RECORD: usize = 17;
+
+const RECORDS_PLACES: usize = ROW_RECORDS * RECORD;
+
 // The places of a run's arrays: a state, the log and the columns.
 pub const RUN_STATE: usize = 8;
 
@@ -55,8 +64,8 @@ pub const LOG_PLACES: usize = 256;
 
 pub const COLUMNS: usize = 9;
 
-// The lengths of the lent arrays, and the counts.
-const LENT_PLACES: usize = 7;
+// The lengths of the lent arrays, each at its array's number, and the counts.
+const LENT_PLACES: usize = 14;
 
 const COUNTS_PLACES: usize = 3;
 
@@ -83,7 +92,9 @@ const NOW_AT: usize = LEN_AT + 1;
 
 const COLUMN_AT: usize = NOW_AT + RUN_STATE;
 
-const LENT_AT: usize = COLUMN_AT + COLUMNS;
+const RECORDS_AT: usize = COLUMN_AT + COLUMNS;
+
+const LENT_AT: usize = RECORDS_AT + RECORDS_PLACES;
 
 const COUNTS_AT: usize = LENT_AT + LENT_PLACES;
 
@@ -91,6 +102,14 @@ const TEXT_AT: usize = COUNTS_AT + COUNTS_PLACES;
 
 // The places of all arrays.
 pub const PLACES: usize = TEXT_AT + 1;
+
+// The array is one of the script's: all but the program's own.
+pub fn of_script(k: u32) -> bool {
+    if k == LENT {
+        return false;
+    }
+    k <= RECORDS
+}
 
 // How many places an array has. An array that isn't there has none.
 pub fn places(k: u32) -> usize {
@@ -105,6 +124,7 @@ pub fn places(k: u32) -> usize {
         LOG => LOG_PLACES,
         LEN | TEXT => 1,
         COLUMN => COLUMNS,
+        RECORDS => RECORDS_PLACES,
         LENT => LENT_PLACES,
         COUNTS => COUNTS_PLACES,
         _ => 0,
@@ -126,6 +146,7 @@ fn base(k: u32) -> usize {
         LEN => LEN_AT,
         NOW => NOW_AT,
         COLUMN => COLUMN_AT,
+        RECORDS => RECORDS_AT,
         LENT => LENT_AT,
         COUNTS => COUNTS_AT,
         TEXT => TEXT_AT,
@@ -133,12 +154,24 @@ fn base(k: u32) -> usize {
     }
 }
 
-// The places of an array are bytes.
-pub fn of_bytes(k: u32) -> bool {
+// A place of an array holds a byte. Of a record all but the first does.
+pub fn of_bytes(k: u32, i: usize) -> bool {
     match k {
         FACTS | STATE | START | NOW => true,
+        RECORDS => i % RECORD != 0,
         _ => false,
     }
+}
+
+// How many places of an array a call can be lent at most; of the row, how many records. What isn't lent by a length has none.
+pub fn most_lent(k: u32) -> usize {
+    if k == RECORDS {
+        return ROW_RECORDS;
+    }
+    if k <= SECOND {
+        return places(k);
+    }
+    0
 }
 
 // The value of a place, and 0 where there is none.
@@ -171,7 +204,7 @@ pub fn put(held: &mut [u32], k: u32, i: usize, x: u32) {
     }
 }
 
-// How many places of an array a call is lent.
+// How many places of an array a call is lent; of the row, how many records.
 pub fn lent(held: &[u32], k: u32) -> usize {
     value(held, LENT, k as usize) as usize
 }
@@ -202,6 +235,17 @@ pub fn load_words(held: &[u32], k: u32, to: &mut [u32]) {
         to[i] = value(held, k, i);
         i += 1;
     }
+}
+
+// Eight bytes of an array from a place on: one a variable.
+pub fn eight_bytes(held: &[u32], k: u32, from: usize) -> [u8; 8] {
+    let mut row = [0u8; 8];
+    let mut v = 0usize;
+    while v < 8 {
+        row[v] = low(value(held, k, std::num::wrapping_add_usize(from, v)));
+        v += 1;
+    }
+    row
 }
 
 // Compares a copy of an array of bytes with what is held: prints what has changed, and keeps it.
@@ -241,7 +285,8 @@ pub fn named(k: u32) -> Line {
         LOG => line.word(b"log"),
         LEN => line.word(b"len"),
         NOW => line.word(b"now"),
-        _ => line.word(b"column"),
+        COLUMN => line.word(b"column"),
+        _ => line.word(b"records"),
     }
 }
 

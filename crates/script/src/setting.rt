@@ -1,15 +1,15 @@
 // The commands that set and show what the program holds.
 use crate::commands::Command;
-use crate::held::COLUMN;
 use crate::held::COSTS;
 use crate::held::COUNTS;
 use crate::held::FACTS;
 use crate::held::LENT;
 use crate::held::OUT;
-use crate::held::SECOND;
 use crate::held::SHARES;
 use crate::held::STATE;
+use crate::held::most_lent;
 use crate::held::of_bytes;
+use crate::held::of_script;
 use crate::held::places;
 use crate::held::put;
 use crate::held::say_place;
@@ -52,10 +52,10 @@ pub fn reset(held: &mut [u32]) {
 
 // Puts a value where the array is one of the script's and has such places.
 fn set_place(held: &mut [u32], k: u32, i: usize, x: u32) {
-    if COLUMN < k {
+    if !of_script(k) {
         return;
     }
-    if of_bytes(k) {
+    if of_bytes(k, i) {
         if BYTE < x {
             return;
         }
@@ -90,12 +90,9 @@ fn set_all(held: &mut [u32], k: u32, x: u32) {
     }
 }
 
-// How many places of an array calls are lent.
+// How many places of an array calls are lent; of the row, how many records.
 fn set_lent(held: &mut [u32], k: u32, n: u32) {
-    if SECOND < k {
-        return;
-    }
-    if (n as usize) <= places(k) {
+    if (n as usize) <= most_lent(k) {
         put(held, LENT, k as usize, n)
     }
 }
@@ -118,7 +115,7 @@ pub fn counts_held(held: &[u32]) -> Counts {
 
 // A place that is there is printed.
 fn show_place(held: &[u32], k: u32, i: usize) {
-    if COLUMN < k {
+    if !of_script(k) {
         return;
     }
     if i < places(k) {

@@ -2,10 +2,12 @@
 // The form of a script and of what is printed is in docs/VECTORS.md.
 mod answers;
 mod calls;
+mod rows;
 mod runs;
 
 use crate::calls::call;
 use crate::calls::call_read;
+use crate::rows::call_row;
 use script::commands::Command;
 use script::commands::known;
 use script::commands::parsed;
@@ -42,6 +44,7 @@ fn obey(held: &mut [u32], text: &[u8], command: Command) {
     let letter = command.letter;
     match letter {
         b'R' => call_read(held, text),
+        b'W' => call_row(held),
         b'z' | b'n' | b'l' | b's' | b'e' | b'p' | b'q' => set_or_show(held, command),
         _ => call(held, command),
     }
