@@ -1,36 +1,13 @@
 // The entry over a lent row of records, run: case A with its operators in a row, and what is answered for some lists of operators.
-ghost use mathlib.Core.Path.{_≡_};
-ghost use mathlib.Core.List.{[], _∷_};
-ghost use Rattle.sequences.specs.Judging.{judgedOf};
-ghost use Rattle.records.specs.Records.{recordsTables};
-ghost use Rattle.tables.specs.Task.{was};
 use io::print_decimal;
 use io::write_all;
+use lent_rows::judge_first;
 use libc::STDOUT_FILENO;
 use records::OpRecord;
-use records::judge_records;
 use refusals::number;
 use refusals::place;
 use sequences::judging::Judged;
 use tables::Counts;
-
-// Judging with a row of four records, which is made here and lent: whoever calls this one holds no reference to a record.
-fn judge_four<'a>(
-    c: Counts,
-    facts: &'a [u8],
-    shares: &'a [u32],
-    first: OpRecord,
-    second: OpRecord,
-    third: OpRecord,
-    fourth: OpRecord,
-    s: &'a [u8],
-    ops: &'a [u32],
-) -> Judged
-    ensures { λ r. ⌜ r ≡ judgedOf (recordsTables c (was facts) (was shares) (first ∷ second ∷ third ∷ fourth ∷ [])) (was s) (was ops) ⌝ }
-{
-    let rows = [first, second, third, fourth];
-    judge_records(c, facts, shares, &rows, s, ops)
-}
 
 // A line: a name, '=' and a number.
 fn say(name: &[u8], x: u32) {
@@ -77,6 +54,32 @@ fn shares_of_a() -> [u32; 512] {
     shares
 }
 
+// Case A's operators as a row; the records after them aren't lent.
+fn row_of_a() -> [OpRecord; 80] {
+    let first = OpRecord {
+        cost: 1,
+        pre: [1, 0, 0, 0, 0, 0, 0, 0],
+        eff: [2, 0, 0, 0, 0, 0, 0, 0],
+    };
+    let mut rows = [first; 80];
+    rows[1] = OpRecord {
+        cost: 1,
+        pre: [0, 1, 1, 0, 0, 0, 0, 0],
+        eff: [0, 2, 2, 0, 0, 0, 0, 0],
+    };
+    rows[2] = OpRecord {
+        cost: 1,
+        pre: [0, 2, 0, 0, 0, 0, 0, 0],
+        eff: [0, 3, 0, 0, 0, 0, 0, 0],
+    };
+    rows[3] = OpRecord {
+        cost: 1,
+        pre: [0, 0, 2, 0, 0, 0, 0, 0],
+        eff: [0, 0, 3, 0, 0, 0, 0, 0],
+    };
+    rows
+}
+
 // What is answered for a list of operators from the initial state; the count of operators isn't read.
 fn say_list<'a>(facts: &'a [u8], shares: &'a [u32], ops: &'a [u32]) {
     let c = Counts {
@@ -84,28 +87,8 @@ fn say_list<'a>(facts: &'a [u8], shares: &'a [u32], ops: &'a [u32]) {
         ops: 0,
         maps: 3,
     };
-    let first = OpRecord {
-        cost: 1,
-        pre: [1, 0, 0, 0, 0, 0, 0, 0],
-        eff: [2, 0, 0, 0, 0, 0, 0, 0],
-    };
-    let second = OpRecord {
-        cost: 1,
-        pre: [0, 1, 1, 0, 0, 0, 0, 0],
-        eff: [0, 2, 2, 0, 0, 0, 0, 0],
-    };
-    let third = OpRecord {
-        cost: 1,
-        pre: [0, 2, 0, 0, 0, 0, 0, 0],
-        eff: [0, 3, 0, 0, 0, 0, 0, 0],
-    };
-    let fourth = OpRecord {
-        cost: 1,
-        pre: [0, 0, 2, 0, 0, 0, 0, 0],
-        eff: [0, 0, 3, 0, 0, 0, 0, 0],
-    };
     let start = [0u8; 3];
-    say_judged(judge_four(c, facts, shares, first, second, third, fourth, &start, ops));
+    say_judged(judge_first(c, facts, shares, row_of_a(), 4, &start, ops));
 }
 
 fn main() {
