@@ -1,5 +1,6 @@
 pub mod Admission
 pub mod Runs
+pub mod Cuts
 pub mod Decimal
 pub mod SpellParts
 pub mod SpellFacts

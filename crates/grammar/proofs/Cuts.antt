@@ -1,0 +1,31 @@
+-- Where a text is cut short, whatever stood before: 2 in the line where it ends, which after a line end is the next one; an empty text in line 1.
+-- By the byte that is asked for there. (A digit run that stands at the end is judged first: `number-told`.) Assumes nothing.
+use Prim.Native.Nat.{ℕ, _+_}
+use mathlib.Core.Path.{_≡_, refl}
+use mathlib.Core.List.{List, [], _∷_, _++_}
+use borrow.Author.Tests.{eq-eqb}
+use Rattle.refusals.specs.declared.Refusal.the-variants.{OffForm}
+use Rattle.tables.specs.Layout.{Tables}
+use Rattle.grammar.specs.Fields.{lineEnd}
+use Rattle.grammar.specs.Grammar.{refused, Rest, Part, _▸_, demand, lit, numeral, endOfLine, editionLine, textLine, taskLines, verdict}
+use Rattle.grammar.proofs.Runs.{formed-nil}
+
+module _ (l : ℕ) (T : Tables) (k : Rest) where
+  -- inside a word, and where a number should begin
+  pub word-cut : (xs ys : List ℕ) (b : ℕ) → lit (xs ++ b ∷ ys) xs l T k ≡ refused (OffForm l)
+  unfolding lit _▸_ demand
+  word-cut [] ys b = refl
+  word-cut (x ∷ xs) ys b = rw (eq-eqb x x refl) (word-cut xs ys b)
+
+  pub number-cut : (least limit : ℕ) (p : ℕ → Part) → numeral least limit p [] l T k ≡ refused (OffForm l)
+  unfolding numeral _▸_ demand
+  number-cut least limit p = rw formed-nil refl
+
+-- after a line end the next line is told
+pub line-cut : (b : ℕ) (bs : List ℕ) (l : ℕ) (T : Tables) (k : Rest) → (endOfLine ▸ lit (b ∷ bs)) (lineEnd ∷ []) l T k ≡ refused (OffForm (l + 1))
+unfolding endOfLine lit _▸_ demand
+line-cut b bs l T k = refl
+
+pub empty-text : verdict [] ≡ refused (OffForm 1)
+unfolding verdict taskLines editionLine textLine lit _▸_
+empty-text = refl
