@@ -31,7 +31,7 @@ pub true-holds : (f x : ℕ) → Holds f x → holds f x ≡ true
 true-holds zero x h = refl
 true-holds (suc k) x h = eq-eqb x k h
 
--- an effect gives its value, and where nothing is said the value stays
+-- where nothing is said the value stays
 pub put-rest : (x : ℕ) → put zero x ≡ x
 put-rest x = omega arith
 
