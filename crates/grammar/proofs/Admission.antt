@@ -39,13 +39,13 @@ module _ (text f c s : List ℕ) where
       shares-short h = rw (le-ltb _ _ fits, le-ltb _ _ fits₁, lt-ltb _ _ h)
 
       module _ (fits₂ : sharesRoom ≤ length s) where
-        pub text-long : mostBytes < length text → readText text f c s ≡ leaves (Refused TextTooLong) f c s
-        unfolding readText admitted
-        text-long h = rw (le-ltb _ _ fits, le-ltb _ _ fits₁, le-ltb _ _ fits₂, lt-ltb _ _ h)
-
         pub text-read : length text ≤ mostBytes → readText text f c s ≡ outcome (verdict text) f c s
         unfolding readText admitted
         text-read h = rw (le-ltb _ _ fits, le-ltb _ _ fits₁, le-ltb _ _ fits₂, le-ltb _ _ h)
+
+        pub text-long : mostBytes < length text → readText text f c s ≡ leaves (Refused TextTooLong) f c s
+        unfolding readText admitted
+        text-long h = rw (le-ltb _ _ fits, le-ltb _ _ fits₁, le-ltb _ _ fits₂, lt-ltb _ _ h)
 
   -- ---- REFUSED, AND NOTHING IS ALTERED
 

@@ -1,6 +1,7 @@
 pub mod Admission
 pub mod Runs
 pub mod Decimal
+pub mod Cuts
 pub mod SpellParts
 pub mod SpellFacts
 pub mod SpellClasses

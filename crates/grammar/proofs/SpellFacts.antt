@@ -1,5 +1,5 @@
 -- A list of facts on what is spelled: the rule of each variable that is named, and the facts in their places; by induction on the variables still to come.
--- And on any text: a variable that doesn't rise is told before its colon. Assumes nothing.
+-- And on any text: a variable that doesn't rise, or is the one before, is told before its colon. Assumes nothing.
 use Prim.Native.Nat.{ℕ, zero, suc, _+_, _≤_, _<_}
 use native.Mathlib.Omega.{arith}
 use native.Mathlib.Numerals.{add-one}
@@ -22,7 +22,7 @@ use Rattle.grammar.specs.Grammar.{Verdict, refused, Rest, Part, _▸_, n
 use Rattle.grammar.specs.Spelling.{digits, fact, anotherFact, moreFacts, firstFact, someFacts, changed, rowPut, factPut, factRow}
 use Rattle.grammar.proofs.Runs.{Stop, other}
 use Rattle.grammar.proofs.Decimal.{Head, head, digits-head}
-use Rattle.grammar.proofs.SpellParts.{judged, next, Told, demand-told, lit-told, number-told}
+use Rattle.grammar.proofs.SpellParts.{judged, next, Told, demand-told, lit-told, number-told, comma-no-digit}
 
 pub within-below : (v n : ℕ) → fits v 0 n ≡ ltb v n
 unfolding fits
@@ -49,6 +49,22 @@ order-first place (suc n) least v u l T k s a b =
     number-told 0 (T .counts .vars) v _ u l T k s
     ∙ passed _ _ (within-below v (T .counts .vars) ∙ lt-ltb v (T .counts .vars) a)
     ∙ rw (lt-leb least v b) refl
+
+-- an equal variable too: after a fact of v another of v is 4, whatever stands after it
+pub equal-told : (place : ℕ → ℕ) (n least v x : ℕ) (u : List ℕ) (l : ℕ) (T : Tables) (k : Rest)
+    → Stop u → least ≤ v → v < T .counts .vars → x < domAt (T .facts) v
+    → factsFrom place (suc n) least (digits v ++ colon ∷ (digits x ++ comma ∷ (digits v ++ u))) l T k ≡ refused (NotRising l)
+unfolding factsFrom _▸_ keep choice
+equal-told place n least v x u l T k s p a b =
+    let again = comma ∷ (digits v ++ u) in
+    number-told 0 (T .counts .vars) v _ (colon ∷ (digits x ++ again)) l T k (other colon-no-digit)
+    ∙ passed _ _ (within-below v (T .counts .vars) ∙ lt-ltb v (T .counts .vars) a)
+    ∙ demand-told (leb least v) NotRising (colon ∷ (digits x ++ again)) l T _
+    ∙ passed _ _ (le-leb least v p)
+    ∙ lit-told (colon ∷ []) (digits x ++ again) l T _
+    ∙ number-told 0 (domAt (T .facts) v) x _ again l T k (other comma-no-digit)
+    ∙ passed _ _ (within-below x (domAt (T .facts) v) ∙ lt-ltb x (domAt (T .facts) v) b)
+    ∙ order-first place n (v + 1) v u l (putFact (place v) (x + 1) T) k s a (omega arith)
 
 -- the tables with other facts
 abbrev pub on : (List ℕ → List ℕ) → Tables → Tables

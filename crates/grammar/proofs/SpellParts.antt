@@ -56,7 +56,7 @@ unfolding lit _▸_ demand
 lit-told [] t l T k = refl
 lit-told (b ∷ bs) t l T k = rw (eq-eqb b b refl) (lit-told bs t l T k)
 
--- A NUMBER, however large
+-- A NUMBER, however large, is judged before anything that follows it, and where the text ends with it too
 pub number-told : (least limit v : ℕ) (p : ℕ → Part) (u : List ℕ) (l : ℕ) (T : Tables) (k : Rest) → Stop u
     → numeral least limit p (digits v ++ u) l T k ≡ judged (unless (fits v least limit) (OutOfRange l)) (p v u l T k)
 unfolding numeral _▸_ demand
@@ -69,7 +69,7 @@ unfolding parted gap
 parted-told zero mark u l T k = refl
 parted-told (suc n) mark u l T k = lit-told (mark ∷ []) u l T k
 
-comma-no-digit : isDigit comma ≡ false
+pub comma-no-digit : isDigit comma ≡ false
 unfolding isDigit
 comma-no-digit = refl
 

@@ -21,14 +21,7 @@ pub ⊑-ext : (v w : Cost) → ((c : ℕ) → v ⊑ c → w ⊑ c) → ((c : ℕ
 ⊑-ext (fin a) none f g = absurd (f a (le-refl a))
 ⊑-ext (fin a) (fin b) f g = ap fin (le-antisymm (g b (le-refl b)) (f a (le-refl a)))
 
-min-cases : (a b c : ℕ) → min a b ≤ c → (a ≤ c) ⊎ (b ≤ c)
-min-cases a b c h = elim (decLe a c) [ yes l ↦ inl l | no l ↦ inr (omega arith) ]
-
-pub lower-cases : (v w : Cost) (c : ℕ) → lower v w ⊑ c → (v ⊑ c) ⊎ (w ⊑ c)
-lower-cases none w c h = inr h
-lower-cases (fin a) none c h = inl h
-lower-cases (fin a) (fin b) c h = min-cases a b c h
-
+-- the lower of two is at most what the one or the other is at most, and nothing else
 pub lower-left : (v w : Cost) (c : ℕ) → v ⊑ c → lower v w ⊑ c
 lower-left none w c h = absurd h
 lower-left (fin a) none c h = h
@@ -38,6 +31,11 @@ pub lower-right : (v w : Cost) (c : ℕ) → w ⊑ c → lower v w ⊑ c
 lower-right none w c h = h
 lower-right (fin a) none c h = absurd h
 lower-right (fin a) (fin b) c h = omega arith
+
+pub lower-cases : (v w : Cost) (c : ℕ) → lower v w ⊑ c → (v ⊑ c) ⊎ (w ⊑ c)
+lower-cases none w c h = inr h
+lower-cases (fin a) none c h = inl h
+lower-cases (fin a) (fin b) c h = elim (decLe a c) [ yes l ↦ inl l | no l ↦ inr (omega (arith, h)) ]
 
 pub plus-intro : (k : ℕ) (v : Cost) (d : ℕ) → v ⊑ d → plus k v ⊑ k + d
 plus-intro k none d h = absurd h

@@ -11,7 +11,7 @@ use Rattle.graph.specs.Cost.{Cost, none, fin, _⊑_}
 use Rattle.graph.specs.Graph.{Graph, Leads, total, IsLeast, AtMost}
 use Rattle.graph.specs.Least.{atGoal, best, least}
 use Rattle.graph.proofs.Costs.{⊑-mono, ⊑-ext, ⊑-none, plus-intro}
-use Rattle.graph.proofs.Steps.{goal-if-at, at-if-goal, step-elim, best-elim, best-goal, best-op, onward-intro, onward-elim}
+use Rattle.graph.proofs.Steps.{goal-if-at, at-if-goal, via-to, via-elim, best-elim, best-goal, best-op, onward-intro, onward-elim}
 
 module _ (G : Graph) where
   pub sound : (i a c : ℕ) → least G i a ⊑ c → (os : List ℕ) × (length os ≤ i) × Leads G os a × (total G os ≤ c)
@@ -20,7 +20,7 @@ module _ (G : Graph) where
   sound (suc i) a c h = ⊎-elim
       (λ g. ([], zero-le, g, zero-le))
       (λ r.
-      let s = step-elim (least G i) (G .cost (r .0)) (G .succ (r .0) a) c (r .2) in
+      let s = via-elim G (least G i) a (r .0) c (r .2) in
       let t = sound i (s .0) (s .1) (s .3) in
       (r .0 ∷ t .0, suc-le-suc (t .1), (r .1, onward-intro (Leads G (t .0)) (G .succ (r .0) a) (s .0) (s .2) (t .2)), omega arith))
       (best-elim G (least G i) a (G .ops) c h)
@@ -34,7 +34,7 @@ module _ (G : Graph) where
       let s = onward-elim (Leads G os) (G .succ o a) (h .1) in
       let t = complete os i (s .0) (le-of-suc-le-suc l) (s .2) in
       best-op G (least G i) a (G .ops) (G .cost o + total G os) o (h .0)
-      (rw (s .1) (plus-intro (G .cost o) (least G i (s .0)) (total G os) t))
+      (rw (via-to G (least G i) a o (s .0) (s .1)) (plus-intro (G .cost o) (least G i (s .0)) (total G os) t))
 
 -- the equation of a round
 pub least-zero : (G : Graph) (a : ℕ) → least G zero a ≡ atGoal (G .goal a)

@@ -29,8 +29,8 @@ module _ (G : Graph) where
   rounds-unique r s R S = go (decLt r s) (decLt s r)
     where
       go : Dec (r < s) → Dec (s < r) → r ≡ s
-      go (yes l) d = absurd (S .smallest r (R .positive) l (R .unchanged))
-      go (no l) (yes k) = absurd (R .smallest s (S .positive) k (S .unchanged))
+      go (yes l) d = absurd (S .smallest r (omega (arith, R .positive)) l (R .unchanged))
+      go (no l) (yes k) = absurd (R .smallest s (omega (arith, S .positive)) k (S .unchanged))
       go (no l) (no k) = omega arith
 
   -- the table of the counted round is the least over lists of any length

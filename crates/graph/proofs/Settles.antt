@@ -1,6 +1,6 @@
 -- Once unchanged, the table stays and holds the least over sequences of any length; and it is unchanged as soon as the steps reach the number of states,
 -- since a sequence that long visits a state twice and can be cut. Assumes nothing.
-use mathlib.Core.Path.{_≡_, refl, ap₂, _∙_, subst}
+use mathlib.Core.Path.{_≡_, refl, sym, ap, ap₂, _∙_, subst}
 use mathlib.Core.List.{List, [], _∷_}
 use Prim.Native.Nat.{ℕ, zero, suc, _+_, _-_, _≤_, _<_, zero-le}
 use native.Mathlib.Nat.{le-refl, le-of-suc-le-suc, not-suc-le-zero, zero-add, suc-add}
@@ -9,21 +9,26 @@ use native.Mathlib.Omega.{arith}
 use lib.ListN.{length, drop, length-drop}
 use Rattle.graph.specs.Cost.{Cost, _⊑_, plus, lower}
 use Rattle.graph.specs.Graph.{Next, stop, to, Graph, Closed, Leads, total, IsLeast, AnyLength}
-use Rattle.graph.specs.Least.{afterStep, best, least}
+use Rattle.graph.specs.Least.{afterStep, via, best, least}
 use Rattle.graph.proofs.Pigeon.{pigeon}
 use Rattle.graph.proofs.Costs.{⊑-mono, ⊑-ext}
-use Rattle.graph.proofs.Steps.{onward-intro, onward-elim}
+use Rattle.graph.proofs.Steps.{via-is, onward-intro, onward-elim}
 use Rattle.graph.proofs.Leasts.{sound, complete, is-least}
 
 module _ (G : Graph) (closed : Closed G) where
-  afterStep-same : (T U : ℕ → Cost) → ((b : ℕ) → b < G .states → T b ≡ U b) → (s : Next) → ((b : ℕ) → s ≡ to b → b < G .states) → afterStep T s ≡ afterStep U s
-  afterStep-same T U e stop h = refl
-  afterStep-same T U e (to b) h = e b (h b refl)
+  via-same : (T U : ℕ → Cost) → ((b : ℕ) → b < G .states → T b ≡ U b) → (a : ℕ) → a < G .states → (o : ℕ) → o < G .ops → via G T a o ≡ via G U a o
+  via-same T U e a l o g =
+      let s = G .succ o a in
+      via-is G T a o (G .cost o) s refl refl ∙ ap (plus (G .cost o)) (same s refl) ∙ sym (via-is G U a o (G .cost o) s refl refl)
+    where
+      same : (s : Next) → G .succ o a ≡ s → afterStep T s ≡ afterStep U s
+      same stop s = refl
+      same (to b) s = e b (closed o a b g l s)
 
   pub best-same : (T U : ℕ → Cost) → ((b : ℕ) → b < G .states → T b ≡ U b) → (a : ℕ) → a < G .states → (k : ℕ) → k ≤ G .ops → best G T a k ≡ best G U a k
   best-same T U e a l zero g = refl
   best-same T U e a l (suc k) g =
-      ap₂ (λ v w. lower v (plus (G .cost k) w)) (best-same T U e a l k (omega arith)) (afterStep-same T U e (G .succ k a) (λ b s. closed k a b g l s))
+      ap₂ lower (best-same T U e a l k (omega arith)) (via-same T U e a l k g)
 
   -- the table of a round decides that of the next
   next-same : (i j : ℕ) → ((b : ℕ) → b < G .states → least G i b ≡ least G j b) → (a : ℕ) → a < G .states → least G (suc i) a ≡ least G (suc j) a

@@ -8,7 +8,7 @@ use native.Mathlib.Omega.{arith}
 use Rattle.graph.specs.Cost.{Cost, none, fin, _⊑_, plus}
 use Rattle.graph.specs.Graph.{Next, stop, to, Graph, Onward}
 use Rattle.graph.specs.Least.{atGoal, afterStep, via, best}
-use Rattle.graph.proofs.Costs.{lower-cases, lower-left, lower-right}
+use Rattle.graph.proofs.Costs.{⊑-none, lower-cases, lower-left, lower-right}
 
 pub goal-if-at : (b : Bool) (c : ℕ) → atGoal b ⊑ c → b ≡ true
 goal-if-at true c h = refl
@@ -18,15 +18,27 @@ pub at-if-goal : (b : Bool) (c : ℕ) → b ≡ true → atGoal b ⊑ c
 at-if-goal true c h = zero-le
 at-if-goal false c h = absurd (false≢true h)
 
-pub step-elim : (T : ℕ → Cost) (k : ℕ) (s : Next) (c : ℕ) → plus k (afterStep T s) ⊑ c → (b d : ℕ) × (s ≡ to b) × (T b ⊑ d) × (k + d ≤ c)
-step-elim T k stop c h = absurd h
-step-elim T k (to b) c h = go (T b) refl h
-  where
-    go : (v : Cost) → T b ≡ v → plus k v ⊑ c → (b′ d : ℕ) × (to b ≡ to b′) × (T b′ ⊑ d) × (k + d ≤ c)
-    go none e g = absurd g
-    go (fin d) e g = (b, d, refl, subst (λ (v : Cost). v ⊑ d) (sym e) (le-refl d), g)
-
 module _ (G : Graph) (T : ℕ → Cost) (a : ℕ) where
+  -- the way by an operator: its price, 0 like any other, and then what T says of where it leads
+  pub via-is : (o k : ℕ) (s : Next) → G .cost o ≡ k → G .succ o a ≡ s → via G T a o ≡ plus k (afterStep T s)
+  via-is o zero s p e = simp (p, e)
+  via-is o (suc k) s p e = simp (p, e)
+
+  pub via-to : (o b : ℕ) → G .succ o a ≡ to b → via G T a o ≡ plus (G .cost o) (T b)
+  via-to o b e = via-is o (G .cost o) (to b) refl e
+
+  pub via-elim : (o c : ℕ) → via G T a o ⊑ c → (b d : ℕ) × (G .succ o a ≡ to b) × (T b ⊑ d) × (G .cost o + d ≤ c)
+  via-elim o c h = go (G .succ o a) refl
+    where
+      split : (b : ℕ) → G .succ o a ≡ to b → (v : Cost) → T b ≡ v → plus (G .cost o) v ⊑ c
+          → (b d : ℕ) × (G .succ o a ≡ to b) × (T b ⊑ d) × (G .cost o + d ≤ c)
+      split b s none e g = absurd g
+      split b s (fin d) e g = (b, d, s, subst (λ (v : Cost). v ⊑ d) (sym e) (le-refl d), g)
+
+      go : (s : Next) → G .succ o a ≡ s → (b d : ℕ) × (G .succ o a ≡ to b) × (T b ⊑ d) × (G .cost o + d ≤ c)
+      go stop s = absurd (⊑-none (via G T a o) (via-is o (G .cost o) stop refl s) c h)
+      go (to b) s = split b s (T b) refl (subst (λ (v : Cost). v ⊑ c) (via-to o b s) h)
+
   pub best-elim : (k c : ℕ) → best G T a k ⊑ c → (G .goal a ≡ true) ⊎ ((o : ℕ) × (o < k) × (via G T a o ⊑ c))
   best-elim zero c h = inl (goal-if-at (G .goal a) c h)
   best-elim (suc k) c h = ⊎-elim

@@ -14,7 +14,9 @@ use Rattle.tables.specs.Layout.{Tables, domAt}
 use Rattle.tables.specs.Task.{taskOf, sasOf, stateOf}
 use Rattle.tables.proofs.Laws.{filled-at, filled-later, length-filled}
 use Rattle.tables.specs.Steps.{copied}
-use Rattle.ledger.specs.Ledger.{startsAt, startIn}
+use Rattle.scan.specs.declared.Found.the-variants.{Clean}
+use Rattle.scan.specs.Scan.{inputFault}
+use Rattle.ledger.specs.Ledger.{fresh, startsAt, startIn, started, begun}
 use Rattle.ledger.proofs.Answers.{start-within, start-beyond}
 use Rattle.ledger.proofs.Gains.{zeros-at}
 
@@ -32,6 +34,11 @@ module _ (t : Tables) (s : List ℕ) (valid : Valid (taskOf t)) where
   pub from-beyond : (v : ℕ) → t .counts .vars ≤ v → stateOf (startOf t s) v ≡ 0
   unfolding copied
   from-beyond v h = filled-later (stateOf s) (replicate mostVars 0) (t .counts .vars) v h ∙ zeros-at mostVars v
+
+  -- so a start that is accepted has 0 beyond the variables, whatever the lent list has there
+  pub begun-beyond : inputFault t s ≡ Clean → (v : ℕ) → t .counts .vars ≤ v → stateOf (begun t s .run .start) v ≡ 0
+  unfolding begun started fresh
+  begun-beyond p v h = rw p (from-beyond v h)
 
   pub from-size : length (startOf t s) ≡ mostVars
   unfolding copied

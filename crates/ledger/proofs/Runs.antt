@@ -2,7 +2,7 @@
 use Prim.Native.Nat.{ℕ, _+_, _≤_, _<_}
 use mathlib.Core.Path.{_≡_, refl, ap, sym, _∙_}
 use mathlib.Core.List.{List, [], _∷_}
-use mathlib.Core.Bool.{Bool, true, false, _&&_, and-false}
+use mathlib.Core.Bool.{Bool, true, false, _&&_, and-false, false≢true}
 use native.Mathlib.Numerals.{add-one}
 use native.Mathlib.Omega.{arith}
 use lib.Dec.{ltb, leb, eqb}
@@ -42,6 +42,10 @@ five a b c d e p =
 
 -- ---- two runs, part by part
 
+sameTo-fewer : (j k : ℕ) (xs ys : List ℕ) → k ≤ j → sameTo j xs ys ≡ true → sameTo k xs ys ≡ true
+unfolding sameTo
+sameTo-fewer j k xs ys l p = true-every (sameAt xs ys) k (λ i h. every-true (sameAt xs ys) j p i (omega arith))
+
 module _ (r q : Run) where
   pub start-differs : sameTo mostVars (r .start) (q .start) ≡ false → false ≡ sameRun r q
   unfolding sameRun
@@ -55,9 +59,12 @@ module _ (r q : Run) where
   unfolding sameRun
   len-differs p = rw (ne-eqb (r .len) (q .len) p, and-false) refl
 
-  pub log-differs : sameTo mostSteps (r .log) (q .log) ≡ false → false ≡ sameRun r q
+  -- a difference among the first places, however many
+  pub log-differs : (k : ℕ) → k ≤ mostSteps → sameTo k (r .log) (q .log) ≡ false → false ≡ sameRun r q
   unfolding sameRun
-  log-differs p = rw (p, and-false) refl
+  log-differs k l p =
+      by-cases (sameTo mostSteps (r .log) (q .log)) (λ e. absurd (false≢true (sym p ∙ sameTo-fewer mostSteps k (r .log) (q .log) l e)))
+      (λ e. rw (e, and-false) refl)
 
   -- where all else is the same, the columns decide
   pub columns-decide : (x : Bool) → sameTo mostVars (r .start) (q .start) ≡ true → sameTo mostVars (r .now) (q .now) ≡ true

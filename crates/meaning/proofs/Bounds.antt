@@ -29,7 +29,7 @@ module _ (T : Task) (ok : Valid T) where
   pub view-onto : (m : ℕ) → m < T .maps → Onto (T .sas) (view T m)
   view-onto m l = record {
     inside = λ v x lv lx. countOf-above (T .class m v) (T .sas .dom v) x lx;
-    none-missing = λ v c lv lc. ok .none-missing m v c l lv lc;
+    none-missing = λ v c lv lc. let t = ok .none-missing m v c l lv lc in (t .0, t .1, omega (arith, t .2));
   }
 
   -- what the maps are paid for a sequence is at most its cost

@@ -31,8 +31,12 @@ pub true-holds : (f x : ℕ) → Holds f x → holds f x ≡ true
 true-holds zero x h = refl
 true-holds (suc k) x h = eq-eqb x k h
 
+-- where nothing is said the value stays
+pub put-rest : (x : ℕ) → put zero x ≡ x
+put-rest x = omega arith
+
 pub put-below : (f x d : ℕ) → f ≤ d → x < d → put f x < d
-put-below zero x d h l = l
+put-below zero x d h l = rw (put-rest x) l
 put-below (suc k) x d h l = h
 
 pub put-holds : (f x : ℕ) → Holds f (put f x)

@@ -11,7 +11,7 @@ use Rattle.meaning.specs.Numbering.{number, digit}
 use Rattle.meaning.specs.Sas.{State, Facts, Sas, IsState, Holds, Complies, IsGoal, put, after, Runs, end, Passes, Proper}
 use Rattle.meaning.specs.Views.{View, image, α, Onto, AbstractStep, AbstractGoal, AbstractlyLeads, seen, classTask, complies, toIf, viewGraph}
 use Rattle.meaning.proofs.Numbers.{number-same, number-digits, size-pos}
-use Rattle.meaning.proofs.Facts.{complies-true, true-complies}
+use Rattle.meaning.proofs.Facts.{put-rest, complies-true, true-complies}
 use Rattle.meaning.proofs.Space.{in-space, to-after, only-after, succ-number, goal-number, toIf-to, space-positive, digits-state, space-closed}
 
 -- ---- facts seen by classes
@@ -21,7 +21,7 @@ seen-holds c zero x h = tt
 seen-holds c (suc k) x h = ap c h
 
 pub seen-put : (c : ℕ → ℕ) (f x : ℕ) → put (seen c f) (c x) ≡ c (put f x)
-seen-put c zero x = refl
+seen-put c zero x = put-rest (c x) ∙ sym (ap c (put-rest x))
 seen-put c (suc k) x = refl
 
 pub seen-below : (c : ℕ → ℕ) (f d k : ℕ) → ((x : ℕ) → x < d → c x < k) → f ≤ d → seen c f ≤ k

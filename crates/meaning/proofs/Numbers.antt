@@ -8,6 +8,14 @@ use native.Mathlib.Omega.{arith}
 use Rattle.meaning.specs.Numbering.{size, number, digit, Positive, Digits}
 
 module _ (r : ℕ → ℕ) where
+  -- of two digits the one at position 0 changes fastest
+  pub first-fastest : (d : ℕ → ℕ) → number r d 2 ≡ d 0 + r 0 * d 1
+  first-fastest d = omega arith
+
+  -- a digit more adds it times the product of the radices before it
+  number-more : (d : ℕ → ℕ) (k : ℕ) → number r d (suc k) ≡ number r d k + d k * size r k
+  number-more d k = omega arith
+
   fewer : (k : ℕ) → Positive r (suc k) → Positive r k
   fewer k p v l = p v (omega arith)
 
@@ -31,7 +39,8 @@ module _ (r : ℕ → ℕ) where
   -- numbers with the same digits are the same
   pub number-same : (d e : ℕ → ℕ) (k : ℕ) → ((v : ℕ) → v < k → d v ≡ e v) → number r d k ≡ number r e k
   number-same d e zero h = refl
-  number-same d e (suc k) h = ap₂ (λ x y. x + y * size r k) (number-same d e k (λ v l. h v (omega arith))) (h k (le-refl (suc k)))
+  number-same d e (suc k) h =
+      number-more d k ∙ ap₂ (λ x y. x + y * size r k) (number-same d e k (λ v l. h v (omega arith))) (h k (le-refl (suc k))) ∙ sym (number-more e k)
 
 -- the remainder by a product
 mod-mul : (a s r : ℕ) → 0 < s → 0 < r → a % (s * r) ≡ a % s + a / s % r * s
@@ -57,15 +66,15 @@ module _ (r : ℕ → ℕ) where
   -- the digits of the number with the digits d are d
   pub digit-number : (d : ℕ → ℕ) (k : ℕ) → Digits r d k → (v : ℕ) → v < k → digit r (number r d k) v ≡ d v
   digit-number d zero h v l = absurd (not-suc-le-zero l)
-  digit-number d (suc k) h v l = ⊎-elim
-      (λ e. subst (λ (x : ℕ). digit r (number r d (suc k)) x ≡ d x) (sym e) (digit-top (number r d k) (d k) (size r k) (r k) (number-below r d k below) (h k (le-refl (suc k)))))
+  digit-number d (suc k) h v l = rw (number-more r d k) (⊎-elim
+      (λ e. subst (λ (x : ℕ). digit r (number r d k + d k * size r k) x ≡ d x) (sym e) (digit-top (number r d k) (d k) (size r k) (r k) (number-below r d k below) (h k (le-refl (suc k)))))
       (λ lt.
       let t = size-split r v k lt in
       let p : 0 < size r v = size-pos r v (λ u g. let z : d u < r u = h u (omega arith) in omega arith) in
       ap (λ (z : ℕ). (number r d k + d k * z) / size r v % r v) (t .1)
       ∙ digit-more (number r d k) (d k) (size r v) (r v) (t .0) p
       ∙ digit-number d k below v lt)
-      (eq-or-lt-of-le (le-of-suc-le-suc l))
+      (eq-or-lt-of-le (le-of-suc-le-suc l)))
     where
       below : Digits r d k
       below u g = h u (omega arith)
@@ -73,7 +82,8 @@ module _ (r : ℕ → ℕ) where
   number-digits-mod : (a k : ℕ) → Positive r k → number r (digit r a) k ≡ a % size r k
   number-digits-mod a zero p = sym (mod-one a)
   number-digits-mod a (suc k) p =
-      ap (λ (z : ℕ). z + digit r a k * size r k) (number-digits-mod a k (fewer r k p))
+      number-more r (digit r a) k
+      ∙ ap (λ (z : ℕ). z + digit r a k * size r k) (number-digits-mod a k (fewer r k p))
       ∙ sym (mod-mul a (size r k) (r k) (size-pos r k (fewer r k p)) (p k (le-refl (suc k))))
 
   -- the number with the digits of a is a

@@ -11,7 +11,7 @@ use Rattle.meaning.specs.Numbering.{size, number, digit, Positive}
 use Rattle.meaning.specs.Sas.{State, Sas, IsState, Holds, MayRun, Transition, put, after, Passes, paid, Proper}
 use Rattle.meaning.specs.Views.{complies, toIf, space}
 use Rattle.meaning.proofs.Numbers.{number-below, number-same, digit-number, digit-below}
-use Rattle.meaning.proofs.Facts.{put-below, put-holds, complies-true, true-complies, complies-same}
+use Rattle.meaning.proofs.Facts.{put-rest, put-below, put-holds, complies-true, true-complies, complies-same}
 
 -- ---- the transitions of 001 are those of `after`
 
@@ -27,7 +27,7 @@ module _ (S : Sas) (P : Proper S) where
         operator = lo;
         runs = r;
         effects = λ v l. put-holds (S .eff o v) (s v);
-        others = λ v l e. rw e;
+        others = λ v l e. rw e (put-rest (s v));
       }
 
 module _ (S : Sas) where
@@ -35,7 +35,7 @@ module _ (S : Sas) where
   only-after s o t h v l = pick (S .eff o v) refl
     where
       pick : (f : ℕ) → S .eff o v ≡ f → t v ≡ put f (s v)
-      pick zero e = h .others v l e
+      pick zero e = h .others v l e ∙ sym (put-rest (s v))
       pick (suc k) e = subst (λ (f : ℕ). Holds f (t v)) e (h .effects v l)
 
   pub after-same : (o : ℕ) (s t : State) → ((v : ℕ) → v < S .vars → s v ≡ t v) → (v : ℕ) → v < S .vars → after S o s v ≡ after S o t v

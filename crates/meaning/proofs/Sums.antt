@@ -33,6 +33,11 @@ sum-above f (suc k) m l = ⊎-elim
 
 -- ---- sums of costs
 
+-- none where every map says none, and with no map at all
+pub none-summed : (d : ℕ → Cost) (k : ℕ) → ((m : ℕ) → m < k → d m ≡ none) → summed d k ≡ none
+none-summed d zero h = refl
+none-summed d (suc k) h = rw (none-summed d k (λ m l. h m (omega arith)), h k (le-refl (suc k)))
+
 join-below : (v w : Cost) (a b : ℕ) → v ⊑ a → w ⊑ b → join v w ⊑ a + b
 join-below none w a b h g = absurd h
 join-below (fin x) none a b h g = absurd g
@@ -56,10 +61,6 @@ summed-none d zero h m l = absurd (not-suc-le-zero l)
 summed-none d (suc k) h m l =
     let t = join-none (summed d k) (d k) h in
     ⊎-elim (λ e. subst (λ (x : ℕ). d x ≡ none) (sym e) (t .1)) (λ lt. summed-none d k (t .0) m lt) (eq-or-lt-of-le (le-of-suc-le-suc l))
-
-pub none-summed : (d : ℕ → Cost) (k : ℕ) → ((m : ℕ) → m < k → d m ≡ none) → summed d k ≡ none
-none-summed d zero h = refl
-none-summed d (suc k) h = rw (none-summed d k (λ m l. h m (omega arith)), h k (le-refl (suc k)))
 
 join-worth : (v w : Cost) → worth (join v w) ≡ worth v + worth w
 join-worth none w = omega arith

@@ -1,4 +1,5 @@
 pub mod Walks
+pub mod Order
 pub mod RowFaults
 pub mod Rules
 pub mod Decides

@@ -28,7 +28,7 @@ module _ (T : Task) (ok : Valid T) (m : ℕ) (lm : m < T .maps) where
     where
       pick : (a : ℕ) → Dec (a < abstractStates (T .sas) (view T m)) → getD o a 0 ≡ getD u a 0
       pick a (yes l) =
-          said-inj (getD o a 0) (getD u a 0) (distance-unique T ok m lm a (saidAt o a) (saidAt u a) l (D .distances a l) (E .distances a l))
+          said-inj (getD o a 0) (getD u a 0) (distance-unique T ok m lm a (saidAt o a) (saidAt u a) l (D .distances a (omega (arith, l))) (E .distances a (omega (arith, l))))
       pick a (no l) = D .others a (omega arith) ∙ sym (E .others a (omega arith))
 
   -- the counted rounds are the map's, and their table holds the distances
@@ -39,7 +39,8 @@ module _ (T : Task) (ok : Valid T) (m : ℕ) (lm : m < T .maps) where
   counted-distances out out′ r C =
       record {
         distances =
-            λ a l.
+            λ a h.
+            let l : a < abstractStates (T .sas) (view T m) = omega (arith, h) in
             subst (λ (v : Cost). IsDistanceAt (T .sas) (view T m) a v)
             (sym (C .table .made a l ∙ round-holds-distances T ok m lm r (counted-rounds out out′ r C) a l)) (distance-is-least T ok m lm a l);
         others = C .table .kept;

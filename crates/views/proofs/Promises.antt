@@ -103,7 +103,7 @@ distance-in-table t m out out′ s r given e =
     let c = distance-clean t m s e in
     let a = α (sasOf t) (view (taskOf t) m) (stateOf s) in
     by-clean (distanceFault t m s) _ _ e
-    (saidAt out′ a, refl, D .2 .distances a (image-inside (taskOf t) (c .0) m (c .1) (stateOf s) (c .2)))
+    (saidAt out′ a, refl, D .2 .distances a (omega (arith, image-inside (taskOf t) (c .0) m (c .1) (stateOf s) (c .2))))
 
 -- DEMAND 3, over the answers of `bound`
 module _ (t : Tables) (s : List ℕ) where

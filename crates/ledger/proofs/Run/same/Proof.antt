@@ -1,4 +1,5 @@
 -- `Run::same` meets its contract: the first part that differs decides, and at last the columns. Assumes nothing.
+use native.Mathlib.Omega.{arith}
 use Rattle.ledger.proofs.Runs.{start-differs, now-differs, len-differs, log-differs, columns-decide}
 use Rattle.meaning.specs.Limits.{mostSteps}
 use borrow.Author.Needs.{needs}
@@ -18,7 +19,7 @@ returns-3 c = len-differs _ _ (c .if3 .taken)
 
 returns-4 : tie.Need-returns-4
 unfolding mostSteps
-returns-4 c = let x = c .before .same-words in log-differs _ _ (sym (x .ensures) ∙ not-true (x .result) (c .if4 .taken))
+returns-4 c = let x = c .before .same-words in log-differs _ _ _ (omega arith) (sym (x .ensures) ∙ not-true (x .result) (c .if4 .taken))
 
 returns-5 : tie.Need-returns-5
 unfolding mostSteps
