@@ -1,3 +1,4 @@
 pub mod Handed
 pub mod Unique
 pub mod Own
+pub mod Reading
