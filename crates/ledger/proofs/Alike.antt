@@ -17,10 +17,8 @@ use Rattle.tables.specs.Task.{taskOf, sasOf, stateOf}
 use Rattle.tables.specs.Steps.{mayRun, overwritten, valueAfter, stepped, copied}
 use Rattle.tables.proofs.Laws.{filled-same}
 use Rattle.tables.proofs.Meant.{may-run-is}
-use Rattle.scan.specs.declared.Found.{Found}
-use Rattle.scan.specs.declared.Found.the-variants.{Clean, Fault}
 use Rattle.scan.specs.Own.{OwnState}
-use Rattle.scan.proofs.Alike.{ReadAlike, input-same}
+use Rattle.scan.proofs.Alike.{unless-same, ReadAlike, input-same}
 use Rattle.sequences.proofs.Passing.{input-clean}
 use Rattle.ledger.specs.declared.Run.{Run}
 use Rattle.ledger.specs.declared.Tried.{Tried}
@@ -105,26 +103,11 @@ module _ (t u : Tables) (E : SameTask (taskOf t) (taskOf u)) where
 
 -- ---- the entries
 
-refused-same : (a a′ : Found) (x y : Answer) → a ≡ a′ → (a ≡ Clean → x ≡ y) → refusedOr a x ≡ refusedOr a′ y
-refused-same a a′ x y p q = at a q ∙ ap (λ (z : Found). refusedOr z y) p
-  where
-    at : (z : Found) → (z ≡ Clean → x ≡ y) → refusedOr z x ≡ refusedOr z y
-    at Clean h = h refl
-    at (Fault r) h = refl
-
-started-same : (a a′ : Found) (x y : Run) → a ≡ a′ → (a ≡ Clean → x ≡ y) → started a x ≡ started a′ y
-unfolding started
-started-same a a′ x y p q = at a q ∙ ap (λ (z : Found). started z y) p
-  where
-    at : (z : Found) → (z ≡ Clean → x ≡ y) → started z x ≡ started z y
-    at Clean h = ap (λ (r : Run). record { run = r; answer = Accepted }) (h refl)
-    at (Fault r) h = refl
-
 module _ {t u : Tables} (E : ReadAlike t u) where
   pub answered-alike : (r : Run) (number o : ℕ) → answered t r number o ≡ answered u r number o
   unfolding answered
   answered-alike r number o =
-      refused-same _ _ _ _ (E .fault)
+      unless-same refusedOr (λ r x y. refl) _ _ _ _ (E .fault)
       (λ e. ap₂ (λ (b : Bool) (x : Answer). cond b x (Refused NotARun)) (run-alike t u (E .task e) r) (judged-alike t u (E .task e) r number o))
 
   -- the run that an offer hands back: advanced alike, or as it was
@@ -142,9 +125,9 @@ module _ {t u : Tables} (E : ReadAlike t u) where
       ∙ ap (λ (x : Answer). record { run = moved u r o x; answer = x }) (answered-alike r number o)
 
   pub begun-alike : (s z : List ℕ) → OwnState (t .counts) s z → begun t s ≡ begun u z
-  unfolding begun copied
+  unfolding begun started copied
   begun-alike s z O =
-      started-same _ _ _ _ (input-same E s z O)
+      unless-same started (λ r x y. refl) _ _ _ _ (input-same E s z O)
       (λ e.
       ap fresh
       (filled-same (stateOf s) (stateOf z) (replicate mostVars 0) (t .counts .vars) (O .values)

@@ -13,9 +13,9 @@ use Rattle.tables.specs.Task.{tables}
 use Rattle.scan.specs.Scan.{_then_, factsFault, taskFault, roomy, tablesFault, stateFault, inputFault}
 use Rattle.meaning.proofs.Facts.{by-cases}
 use Rattle.scan.proofs.Validity.{clean-valid}
-use Rattle.sequences.specs.Judging.{judgedOf}
+use Rattle.scan.proofs.Alike.{unless-same}
+use Rattle.sequences.specs.Judging.{judgedUnless, judgedOf}
 use Rattle.sequences.proofs.Passing.{input-clean}
-use Rattle.sequences.proofs.Alike.{judged-unless-same}
 use Rattle.records.specs.declared.OpRecord.{OpRecord}
 use Rattle.records.specs.Records.{atMost, moreOps, recordsTables}
 
@@ -35,7 +35,7 @@ module _ (c : Counts) (f k shares : List ℕ) (a b : ℕ) (p : mostOps < a) (q :
   many-alike : (s ops : List ℕ) → judgedOf (tables (numbered c a) f k shares) s ops ≡ judgedOf (tables (numbered c b) f k shares) s ops
   unfolding judgedOf
   many-alike s ops =
-      judged-unless-same _ _ _ _ (many-input s)
+      unless-same judgedUnless (λ r x y. refl) _ _ _ _ (many-input s)
       (λ e. absurd (let z : ⊥ = omega (arith, clean-valid (tables (numbered c a) f k shares) (input-clean (tables (numbered c a) f k shares) s e .0) .ops) in z))
 
 -- with the whole length for the number of operators the answer is the same

@@ -8,6 +8,7 @@ use native.Mathlib.Omega.{arith}
 use lib.Dec.{leb, ltb, eqb}
 use lib.ListN.{length}
 use borrow.Author.Tests.{leb-true}
+use Rattle.refusals.specs.declared.Refusal.{Refusal}
 use Rattle.refusals.specs.declared.Refusal.the-variants.{OutOfRange, ClassMissing, SharesAboveCost, TooManyStates, TableTooShort, ValueOutside}
 use Rattle.meaning.specs.Limits.{mostVars, mostValues, mostOps, mostCost, mostMaps, mostStates}
 use Rattle.meaning.specs.Sas.{Facts}
@@ -31,12 +32,17 @@ use Rattle.scan.proofs.Validity.{clean-valid}
 
 -- ---- rules one after another
 
-pub then-same : (a a′ b b′ : Found) → a ≡ a′ → (a ≡ Clean → b ≡ b′) → a then b ≡ a′ then b′
-then-same a a′ b b′ p q = at a q ∙ ap (λ (x : Found). x then b′) p
+-- what a fault decides alone, and where there is none x or y does
+pub unless-same : {X Y : Type 0} (on : Found → X → Y) → ((r : Refusal) (x y : X) → on (Fault r) x ≡ on (Fault r) y)
+    → (a b : Found) (x y : X) → a ≡ b → (a ≡ Clean → x ≡ y) → on a x ≡ on b y
+unless-same on skips a b x y p q = at a q ∙ ap (λ (f : Found). on f y) p
   where
-    at : (x : Found) → (x ≡ Clean → b ≡ b′) → x then b ≡ x then b′
-    at Clean h = h refl
-    at (Fault r) h = refl
+    at : (f : Found) → (f ≡ Clean → x ≡ y) → on f x ≡ on f y
+    at Clean h = ap (on Clean) (h refl)
+    at (Fault r) h = skips r x y
+
+pub then-same : (a a′ b b′ : Found) → a ≡ a′ → (a ≡ Clean → b ≡ b′) → a then b ≡ a′ then b′
+then-same a a′ b b′ = unless-same _then_ (λ r x y. refl) a a′ b b′
 
 each-same : (f g : ℕ → Found) (n i : ℕ) → ((j : ℕ) → j < i + n → f j ≡ g j) → each f n i ≡ each g n i
 unfolding each

@@ -16,11 +16,10 @@ use Rattle.meaning.proofs.Facts.{by-cases}
 use Rattle.meaning.proofs.Alike.{SameSas, SameAt, complies-alike}
 use Rattle.tables.specs.Layout.{Tables}
 use Rattle.tables.specs.Task.{sasOf, stateOf}
-use Rattle.scan.specs.declared.Found.{Found}
-use Rattle.scan.specs.declared.Found.the-variants.{Clean, Fault}
+use Rattle.scan.specs.declared.Found.the-variants.{Clean}
 use Rattle.scan.specs.Scan.{inputFault}
 use Rattle.scan.specs.Own.{OwnState}
-use Rattle.scan.proofs.Alike.{ReadAlike, input-same}
+use Rattle.scan.proofs.Alike.{unless-same, ReadAlike, input-same}
 use Rattle.sequences.specs.declared.stepping.Stepped.{Stepped}
 use Rattle.sequences.specs.declared.stepping.Stepped.the-variants.{Ran, NoSuch, MayNot}
 use Rattle.sequences.specs.declared.judging.Judged.{Judged}
@@ -91,20 +90,6 @@ module _ {S R : Sas} (E : SameSas S R) where
 
 -- ---- the entries
 
-pub judged-unless-same : (a a′ : Found) (j j′ : Judged) → a ≡ a′ → (a ≡ Clean → j ≡ j′) → judgedUnless a j ≡ judgedUnless a′ j′
-judged-unless-same a a′ j j′ p q = at a q ∙ ap (λ (x : Found). judgedUnless x j′) p
-  where
-    at : (x : Found) → (x ≡ Clean → j ≡ j′) → judgedUnless x j ≡ judgedUnless x j′
-    at Clean h = h refl
-    at (Fault r) h = refl
-
-chosen-unless-same : (a a′ : Found) (j j′ : Choice) → a ≡ a′ → (a ≡ Clean → j ≡ j′) → chosenUnless a j ≡ chosenUnless a′ j′
-chosen-unless-same a a′ j j′ p q = at a q ∙ ap (λ (x : Found). chosenUnless x j′) p
-  where
-    at : (x : Found) → (x ≡ Clean → j ≡ j′) → chosenUnless x j ≡ chosenUnless x j′
-    at Clean h = h refl
-    at (Fault r) h = refl
-
 module _ {t u : Tables} (E : ReadAlike t u) (s z : List ℕ) (O : OwnState (t .counts) s z) where
   same-sas : inputFault t s ≡ Clean → SameSas (sasOf t) (sasOf u)
   same-sas e = E .task (input-clean t s e .0) .sas
@@ -112,12 +97,12 @@ module _ {t u : Tables} (E : ReadAlike t u) (s z : List ℕ) (O : OwnState (t .c
   pub judged-alike : (ops : List ℕ) → judgedOf t s ops ≡ judgedOf u z ops
   unfolding judgedOf
   judged-alike ops =
-      judged-unless-same _ _ _ _ (input-same E s z O) (λ e. limited-alike (same-sas e) (stateOf s) (stateOf z) ops (O .values))
+      unless-same judgedUnless (λ r x y. refl) _ _ _ _ (input-same E s z O) (λ e. limited-alike (same-sas e) (stateOf s) (stateOf z) ops (O .values))
 
   pub chosen-alike : (a b : List ℕ) → chosenOf t s a b ≡ chosenOf u z a b
   unfolding chosenOf
   chosen-alike a b =
-      chosen-unless-same _ _ _ _ (input-same E s z O)
+      unless-same chosenUnless (λ r x y. refl) _ _ _ _ (input-same E s z O)
       (λ e.
       ap₂ choiceOf (reachedOf-alike (same-sas e) (stateOf s) (stateOf z) a (O .values))
       (reachedOf-alike (same-sas e) (stateOf s) (stateOf z) b (O .values)))
