@@ -8,7 +8,7 @@ use crate::random::*;
 use crate::rng::Rng;
 use crate::row::Record;
 use crate::script::*;
-use crate::task::Task;
+use crate::task::{Op, Task};
 use crate::text::read_text;
 
 /// So many vectors by chance come after the ones by name.
@@ -114,9 +114,21 @@ fn records_at_the_edge() -> Vec<Vector> {
         a_changed("shares above a record's cost", 1, |record| record.cost = 0),
         a_changed("a record that says nothing", 2, |record| *record = EMPTY),
         a_changed("preconditions and effects the other way round", 1, |record| std::mem::swap(&mut record.pre, &mut record.eff)),
+        eight_variables(),
         a_whole("of two records below their shares the lower is named", "s 13 51 0; W; s 13 17 0; W"),
         a_whole("a record out of range comes before one below its shares", "s 13 0 0; W; s 13 51 1000001; W"),
     ]
+}
+
+/// One operator with a precondition and an effect on each of the most variables, and what its last places say.
+fn eight_variables() -> Vector {
+    let op = Op { cost: 3, pre: vec![Some(0); VARS], eff: vec![Some(1); VARS] };
+    let map = vec![vec![0, 0]; VARS];
+    let task =
+        Task { dom: vec![2; VARS], init: vec![0; VARS], goal: vec![Some(1); VARS], ops: vec![op], maps: vec![map], shares: vec![vec![3]] };
+    row_alone("a record with facts on eight variables", &task)
+        .lend(FIRST, &[0])
+        .lines("W; s 13 8 2; W; s 13 8 1; s 13 16 1; W; s 13 16 3; W")
 }
 
 /// The row's places, as the script sets, shows and lends them.

@@ -30,7 +30,7 @@ pub const COLUMN: u32 = 11;
 
 pub const RECORDS: u32 = 13;
 
-// The program's own: the lengths of the lent arrays, the counts of variables, operators and maps, and the length of the text.
+// The program's own: the lengths of the lent arrays, the counts of variables, operators and maps, and the length of the text. The script has no array 12.
 pub const LENT: u32 = 12;
 
 pub const COUNTS: u32 = 14;
