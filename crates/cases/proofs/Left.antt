@@ -12,7 +12,7 @@ use borrow.Author.Tests.{leb-true, le-leb}
 use Rattle.refusals.specs.declared.Refusal.the-variants.{TableTooShort, NotARun}
 use Rattle.meaning.specs.Bound.{away, bound}
 use Rattle.meaning.proofs.Facts.{and-left, and-right}
-use Rattle.meaning.proofs.Alike.{states-alike, view-alike}
+use Rattle.meaning.proofs.Unread.{states-alike, view-alike}
 use Rattle.tables.specs.Layout.{Tables, factsRoom, costsRoom, sharesRoom, domPlace, initPlace, goalPlace, prePlace, effPlace, classPlace, sharePlace}
 use Rattle.tables.specs.Task.{sasOf, taskOf, tables, stateOf}
 use Rattle.tables.specs.Steps.{copied}
@@ -20,18 +20,18 @@ use Rattle.scan.specs.declared.Found.the-variants.{Clean}
 use Rattle.scan.specs.Scan.{unless, taskFault, roomy, tablesFault}
 use Rattle.scan.specs.Own.{OwnSame}
 use Rattle.scan.proofs.Walks.{clean-first, rule-held}
-use Rattle.scan.proofs.Alike.{ReadAlike, read-back, own-alike, state-own}
+use Rattle.scan.proofs.Unread.{ReadAlike, read-back, own-alike, state-own}
 use Rattle.grammar.specs.Fields.{filled}
 use Rattle.grammar.proofs.SpellLeft.{filled-at}
-use Rattle.views.proofs.Alike.{distances-given-alike, distance-given-alike, bound-given-alike}
+use Rattle.views.proofs.Unread.{distances-given-alike, distance-given-alike, bound-given-alike}
 use Rattle.sequences.specs.Judging.{limited}
-use Rattle.sequences.proofs.Alike.{judged-alike}
+use Rattle.sequences.proofs.Unread.{judged-alike}
 use Rattle.ledger.specs.declared.Run.{Run}
 use Rattle.ledger.specs.declared.Answer.{Answer}
 use Rattle.ledger.specs.declared.Answer.the-variants.{Refused}
 use Rattle.ledger.specs.declared.Offered.{Offered}
 use Rattle.ledger.specs.Ledger.{fresh, isRun, offerJudged, answered, moved, offered}
-use Rattle.ledger.proofs.Alike.{offered-alike, begun-alike}
+use Rattle.ledger.proofs.Unread.{offered-alike, begun-alike}
 use Rattle.cases.specs.Told.{yes!, ofSequence, ofOffer, Offering, Claim, distances, distanceAt, boundAt, judging, run, SaysThat, ClaimHolds}
 use Rattle.cases.proofs.Contracts.{Inside, Shows, distances-exactly, distance-exactly, bound-exactly, judged-exactly, begun-is}
 

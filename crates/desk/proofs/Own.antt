@@ -10,7 +10,7 @@ use Rattle.tables.specs.declared.Counts.{Counts}
 use Rattle.tables.specs.Layout.{Tables}
 use Rattle.scan.specs.Scan.{tablesFault}
 use Rattle.scan.specs.Own.{OwnSame, OwnState}
-use Rattle.scan.proofs.Alike.{own-alike}
+use Rattle.scan.proofs.Unread.{own-alike}
 use Rattle.grammar.specs.declared.Reading.the-variants.{Accepted}
 use Rattle.grammar.specs.Grammar.{readText}
 use Rattle.grammar.proofs.SpellLeft.{read-answer-same, read-accepted-same}
@@ -18,14 +18,14 @@ use Rattle.views.specs.declared.DistancesAnswer.{DistancesAnswer}
 use Rattle.views.specs.declared.DistanceAnswer.{DistanceAnswer}
 use Rattle.views.specs.declared.BoundAnswer.{BoundAnswer}
 use Rattle.views.specs.Entries.{DistancesGiven, DistanceGiven, BoundGiven}
-use Rattle.views.proofs.Alike as views
+use Rattle.views.proofs.Unread as views
 use Rattle.sequences.specs.Judging.{judgedOf}
 use Rattle.sequences.specs.Choosing.{namedOf, cheaperOf}
 use Rattle.sequences.specs.Opening.{OpeningOf}
-use Rattle.sequences.proofs.Alike as sequences
+use Rattle.sequences.proofs.Unread as sequences
 use Rattle.ledger.specs.declared.Run.{Run}
 use Rattle.ledger.specs.Ledger.{begun, offered}
-use Rattle.ledger.proofs.Alike as ledger
+use Rattle.ledger.proofs.Unread as ledger
 
 -- tables of the same lengths: the same answer; and where it is accepted, the same numbers in them
 module _ (task f f′ c c′ s s′ : List ℕ) (p : length f ≡ length f′) (q : length c ≡ length c′) (r : length s ≡ length s′) where

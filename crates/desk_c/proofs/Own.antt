@@ -6,10 +6,10 @@ use Prim.Native.Nat.{ℕ}
 use Rattle.tables.specs.Layout.{Tables}
 use Rattle.scan.specs.Scan.{tablesFault}
 use Rattle.scan.specs.Own.{OwnSame, OwnState}
-use Rattle.scan.proofs.Alike.{own-alike}
+use Rattle.scan.proofs.Unread.{own-alike}
 use Rattle.sequences.specs.Judging.{judgedOf}
 use Rattle.sequences.specs.Choosing.{cheaperOf, chosenOf}
-use Rattle.sequences.proofs.Alike.{chosen-alike}
+use Rattle.sequences.proofs.Unread.{chosen-alike}
 use Rattle.ledger.specs.declared.Offered.{Offered}
 use Rattle.desk.proofs.Own as desk
 use Rattle.words.specs.Words.{foundWord, judgedWord, cheaperWord, openingWord}

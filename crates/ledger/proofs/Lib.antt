@@ -8,5 +8,5 @@ pub mod Sequences
 pub mod Told
 pub mod History
 pub mod Sound
-pub mod Alike
+pub mod Unread
 pub mod Seventeen

@@ -8,4 +8,4 @@ pub mod Sums
 pub mod Bounds
 pub mod Theorems
 pub mod Columns
-pub mod Alike
+pub mod Unread

@@ -13,7 +13,7 @@ use Rattle.tables.specs.Task.{tables}
 use Rattle.scan.specs.Scan.{_then_, factsFault, taskFault, roomy, tablesFault, stateFault, inputFault}
 use Rattle.meaning.proofs.Facts.{by-cases}
 use Rattle.scan.proofs.Validity.{clean-valid}
-use Rattle.scan.proofs.Alike.{unless-same}
+use Rattle.scan.proofs.Unread.{unless-same}
 use Rattle.sequences.specs.Judging.{judgedUnless, judgedOf}
 use Rattle.sequences.proofs.Passing.{input-clean}
 use Rattle.records.specs.declared.OpRecord.{OpRecord}

@@ -14,10 +14,10 @@ use Rattle.tables.specs.declared.Counts.{Counts}
 use Rattle.tables.specs.Layout.{Tables, factsRoom, costsRoom, sharesRoom, preAt, effAt, costAt, domPlace, initPlace, goalPlace, classPlace}
 use Rattle.tables.specs.Task.{tables}
 use Rattle.scan.specs.Scan.{roomy}
-use Rattle.scan.proofs.Alike.{Agree, read-alike, state-own}
+use Rattle.scan.proofs.Unread.{Agree, read-alike, state-own}
 use Rattle.sequences.specs.declared.judging.Judged.{Judged}
 use Rattle.sequences.specs.Judging.{judgedOf}
-use Rattle.sequences.proofs.Alike.{judged-alike}
+use Rattle.sequences.proofs.Unread.{judged-alike}
 use Rattle.records.specs.declared.OpRecord.{OpRecord}
 use Rattle.records.specs.declared.laying.Laid.{Laid}
 use Rattle.records.specs.Records.{recordAt, laidOf, blank, moreOps, counted, recordsTables}

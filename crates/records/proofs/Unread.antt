@@ -14,10 +14,10 @@ use Rattle.tables.specs.Layout.{factsRoom, costsRoom, domAt, costAt, domPlace, 
 use Rattle.tables.specs.Task.{tables}
 use Rattle.scan.specs.Scan.{roomy}
 use Rattle.scan.specs.Own.{OwnState}
-use Rattle.scan.proofs.Alike.{Agree, read-alike}
+use Rattle.scan.proofs.Unread.{Agree, read-alike}
 use Rattle.meaning.proofs.Facts.{by-cases}
 use Rattle.sequences.specs.Judging.{judgedOf}
-use Rattle.sequences.proofs.Alike.{judged-alike}
+use Rattle.sequences.proofs.Unread.{judged-alike}
 use Rattle.records.specs.declared.OpRecord.{OpRecord}
 use Rattle.records.specs.declared.laying.Laid.{Laid}
 use Rattle.records.specs.Records.{recordAt, atMost, laidOne, laidOf, blank, moreOps, counted, recordsTables}

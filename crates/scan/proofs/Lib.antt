@@ -4,5 +4,5 @@ pub mod RowFaults
 pub mod Rules
 pub mod Decides
 pub mod Validity
-pub mod Alike
+pub mod Unread
 pub mod Numbers

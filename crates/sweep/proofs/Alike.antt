@@ -13,7 +13,7 @@ use Rattle.meaning.specs.Numbering.{digit}
 use Rattle.meaning.specs.Sas.{Facts, Sas, put}
 use Rattle.meaning.specs.Views.{holds, every, toIf, space}
 use Rattle.meaning.proofs.Facts.{every-same}
-use Rattle.meaning.proofs.Alike.{size-alike, digit-alike, number-alike}
+use Rattle.meaning.proofs.Unread.{size-alike, digit-alike, number-alike}
 use Rattle.sweep.specs.Inside.Sweeps.{Counted}
 
 pub record Alike (G H : Graph) : Type 0 where

@@ -13,7 +13,7 @@ use Rattle.meaning.proofs.Induced.{seen-below, α-below}
 use Rattle.meaning.proofs.Distances.{round-distance}
 use Rattle.meaning.proofs.Sums.{sum-zero}
 use Rattle.meaning.proofs.Bounds.{view-onto}
-use Rattle.meaning.proofs.Alike.{size-alike}
+use Rattle.meaning.proofs.Unread.{size-alike}
 use Rattle.tables.specs.declared.Counts.{Counts}
 use Rattle.tables.specs.Layout.{Tables, rowAt, domAt, goalAt, preAt, effAt, goalRow, preRow, effRow, classAt, shareAt}
 use Rattle.tables.specs.Task.{sasOf, taskOf, tables, stateOf}

@@ -2,4 +2,4 @@ pub mod Summing
 pub mod Answers
 pub mod Judging
 pub mod Promises
-pub mod Alike
+pub mod Unread

@@ -7,7 +7,7 @@ use Rattle.sweep.proofs.rounds.relax.Tie as tie
 returns : tie.Need-returns
 returns c =
     let a = c .before .args in
-    relax-none (a .best) (a .price) (a .beyond) (c .if1 .taken)
+    relax-none (a .best) (a .price) (a .beyond) (omega arith)
 
 add-x : tie.Need-add-x
 add-x c =

@@ -14,7 +14,7 @@ use Rattle.meaning.specs.Sas.{State, IsState}
 use Rattle.meaning.specs.Views.{α, IsDistanceAt}
 use Rattle.meaning.specs.Split.{Task, view}
 use Rattle.meaning.specs.Bound.{summed}
-use Rattle.meaning.proofs.Alike.{SameAt, SameTask, α-alike, states-alike, least-alike, rounds-alike, view-alike}
+use Rattle.meaning.proofs.Unread.{SameAt, SameTask, α-alike, states-alike, least-alike, rounds-alike, view-alike}
 use Rattle.tables.specs.Layout.{Tables}
 use Rattle.tables.specs.Task.{stateOf}
 use Rattle.scan.specs.declared.Found.{Found}
@@ -22,7 +22,7 @@ use Rattle.scan.specs.declared.Found.the-variants.{Clean, Fault}
 use Rattle.scan.specs.Scan.{unless, _then_, tablesFault, stateFault, inputFault}
 use Rattle.scan.specs.Own.{OwnState}
 use Rattle.scan.proofs.Walks.{clean-first, clean-next}
-use Rattle.scan.proofs.Alike.{ReadAlike, then-same, state-same, input-same}
+use Rattle.scan.proofs.Unread.{ReadAlike, then-same, state-same, input-same}
 use Rattle.sweep.specs.Said.{said}
 use Rattle.views.specs.declared.DistancesAnswer.{DistancesAnswer}
 use Rattle.views.specs.declared.DistanceAnswer.{DistanceAnswer}

@@ -15,7 +15,7 @@ use Rattle.meaning.specs.Sas.{Facts}
 use Rattle.meaning.specs.Views.{every}
 use Rattle.meaning.specs.Split.{Task, countOf, Valid}
 use Rattle.meaning.proofs.Columns.{sum-same}
-use Rattle.meaning.proofs.Alike.{size-alike, count-alike, SameTask, task-back}
+use Rattle.meaning.proofs.Unread.{size-alike, count-alike, SameTask, task-back}
 use Rattle.tables.specs.declared.Counts.{Counts}
 use Rattle.tables.specs.Layout.{Tables, domAt, initAt, goalAt, preAt, effAt, classAt, costAt, shareAt}
 use Rattle.tables.specs.Task.{tables, taskOf, stateOf}

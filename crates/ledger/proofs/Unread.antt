@@ -11,14 +11,14 @@ use Rattle.refusals.specs.declared.Refusal.the-variants.{NoSuchOperator, MayNot
 use Rattle.meaning.specs.Limits.{mostVars, mostSteps}
 use Rattle.meaning.specs.Sas.{put}
 use Rattle.meaning.proofs.Facts.{by-cases, every-same}
-use Rattle.meaning.proofs.Alike.{SameTask, complies-alike, gain-alike}
+use Rattle.meaning.proofs.Unread.{SameTask, complies-alike, gain-alike}
 use Rattle.tables.specs.Layout.{Tables, effRow}
 use Rattle.tables.specs.Task.{taskOf, sasOf, stateOf}
 use Rattle.tables.specs.Steps.{mayRun, overwritten, valueAfter, stepped, copied}
 use Rattle.tables.proofs.Laws.{filled-same}
 use Rattle.tables.proofs.Meant.{may-run-is}
 use Rattle.scan.specs.Own.{OwnState}
-use Rattle.scan.proofs.Alike.{unless-same, ReadAlike, input-same}
+use Rattle.scan.proofs.Unread.{unless-same, ReadAlike, input-same}
 use Rattle.sequences.proofs.Passing.{input-clean}
 use Rattle.ledger.specs.declared.Run.{Run}
 use Rattle.ledger.specs.declared.Tried.{Tried}

@@ -13,13 +13,13 @@ use Rattle.meaning.specs.Limits.{mostSteps}
 use Rattle.meaning.specs.Sas.{State, Sas, put, after}
 use Rattle.meaning.specs.Views.{complies}
 use Rattle.meaning.proofs.Facts.{by-cases}
-use Rattle.meaning.proofs.Alike.{SameSas, SameAt, complies-alike}
+use Rattle.meaning.proofs.Unread.{SameSas, SameAt, complies-alike}
 use Rattle.tables.specs.Layout.{Tables}
 use Rattle.tables.specs.Task.{sasOf, stateOf}
 use Rattle.scan.specs.declared.Found.the-variants.{Clean}
 use Rattle.scan.specs.Scan.{inputFault}
 use Rattle.scan.specs.Own.{OwnState}
-use Rattle.scan.proofs.Alike.{unless-same, ReadAlike, input-same}
+use Rattle.scan.proofs.Unread.{unless-same, ReadAlike, input-same}
 use Rattle.sequences.specs.declared.stepping.Stepped.{Stepped}
 use Rattle.sequences.specs.declared.stepping.Stepped.the-variants.{Ran, NoSuch, MayNot}
 use Rattle.sequences.specs.declared.judging.Judged.{Judged}
