@@ -1,9 +1,7 @@
 -- Computed tests of what is shown of the tables of an accepted text. Assumes nothing.
-use mathlib.Core.Path.{_≡_, refl, sym, ap₂, _∙_}
+use mathlib.Core.Path.{_≡_, sym, _∙_}
 use mathlib.Core.List.{List, [], _∷_, map}
-use Prim.Native.Nat.{ℕ, zero, suc, _<_}
-use native.Mathlib.Nat.{le-refl}
-use native.Mathlib.Omega.{arith}
+use Prim.Native.Nat.{ℕ, _<_}
 use lib.ListN.{length, getD}
 use Rattle.graph.specs.Cost.{Cost, none}
 use Rattle.graph.specs.Graph.{Graph, Closed}
@@ -11,7 +9,7 @@ use Rattle.meaning.specs.Limits.{mostStates}
 use Rattle.meaning.specs.Sas.{IsState}
 use Rattle.meaning.specs.Views.{α, abstractStates, viewGraph}
 use Rattle.meaning.specs.Split.{view, Valid}
-use Rattle.meaning.specs.Bound.{distance, join, summed, away}
+use Rattle.meaning.specs.Bound.{distance, summed, away}
 use Rattle.meaning.proofs.Induced.{view-closed, α-below}
 use Rattle.meaning.proofs.Bounds.{view-onto}
 use Rattle.meaning.proofs.Theorems.{computed-rounds-exactly-induced}
@@ -19,6 +17,7 @@ use Rattle.tables.specs.Layout.{Tables}
 use Rattle.tables.specs.Task.{sasOf, taskOf, stateOf}
 use Rattle.tables.specs.Steps.{copied}
 use Rattle.sweep.specs.Said.{said}
+use Rattle.views.proofs.Answers.{summed-same}
 use Rattle.sequences.specs.Judging.{limited}
 use Rattle.ledger.specs.declared.Run.{Run}
 use Rattle.ledger.specs.Ledger.{fresh}
@@ -38,10 +37,6 @@ farOf t m a = getD (tableOf (graphOf t m) (graphOf t m .states)) a none
 -- .. at the image of a state
 abbrev pub farFrom : Tables → List ℕ → ℕ → Cost
 farFrom t s m = farOf t m (α (sasOf t) (view (taskOf t) m) (stateOf s))
-
-summed-same : (d e : ℕ → Cost) (k : ℕ) → ((m : ℕ) → m < k → d m ≡ e m) → summed d k ≡ summed e k
-summed-same d e zero h = refl
-summed-same d e (suc k) h = ap₂ join (summed-same d e k (λ m l. h m (omega arith))) (h k (le-refl (suc k)))
 
 module _ (t : Tables) (ok : Valid (taskOf t)) where
   pub graph-closed : (m : ℕ) → m < t .counts .maps → Closed (graphOf t m)

@@ -2,9 +2,10 @@
 -- line end is the next one; an empty text in line 1. But a digit run that stands at the end is judged first, and is 3 outside its range.
 -- By the byte that is asked for there. Assumes nothing.
 use Prim.Native.Nat.{ℕ, _+_}
-use mathlib.Core.Path.{_≡_, refl}
+use mathlib.Core.Path.{_≡_, refl, ap}
 use mathlib.Core.Bool.{false}
 use mathlib.Core.List.{List, [], _∷_, _++_, append-nil}
+use native.Mathlib.Omega.{arith}
 use borrow.Author.Tests.{eq-eqb}
 use Rattle.refusals.specs.declared.Refusal.the-variants.{OffForm, OutOfRange}
 use Rattle.tables.specs.Layout.{Tables}
@@ -18,7 +19,7 @@ module _ (l : ℕ) (T : Tables) (k : Rest) where
   -- inside a word, and where a number should begin
   pub word-cut : (xs ys : List ℕ) (b : ℕ) → lit (xs ++ b ∷ ys) xs l T k ≡ refused (OffForm l)
   unfolding lit _▸_ demand
-  word-cut [] ys b = refl
+  word-cut [] ys b = ap (λ (x : ℕ). refused (OffForm x)) (omega arith)
   word-cut (x ∷ xs) ys b = rw (eq-eqb x x refl) (word-cut xs ys b)
 
   pub number-cut : (least limit : ℕ) (p : ℕ → Part) → numeral least limit p [] l T k ≡ refused (OffForm l)
@@ -35,7 +36,7 @@ module _ (l : ℕ) (T : Tables) (k : Rest) where
 -- after a line end the next line is told
 pub line-cut : (b : ℕ) (bs : List ℕ) (l : ℕ) (T : Tables) (k : Rest) → (endOfLine ▸ lit (b ∷ bs)) (lineEnd ∷ []) l T k ≡ refused (OffForm (l + 1))
 unfolding endOfLine lit _▸_ demand
-line-cut b bs l T k = refl
+line-cut b bs l T k = ap (λ (x : ℕ). refused (OffForm x)) (omega arith)
 
 pub empty-text : verdict [] ≡ refused (OffForm 1)
 unfolding verdict taskLines editionLine textLine lit _▸_

@@ -13,7 +13,7 @@ use Rattle.tables.specs.Layout.{Tables, factsRoom, domAt, domPlace, initPlace, 
 use Rattle.grammar.specs.Fields.{edition, slash}
 use Rattle.meaning.specs.Limits.{mostVars, mostValues, mostOps, mostMaps}
 use Rattle.grammar.specs.Grammar.{accepted, Rest, Part, _▸_, nothing, ask, keep, fits, numeral, textLine, textLines, factList, withCounts, putCost, editionLine, varsLine}
-use Rattle.grammar.specs.Grammar.{domLine, initLine, goalLine, operatorFields, opsLine, opLines, mapClasses, mapsLine, mapLines, amounts, shareLines, taskLines, theEnd, noTask, verdict}
+use Rattle.grammar.specs.Grammar.{domLine, initLine, goalLine, operatorFields, opsLine, opLines, mapClasses, mapsLine, mapLines, amounts, shareLines, taskLines, settled, theEnd, noTask, verdict}
 use Rattle.grammar.specs.Spelling.{digits, joined, numbers, someFacts, keyed, stacked, opText, mapText, shareText, spelled, changed, rowPut, factRow}
 use Rattle.tables.specs.Lines.{lineOfVars, lineOfDom, lineOfInit, lineOfGoal, lineOfOps}
 use Rattle.grammar.proofs.SpellTask.{linesText, spelled-lines}
@@ -100,7 +100,7 @@ all-shares-back O M l T a b t k W h =
     (ap₂ (λ (x y : ℕ). textLines (λ m. textLine "share=" (amounts m x)) y 0 t l T k) (sym a) (sym b) ∙ h)
 
 end-back : (t : List ℕ) (l : ℕ) (T W : Tables) → theEnd t l T ≡ accepted W → t ≡ []
-unfolding theEnd
+unfolding theEnd settled
 end-back [] l T W h = refl
 end-back (b ∷ t) l T W h = not-refused h
 

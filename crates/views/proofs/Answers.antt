@@ -57,7 +57,7 @@ module _ (T : Task) (ok : Valid T) (m : ℕ) (lm : m < T .maps) where
   pub away-only : (s : State) (v w : Cost) → IsState (T .sas) s → IsAway T s m v → IsAway T s m w → v ≡ w
   away-only s v w h A B = distance-unique T ok m lm (α (T .sas) (view T m) s) v w (image-inside s h) A B
 
-summed-same : (d e : ℕ → Cost) (k : ℕ) → ((m : ℕ) → m < k → d m ≡ e m) → summed d k ≡ summed e k
+pub summed-same : (d e : ℕ → Cost) (k : ℕ) → ((m : ℕ) → m < k → d m ≡ e m) → summed d k ≡ summed e k
 summed-same d e zero h = refl
 summed-same d e (suc k) h = ap₂ join (summed-same d e k (λ m l. h m (omega arith))) (h k (le-refl (suc k)))
 
