@@ -72,7 +72,7 @@ typedef uint64_t desk_word;
 
 enum {
     DESK_DONE = 0,       /* done; with the number that the function tells, or 0 */
-    DESK_NONE = 128,     /* none: no sequence leads to the goal in the view, or in any view */
+    DESK_NONE = 128,     /* none: no sequence leads to the goal, in the view or in one of the views */
     DESK_REPEATED = 129, /* an offer that was accepted before; nothing moved */
     DESK_FIRST = 130,    /* the first list */
     DESK_SECOND = 131,   /* the second list */
@@ -114,7 +114,8 @@ desk_word desk_distance_at(uint32_t vars, uint32_t ops, uint32_t maps, const uin
                            uint32_t map, const uint8_t *state, size_t state_len);
 
 /* The summed BOUND of a state: at most the cost of every sequence from there to the goal, of any length. DESK_DONE
- * with the sum in seconds; DESK_NONE if every map says none, and then there is no such sequence.
+ * with the sum of the maps' distances in seconds; DESK_NONE exactly if at least one map says none, and then there is no
+ * such sequence. So if some sequence leads to the goal, every map says a number.
  * Refusals: faulty tables, 8 (state too short), 9. */
 desk_word desk_bound(uint32_t vars, uint32_t ops, uint32_t maps, const uint8_t *facts, size_t facts_len,
                      const uint32_t *costs, size_t costs_len, const uint32_t *shares, size_t shares_len,

@@ -126,7 +126,7 @@ static void distances(void)
 
 static void bounds(void)
 {
-    const uint8_t ahead[3] = {1, 0, 0}, outside[3] = {0, 3, 9};
+    const uint8_t ahead[3] = {1, 0, 0}, near[3] = {0, 2, 2}, outside[3] = {0, 3, 9};
     EXPECT(desk_bound(TASK, init, 3) == word(DESK_DONE, 4));
     EXPECT(desk_bound(TASK, ahead, 3) == word(DESK_DONE, 3));
     EXPECT(desk_bound(TASK, outside, 3) == word(9, 1));
@@ -136,6 +136,11 @@ static void bounds(void)
     /* with no operators only a goal has a distance; the shares of what isn't there aren't read */
     EXPECT(desk_bound(3, 0, 3, TABLES, init, 3) == word(DESK_NONE, 0));
     EXPECT(desk_distance_at(3, 0, 3, TABLES, 0, init, 3) == word(DESK_NONE, 0));
+    /* with the first operator alone map 0 has a way and the others have none, which settles the sum */
+    EXPECT(desk_distance_at(3, 1, 3, TABLES, 0, init, 3) == word(DESK_DONE, 1));
+    EXPECT(desk_distance_at(3, 1, 3, TABLES, 1, init, 3) == word(DESK_NONE, 0));
+    EXPECT(desk_bound(3, 1, 3, TABLES, init, 3) == word(DESK_NONE, 0));
+    EXPECT(desk_bound(3, 1, 3, TABLES, near, 3) == word(DESK_DONE, 1));
 }
 
 static void sequences(void)

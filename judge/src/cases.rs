@@ -160,7 +160,7 @@ fn a_by_entries() -> Vec<Vector> {
         a("case A: neither").lend(FIRST, &[0]).lend(SECOND, &[4]).lines("C; P"),
         Vector::new("case D: bound 8").text(d().as_bytes()).lines("R; B; D 0; D 1; D 2"),
         Vector::new("case D: cost 8").text(d().as_bytes()).lines("R").lend(FIRST, &[0, 1, 2, 3]).lines("J; C; P"),
-        Vector::new("case E: distances 1 and none, sum 1").text(E.as_bytes()).lines("R; A 0; A 1; B; D 0; D 1"),
+        Vector::new("case E: distances 1 and none, sum none").text(E.as_bytes()).lines("R; A 0; A 1; B; D 0; D 1"),
         Vector::new("case E: every map says none").text(E.as_bytes()).lines("R; n 2 0 2; K; A 0; A 1; B; D 0; D 1"),
         Vector::new("case F: keeping the package gives 2").task(&f(false)).lines("s 4 0 0 1 1; A 0; B; D 0"),
         Vector::new("case F: keeping package and truck A gives 2").task(&f(true)).lines("s 4 0 0 1 1; A 0; B; D 0"),

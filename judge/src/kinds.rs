@@ -8,6 +8,7 @@ use crate::rng::Rng;
 use crate::rows;
 use crate::run::Run;
 use crate::script::*;
+use crate::sums;
 use crate::tables::counts_of;
 use crate::task::{State, Task};
 
@@ -40,18 +41,18 @@ const KINDS: [Kind; 24] = [
     shares_at_cost,
 ];
 
-/// The kinds over a row of records.
-const ROW_KINDS: [Kind; 2] = [rows::row_of_a_task, rows::damaged_row];
+/// The kinds over a row of records, and over sums of which some terms are none.
+const LATER_KINDS: [Kind; 3] = [rows::row_of_a_task, rows::damaged_row, sums::mixed];
 
 /// The i-th vector by chance: the kinds take turns.
 pub fn by_chance(rng: &mut Rng, i: usize) -> Vector {
     KINDS[i % KINDS.len()](rng)
 }
 
-/// The same with the kinds over a row of records, which come after the others.
+/// The same with the later kinds, which come after the others.
 pub fn any_by_chance(rng: &mut Rng, i: usize) -> Vector {
-    let turn = i % (KINDS.len() + ROW_KINDS.len());
-    KINDS.iter().chain(&ROW_KINDS).nth(turn).unwrap()(rng)
+    let turn = i % (KINDS.len() + LATER_KINDS.len());
+    KINDS.iter().chain(&LATER_KINDS).nth(turn).unwrap()(rng)
 }
 
 fn valid(rng: &mut Rng, name: &str, size: Size, all_maps: bool) -> Vector {

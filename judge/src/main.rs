@@ -15,6 +15,7 @@ mod run;
 mod script;
 mod sequence;
 mod space;
+mod sums;
 mod tables;
 mod task;
 #[cfg(test)]
@@ -37,7 +38,7 @@ fn input() -> Vec<u8> {
     bytes
 }
 
-/// The cases by name, then vectors by chance, as many as are asked for; then the small texts, and the rows of records last.
+/// The cases by name, then vectors by chance, as many as are asked for; then the small texts, the rows of records, and the sums last.
 fn vectors(seed: u64, count: usize) -> Vec<u8> {
     let mut vectors = cases::bench();
     vectors.extend(edges::edges());
@@ -49,6 +50,7 @@ fn vectors(seed: u64, count: usize) -> Vec<u8> {
     vectors.truncate(count);
     vectors.push(edits::small());
     vectors.extend(rows::rows(seed));
+    vectors.extend(sums::sums(seed));
     builder::script_of(&vectors)
 }
 

@@ -125,13 +125,9 @@ pub fn distance_at(task: &Task, m: usize, state: &State) -> Option<u64> {
     distances(task, m).least[image(task, m, state)]
 }
 
-/// A map with none adds 0; the sum is none exactly if every map says none.
+/// Source document 000: the sum is infinite, which is none here, if any term is.
 pub fn bound(task: &Task, state: &State) -> Option<u64> {
-    let terms: Vec<Option<u64>> = (0..task.maps.len()).map(|m| distance_at(task, m, state)).collect();
-    if terms.iter().all(Option::is_none) {
-        return None;
-    }
-    Some(terms.iter().flatten().sum())
+    (0..task.maps.len()).map(|m| distance_at(task, m, state)).sum()
 }
 
 /// A distance as a table holds it.

@@ -77,8 +77,8 @@ fn case_d_bound_8_and_cost_8() {
 }
 
 #[test]
-fn case_e_adds_nothing_for_none() {
-    assert_eq!(answers(E, "A 0; A 1; B"), ["of 1", "none", "of 1"]);
+fn case_e_is_settled_by_the_map_that_says_none() {
+    assert_eq!(answers(E, "A 0; A 1; B"), ["of 1", "none", "none"]);
 }
 
 #[test]
@@ -103,7 +103,7 @@ fn single_lines_of_the_bench() {
 fn the_desk_program_on_the_bench() {
     assert_eq!(desk::program(A.as_bytes()), "bound=4\nmap=1\nmap=2\nmap=1\n");
     assert_eq!(desk::program(c().as_bytes()), "refused=6\nplace=8\n");
-    assert_eq!(desk::program(E.as_bytes()), "bound=1\nmap=1\nmap=none\n");
+    assert_eq!(desk::program(E.as_bytes()), "bound=none\nmap=1\nmap=none\n");
 }
 
 #[test]
@@ -147,6 +147,32 @@ fn no_sequence_costs_less_than_the_bound() {
             assert_eq!(run.columns.iter().map(|column| u64::from(*column)).sum::<u64>(), cost);
         }
     }
+}
+
+/// The task with one map that keeps every value apart, with full costs: its distance is the least cost of any sequence.
+fn kept_apart(task: &Task) -> Task {
+    let maps = vec![task.dom.iter().map(|values| (0..*values).collect()).collect()];
+    Task { maps, shares: vec![task.ops.iter().map(|op| op.cost).collect()], ..task.clone() }
+}
+
+/// So where some sequence reaches the goal, every map says a number.
+#[test]
+fn the_sum_is_at_most_the_least_cost_and_none_only_where_there_is_no_sequence() {
+    let mut rng = Rng::new(4);
+    let (mut reached, mut settled) = (0, 0);
+    for task in some_tasks(4, 400, &[random::TINY, random::SMALL]) {
+        let whole = kept_apart(&task);
+        for _ in 0..5 {
+            let at = random::state(&mut rng, &task.dom);
+            let sum = space::bound(&task, &at);
+            if let Some(cost) = space::distance_at(&whole, 0, &at) {
+                assert!(sum.unwrap() <= cost);
+                reached += 1;
+            }
+            settled += usize::from(sum.is_none());
+        }
+    }
+    assert!(reached > 1_000 && settled > 400, "{} and {}", reached, settled);
 }
 
 /// The first fault of tables place by place, without their text.

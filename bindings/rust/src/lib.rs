@@ -167,7 +167,7 @@ impl Task {
         seconds(ffi::distance_at(self.lent(), map.0, &state.0))
     }
 
-    /// The summed bound of a state: at most the cost of every sequence from there to the goal. None: there is no such sequence.
+    /// The summed bound of a state: at most the cost of every sequence from there to the goal. None exactly if at least one map says none: then there is no such sequence.
     pub fn bound(&self, state: &State) -> Result<Option<Seconds>, Refusal> {
         seconds(ffi::bound(self.lent(), &state.0))
     }

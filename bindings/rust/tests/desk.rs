@@ -116,7 +116,8 @@ fn distances_and_bounds() {
     let e = task(E);
     assert_eq!(e.distance_at(Map(0), &e.initial()), Ok(Some(Seconds(1))));
     assert_eq!(e.distance_at(Map(1), &e.initial()), Ok(None));
-    assert_eq!(e.bound(&e.initial()), Ok(Some(Seconds(1))));
+    assert_eq!(e.bound(&e.initial()), Ok(None));
+    assert_eq!(e.bound(&State::of(&[0, 1])), Ok(Some(Seconds(1))));
     assert_eq!(e.distances(Map(1), &mut table), Ok(Rounds(1)));
     assert_eq!(table[..2], [NO_DISTANCE, 0]);
     let closed = task(&E.replace("goal=0:1,1:1", "goal=1:1").replace("map=0,1/0,0", "map=0,1/0,1"));

@@ -11,13 +11,13 @@ use Rattle.meaning.specs.Views.{α, abstractStates, viewGraph}
 use Rattle.meaning.specs.Split.{view, Valid}
 use Rattle.meaning.specs.Bound.{distance, summed, away}
 use Rattle.meaning.proofs.Induced.{view-closed, α-below}
+use Rattle.meaning.proofs.Sums.{summed-same}
 use Rattle.meaning.proofs.Bounds.{view-onto}
 use Rattle.meaning.proofs.Theorems.{computed-rounds-exactly-induced}
 use Rattle.tables.specs.Layout.{Tables}
 use Rattle.tables.specs.Task.{sasOf, taskOf, stateOf}
 use Rattle.tables.specs.Steps.{copied}
 use Rattle.sweep.specs.Said.{said}
-use Rattle.views.proofs.Answers.{summed-same}
 use Rattle.sequences.specs.Judging.{limited}
 use Rattle.ledger.specs.declared.Run.{Run}
 use Rattle.ledger.specs.Ledger.{fresh}

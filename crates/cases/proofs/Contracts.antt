@@ -23,9 +23,9 @@ use Rattle.scan.proofs.Validity.{clean-valid, state-clean}
 use Rattle.sweep.specs.Said.{said}
 use Rattle.views.specs.declared.DistancesAnswer.{DistancesAnswer}
 use Rattle.views.specs.declared.DistancesAnswer.the-variants.{Rounds}
-use Rattle.views.specs.Entries.{askedFault, distancesFault, distanceFault, DistancesOf, RoundsOf, DistancesGiven, distanceSaid, IsAway, DistanceGiven, boundSaid, IsBound, BoundGiven}
+use Rattle.views.specs.Entries.{askedFault, distancesFault, distanceFault, DistancesOf, RoundsOf, DistancesGiven, distanceSaid, DistanceGiven, boundSaid, BoundGiven}
 use Rattle.views.proofs.Judging.{by-clean}
-use Rattle.views.proofs.Answers.{away-is, bound-is}
+use Rattle.views.proofs.Answered.{distance-answered, bound-answered}
 use Rattle.views.proofs.Promises.{Outcome, distances-unique, distance-at-unique, bound-unique}
 use Rattle.sequences.specs.Judging.{limited, judgedOf}
 use Rattle.ledger.specs.Ledger.{fresh, started, begun}
@@ -116,14 +116,12 @@ module _ (t : Tables) (clean : tablesFault t ≡ Clean) where
   pub distance-exactly : (m : ℕ) (s : List ℕ) (v : Cost) → m < t .counts .maps → Inside (taskOf t) s → away (taskOf t) (stateOf s) m ≡ v
       → ClaimHolds t (distanceAt m s v)
   distance-exactly m s v l h e =
-      let there : IsAway (taskOf t) (stateOf s) m v = subst (IsAway (taskOf t) (stateOf s) m) e (away-is (taskOf t) ok m l (stateOf s) (h .1)) in
-      let met : DistanceGiven t m s (distanceSaid v) = by-clean (distanceFault t m s) _ _ (distance-clean m s l h) (v, refl, there) in
+      let met : DistanceGiven t m s (distanceSaid v) = distance-answered t s m v .1 (distance-clean m s l h, e) in
       λ answer. ((λ given. distance-at-unique t m s answer (distanceSaid v) given met), (λ p. subst (DistanceGiven t m s) (sym p) met))
 
   pub bound-exactly : (s : List ℕ) (v : Cost) → Inside (taskOf t) s → bound (taskOf t) (stateOf s) ≡ v → ClaimHolds t (boundAt s v)
   bound-exactly s v h e =
-      let there : IsBound (taskOf t) (stateOf s) v = subst (IsBound (taskOf t) (stateOf s)) e (bound-is (taskOf t) ok (stateOf s) (h .1)) in
-      let met : BoundGiven t s (boundSaid v) = by-clean (inputFault t s) _ _ (inside-clean s h) (v, refl, there) in
+      let met : BoundGiven t s (boundSaid v) = bound-answered t s v .1 (inside-clean s h, e) in
       λ answer. ((λ given. bound-unique t s answer (boundSaid v) given met), (λ p. subst (BoundGiven t s) (sym p) met))
 
   -- ---- a sequence, and the start of a run

@@ -1,4 +1,4 @@
--- The starred cases of document 01, from text to answers.
+-- The starred cases of document 01, from text to answers, with the sum of document 02.
 use mathlib.Core.List.{List, [], _∷_}
 use Prim.Native.String.{String, _++_}
 use Rattle.graph.specs.Cost.{none, fin}
@@ -27,7 +27,8 @@ D =
     headA ++ "op=2;0:0;0:1\nop=2;1:0,2:0;1:1,2:1\nop=2;1:1;1:2\nop=2;2:1;2:2\n" ++ mapsA
     ++ "share=2,0,0,0\nshare=0,1,2,0\nshare=0,1,0,2\n"
 
--- E: two variables of two values, one operator of cost 1 from 0:0 to 0:1; maps keep variable 0 and variable 1, shares 1 and 0
+-- E: two variables of two values, one operator of cost 1 from 0:0 to 0:1; maps keep variable 0 and variable 1, shares 1 and 0. The second has no way from
+-- state 0,0, which settles the sum there: none, as document 02 has it
 abbrev pub E : String
 E =
     "edition=1\nvars=2\ndom=2,2\ninit=0,0\ngoal=0:1,1:1\nops=1\nop=1;0:0;0:1\nmaps=2\nmap=0,1/0,0\nmap=0,0/0,1\nshare=1\nshare=0\n"
@@ -70,7 +71,7 @@ table =
           ∷ distances 1 (none ∷ fin 0 ∷ []) 1
           ∷ distanceAt 0 (0 ∷ 0 ∷ []) (fin 1)
           ∷ distanceAt 1 (0 ∷ 0 ∷ []) none
-          ∷ boundAt (0 ∷ 0 ∷ []) (fin 1)
+          ∷ boundAt (0 ∷ 0 ∷ []) none
           ∷ [];
     }
     ∷ []

@@ -74,7 +74,8 @@ pub fn distance_at(
     views::distance_at(c, facts, costs, shares, map, state)
 }
 
-// The summed BOUND of a state: at most the cost of every sequence from there to the goal, of any length; none only where there is no such sequence.
+// The summed BOUND of a state: at most the cost of every sequence from there to the goal, of any length; none exactly if some map
+// says none, and then there is no such sequence.
 // `bound-unique`.
 pub fn bound(c: Counts, facts: &[u8], costs: &[u32], shares: &[u32], state: &[u8]) -> BoundAnswer
     ensures { λ r. ⌜ BoundGiven (lent c facts costs shares) (was state) r ⌝ }

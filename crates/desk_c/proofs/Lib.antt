@@ -2,3 +2,4 @@ pub mod Handed
 pub mod Unique
 pub mod Own
 pub mod Reading
+pub mod Bounding

@@ -114,7 +114,7 @@ pub extern "C" fn desk_distance_at(
     distance_word(desk::distance_at(c, facts, costs, shares, map, state))
 }
 
-// The summed BOUND of a state, or none.
+// The summed BOUND of a state, or none: exactly if some map says none.
 // `bound-unique`.
 #[no_mangle]
 pub extern "C" fn desk_bound(

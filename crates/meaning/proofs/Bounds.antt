@@ -5,15 +5,15 @@ use mathlib.Core.List.{List, [], _∷_}
 use Prim.Native.Nat.{ℕ, zero, suc, _≤_, _<_}
 use native.Mathlib.Nat.{le-of-suc-le-suc, not-suc-le-zero, eq-or-lt-of-le}
 use native.Mathlib.Omega.{arith}
-use Rattle.graph.specs.Cost.{Cost, none, fin, _⊑_}
-use Rattle.graph.proofs.Costs.{⊑-mono}
+use Rattle.graph.specs.Cost.{none, fin, _⊑_}
+use Rattle.graph.proofs.Costs.{⊑-mono, ⊑-fin, ⊑-none}
 use Rattle.meaning.specs.Sas.{State, Sas, IsState, after, Runs, end, Passes, paid, Proper}
 use Rattle.meaning.specs.Limits.{mostCost}
 use Rattle.meaning.specs.Views.{abstractStates, Onto}
 use Rattle.meaning.specs.Split.{Task, countOf, sum, view, Valid}
-use Rattle.meaning.specs.Bound.{distance, away, summed, bound}
+use Rattle.meaning.specs.Bound.{distance, away, bound}
 use Rattle.meaning.proofs.Space.{after-state}
-use Rattle.meaning.proofs.Sums.{sum-add, sum-zero, summed-below}
+use Rattle.meaning.proofs.Sums.{sum-add, sum-zero, summed-below, summed-none}
 use Rattle.meaning.proofs.Distances.{distance-below, distance-most}
 
 -- ---- the classes of a valid task
@@ -40,19 +40,24 @@ module _ (T : Task) (ok : Valid T) where
   away-below : (os : List ℕ) (s : State) → IsState (T .sas) s → Passes (T .sas) os s → (m : ℕ) → m < T .maps → away T s m ⊑ paid (T .share m) os
   away-below os s h p m l = distance-below (T .sas) (view T m) (ok .proper) (view-onto m l) os s h p
 
+  -- where some sequence reaches the goal, every map says a number, at most what the map is paid for it
+  pub reached-so-number : (os : List ℕ) (s : State) → IsState (T .sas) s → Passes (T .sas) os s
+      → (m : ℕ) → m < T .maps → (d : ℕ) × (away T s m ≡ fin d) × (d ≤ paid (T .share m) os)
+  reached-so-number os s h p m l = ⊑-fin (away T s m) (paid (T .share m) os) (away-below os s h p m l)
+
+  -- so one map that says none is enough: there is no such sequence
+  pub one-none-so-none : (s : State) → IsState (T .sas) s → (m : ℕ) → m < T .maps → away T s m ≡ none → (os : List ℕ) → Passes (T .sas) os s → ⊥
+  one-none-so-none s h m l e os p = ⊑-none (away T s m) e (paid (T .share m) os) (away-below os s h p m l)
+
   -- DEMAND 3: the bound is a number at most the cost of every sequence that reaches the goal
   pub admissible : (os : List ℕ) (s : State) → IsState (T .sas) s → Passes (T .sas) os s → bound T s ⊑ paid (T .sas .cost) os
   admissible os s h p =
-      let shares : ℕ = sum (λ m. paid (T .share m) os) (T .maps) in
-      ⊑-mono (bound T s) shares (paid (T .sas .cost) os) (some (T .maps) (ok .maps .0) (away-below os s h p)) (paid-split os s (p .0))
-    where
-      some : (k : ℕ) → 1 ≤ k → ((m : ℕ) → m < k → away T s m ⊑ paid (T .share m) os) → summed (away T s) k ⊑ sum (λ m. paid (T .share m) os) k
-      some zero l g = absurd (not-suc-le-zero l)
-      some (suc k) l g = summed-below (away T s) (λ m. paid (T .share m) os) k g
+      let shares : ℕ → ℕ = λ m. paid (T .share m) os in
+      ⊑-mono (bound T s) (sum shares (T .maps)) (paid (T .sas .cost) os) (summed-below (away T s) shares (T .maps) (away-below os s h p)) (paid-split os s (p .0))
 
-  -- where it says none, there is no such sequence
+  -- where it says none, there is no such sequence, whichever map said it
   pub none-so-none : (s : State) → IsState (T .sas) s → bound T s ≡ none → (os : List ℕ) → Passes (T .sas) os s → ⊥
-  none-so-none s h e os p = subst (λ (v : Cost). v ⊑ paid (T .sas .cost) os) e (admissible os s h p)
+  none-so-none s h e = let t = summed-none (away T s) (T .maps) e in one-none-so-none s h (t .0) (t .1) (t .2)
 
   -- the longest distance of document 01
   pub away-most : (m : ℕ) → m < T .maps → (a d : ℕ) → a < abstractStates (T .sas) (view T m) → distance (T .sas) (view T m) a ≡ fin d → d ≤ 4095000000

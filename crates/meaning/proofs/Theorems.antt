@@ -1,6 +1,6 @@
 -- What holds of every valid task and split, every state and every sequence of any length, each with its statement alone;
 -- the roads are the files that this one uses. Assumes nothing.
-use mathlib.Core.Path.{_≡_}
+use mathlib.Core.Path.{_≡_, sym, ap, _∙_}
 use mathlib.Core.Logic.{_↔_}
 use mathlib.Core.Bool.{true}
 use mathlib.Core.List.{List}
@@ -125,13 +125,13 @@ module _ (T : Task) (ok : Valid T) (m : ℕ) (lm : m < T .maps) where
 
 -- ---- the summed bound
 
--- the sum is none exactly if every map says none
-pub sum-none-exactly-if-all : (d : ℕ → Cost) (k : ℕ) → (summed d k ≡ none) ↔ ((m : ℕ) → m < k → d m ≡ none)
-sum-none-exactly-if-all d k = (sums.summed-none d k, sums.none-summed d k)
+-- the sum is none exactly if some map says none
+pub sum-none-exactly-if-some : (d : ℕ → Cost) (k : ℕ) → (summed d k ≡ none) ↔ ((m : ℕ) × (m < k) × (d m ≡ none))
+sum-none-exactly-if-some d k = (sums.summed-none d k, λ t. sums.none-summed d k (t .0) (t .1) (t .2))
 
--- else it is the sum of what the maps say, a map with none adding 0
-pub sum-is-sum : (d : ℕ → Cost) (k x : ℕ) → summed d k ≡ fin x → x ≡ sum (λ m. sums.worth (d m)) k
-sum-is-sum d k x e = sums.summed-fin d k x e
+-- it is a number exactly if every map says one, and then their sum
+pub sum-number-exactly-if-all : (d : ℕ → Cost) (k x : ℕ) → (summed d k ≡ fin x) ↔ ((c : ℕ → ℕ) × ((m : ℕ) → m < k → d m ≡ fin (c m)) × (x ≡ sum c k))
+sum-number-exactly-if-all d k x = (sums.summed-number d k x, λ t. sums.numbers-summed d (t .0) k (t .1) ∙ ap fin (sym (t .2)))
 
 -- for a valid task and split the bound is at most the cost of every sequence to the goal
 pub bound-at-most-cost : (T : Task) → Valid T → (os : List ℕ) (s : State) → IsState (T .sas) s → Passes (T .sas) os s
@@ -142,3 +142,13 @@ bound-at-most-cost T ok os s h p = bounds.admissible T ok os s h p
 pub none-so-no-sequence : (T : Task) → Valid T → (s : State) → IsState (T .sas) s → bound T s ≡ none
     → (os : List ℕ) → Passes (T .sas) os s → ⊥
 none-so-no-sequence T ok s h e os p = bounds.none-so-none T ok s h e os p
+
+-- nor is there where one map says none
+pub one-none-so-no-sequence : (T : Task) → Valid T → (s : State) → IsState (T .sas) s → (m : ℕ) → m < T .maps → away T s m ≡ none
+    → (os : List ℕ) → Passes (T .sas) os s → ⊥
+one-none-so-no-sequence T ok s h m l e os p = bounds.one-none-so-none T ok s h m l e os p
+
+-- if some sequence reaches the goal, every map says a number, at most what the map is paid for the sequence
+pub sequence-so-every-number : (T : Task) → Valid T → (os : List ℕ) (s : State) → IsState (T .sas) s → Passes (T .sas) os s
+    → (m : ℕ) → m < T .maps → (d : ℕ) × (away T s m ≡ fin d) × (d ≤ paid (T .share m) os)
+sequence-so-every-number T ok os s h p m l = bounds.reached-so-number T ok os s h p m l

@@ -1,4 +1,4 @@
--- The summed bound of a state, as document 01 has it.
+-- The summed bound of a state: the sum of 000, none if any term is.
 use Prim.Native.Nat.{ℕ, zero, suc, _+_}
 use Rattle.graph.specs.Cost.{Cost, none, fin}
 use Rattle.graph.specs.Least.{least}
@@ -15,14 +15,15 @@ distance S W a = least (viewGraph S W) (abstractStates S W) a
 abbrev pub away : Task → State → ℕ → Cost
 away T s m = distance (T .sas) (view T m) (α (T .sas) (view T m) s)
 
--- a map with none adds 0, and the sum is none exactly if every map says none
+-- one term more: none settles it, two numbers are added
 abbrev pub join : Cost → Cost → Cost
-join none w = w
-join (fin a) none = fin a
+join none w = none
+join (fin a) none = none
 join (fin a) (fin b) = fin (a + b)
 
+-- the sum of what the first k maps say: none exactly if one of them says none, and else the sum of their numbers
 abbrev pub summed : (ℕ → Cost) → ℕ → Cost
-summed d zero = none
+summed d zero = fin 0
 summed d (suc k) = join (summed d k) (d k)
 
 -- the summed bound of a state

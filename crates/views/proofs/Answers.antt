@@ -1,9 +1,8 @@
 -- Of an accepted task: there is no second answer, and what is promised is so; for distances, the distance of a state, its bound.
 -- Assumes nothing.
-use mathlib.Core.Path.{_≡_, refl, sym, ap₂, _∙_, subst}
+use mathlib.Core.Path.{_≡_, refl, sym, _∙_, subst}
 use mathlib.Core.List.{List}
-use Prim.Native.Nat.{ℕ, zero, suc, _<_}
-use native.Mathlib.Nat.{le-refl}
+use Prim.Native.Nat.{ℕ, _<_}
 use native.Mathlib.Decide.{decLt}
 use native.Mathlib.Omega.{arith}
 use lib.ListN.{getD}
@@ -12,8 +11,9 @@ use Rattle.graph.specs.Cost.{Cost}
 use Rattle.meaning.specs.Sas.{State, IsState}
 use Rattle.meaning.specs.Views.{α, abstractStates, IsDistanceAt, viewGraph}
 use Rattle.meaning.specs.Split.{Task, view, Valid}
-use Rattle.meaning.specs.Bound.{away, join, summed, bound}
+use Rattle.meaning.specs.Bound.{away, bound}
 use Rattle.meaning.proofs.Induced.{α-below}
+use Rattle.meaning.proofs.Sums.{summed-same}
 use Rattle.meaning.proofs.Bounds.{view-onto}
 use Rattle.meaning.proofs.Theorems.{distance-is-least, distance-unique, computed-rounds-exactly-induced, round-holds-distances}
 use Rattle.sweep.specs.Said.{saidAt}
@@ -56,10 +56,6 @@ module _ (T : Task) (ok : Valid T) (m : ℕ) (lm : m < T .maps) where
 
   pub away-only : (s : State) (v w : Cost) → IsState (T .sas) s → IsAway T s m v → IsAway T s m w → v ≡ w
   away-only s v w h A B = distance-unique T ok m lm (α (T .sas) (view T m) s) v w (image-inside s h) A B
-
-pub summed-same : (d e : ℕ → Cost) (k : ℕ) → ((m : ℕ) → m < k → d m ≡ e m) → summed d k ≡ summed e k
-summed-same d e zero h = refl
-summed-same d e (suc k) h = ap₂ join (summed-same d e k (λ m l. h m (omega arith))) (h k (le-refl (suc k)))
 
 module _ (T : Task) (ok : Valid T) (s : State) (h : IsState (T .sas) s) where
   -- the summed bound

@@ -88,7 +88,7 @@ fn as_distance(distance: u32) -> DistanceAnswer
 fn as_bound(sum: Sum) -> BoundAnswer
     ensures { λ r. ⌜ r ≡ boundSaid (sumSaid sum) ⌝ }
 {
-    if sum.any {
+    if sum.all {
         BoundAnswer::Of(sum.total)
     } else {
         BoundAnswer::Nowhere

@@ -13,45 +13,42 @@ use sweep::maps::away_of;
 use sweep::rounds::NO_COST;
 use tables::Counts;
 
-// A sum under way: whether some map said a number, and their total.
+// A sum under way: whether all maps so far said a number, and then their total.
 pub struct Sum {
-    pub any: bool,
+    pub all: bool,
     pub total: u64,
 }
 
-// With one map's distance more; a map with none adds 0.
+// With one map's distance more; none settles it.
 fn with_distance(sum: Sum, distance: u32) -> Sum
     requires { ⌜ sum .total ≤ mostTotal ⌝ }
     ensures { λ r. ⌜ (sumSaid r ≡ join (sumSaid sum) (said distance)) × (r .total ≤ sum .total + NONE) ⌝ }
 {
     if distance == NO_COST {
-        return sum;
-    }
-    if sum.any {
         Sum {
-            any: true,
-            total: sum.total + distance as u64,
+            all: false,
+            total: sum.total,
         }
     } else {
         Sum {
-            any: true,
-            total: distance as u64,
+            all: sum.all,
+            total: sum.total + distance as u64,
         }
     }
 }
 
-// The sum over all maps.
+// The sum over all maps; once a map says none, those after it are not looked at.
 pub fn sum_of(c: Counts, facts: &[u8], shares: &[u32], s: &[u8]) -> Sum
     requires { ⌜ Valid (unpriced c (now facts)) × ((m : ℕ) → m < c .maps → SharesSmall c (now shares) m) × IsState (unpriced c (now facts) .sas) (stateOf (now s)) ⌝ }
     ensures { λ r. ⌜ sumSaid r ≡ bound (taskOf (tables c (was facts) [] (was shares))) (stateOf (was s)) ⌝ }
 {
     let maps = c.maps;
     let mut sum = Sum {
-        any: false,
+        all: true,
         total: 0,
     };
     let mut m = 0u32;
-    while m < maps {
+    while m < maps && sum.all {
         sum = with_distance(sum, away_of(c, facts, shares, m, s));
         m += 1;
     }

@@ -1,15 +1,15 @@
 -- What the words ask of the answers: a bound that is told fits above its kind, and an opening part has at most as many steps as a sequence may have.
 -- Assumes nothing.
-use mathlib.Core.Path.{_≡_, refl, subst}
+use mathlib.Core.Path.{_≡_, refl, sym, subst}
 use mathlib.Core.List.{List}
-use Prim.Native.Nat.{ℕ, zero, suc, _+_, _*_, _≤_, _<_}
-use native.Mathlib.Nat.{le-refl}
+use Prim.Native.Nat.{ℕ, _*_, _≤_, _<_}
 use native.Mathlib.Omega.{arith}
 use Rattle.graph.specs.Cost.{Cost, none, fin}
-use Rattle.meaning.specs.Bound.{join, summed, away, bound}
+use Rattle.meaning.specs.Bound.{away, bound}
 use Rattle.meaning.specs.Sas.{State, IsState}
 use Rattle.meaning.specs.Views.{α}
 use Rattle.meaning.specs.Split.{Task, view, Valid}
+use Rattle.meaning.proofs.Sums.{sum-most, summed-number}
 use Rattle.meaning.proofs.Theorems.{distance-at-most}
 use Rattle.scan.specs.declared.Found.{Found}
 use Rattle.scan.specs.declared.Found.the-variants.{Clean, Fault}
@@ -30,34 +30,17 @@ use Rattle.words.specs.Words.{SumFits}
 
 -- ---- the bound
 
--- a cost that is a number is at most n
-abbrev Most : Cost → ℕ → Type 0
-Most none n = Unit {0}
-Most (fin d) n = d ≤ n
-
-join-most : (v w : Cost) (a b : ℕ) → Most v a → Most w b → Most (join v w) (a + b)
-join-most none none a b h g = tt
-join-most none (fin y) a b h g = omega arith
-join-most (fin x) none a b h g = omega arith
-join-most (fin x) (fin y) a b h g = omega arith
-
-summed-most : (d : ℕ → Cost) (n k : ℕ) → ((m : ℕ) → m < k → Most (d m) n) → Most (summed d k) (k * n)
-summed-most d n zero h = tt
-summed-most d n (suc k) h =
-    let j = join-most (summed d k) (d k) (k * n) n (summed-most d n k (λ m l. h m (omega arith))) (h k (le-refl (suc k))) in
-    subst (λ (x : ℕ). Most (summed d (suc k)) x) (omega arith) j
-
 -- the longest distance of a map, and at most 8 maps
-bound-most : (T : Task) → Valid T → (s : State) → IsState (T .sas) s → Most (bound T s) (T .maps * 4095000000)
-bound-most T ok s h = summed-most (away T s) 4095000000 (T .maps) (λ m l. at m l (away T s m) refl)
-  where
-    at : (m : ℕ) → m < T .maps → (v : Cost) → away T s m ≡ v → Most v 4095000000
-    at m l none e = tt
-    at m l (fin d) e = distance-at-most T ok m l (α (T .sas) (view T m) s) d (image-inside T ok m l s h) e
+bound-most : (T : Task) → Valid T → (s : State) → IsState (T .sas) s → (b : ℕ) → bound T s ≡ fin b → b ≤ T .maps * 4095000000
+bound-most T ok s h b e =
+    let c = summed-number (away T s) (T .maps) b e in
+    let each : (m : ℕ) → m < T .maps → c .0 m ≤ 4095000000 =
+    λ m l. distance-at-most T ok m l (α (T .sas) (view T m) s) (c .0 m) (image-inside T ok m l s h) (c .1 m l) in
+    subst (λ (x : ℕ). x ≤ T .maps * 4095000000) (sym (c .2)) (sum-most (c .0) 4095000000 (T .maps) each)
 
-said-fits : (v : Cost) (k : ℕ) → k ≤ 8 → Most v (k * 4095000000) → SumFits (boundSaid v)
+said-fits : (v : Cost) (k : ℕ) → k ≤ 8 → ((b : ℕ) → v ≡ fin b → b ≤ k * 4095000000) → SumFits (boundSaid v)
 said-fits none k l h = tt
-said-fits (fin b) k l h = omega arith
+said-fits (fin b) k l h = omega (arith, h b refl)
 
 pub sum-fits : (t : Tables) (s : List ℕ) (a : BoundAnswer) → BoundGiven t s a → SumFits a
 sum-fits t s a = at (inputFault t s) refl

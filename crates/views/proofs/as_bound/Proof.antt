@@ -1,4 +1,4 @@
--- `as_bound` meets its contract: whether some map said a number decides. Assumes nothing.
+-- `as_bound` meets its contract: whether every map said a number decides. Assumes nothing.
 use mathlib.Core.Path.{sym, ap}
 use Rattle.views.specs.Inside.Sums.{totalIf}
 use Rattle.views.specs.Entries.{boundSaid}

@@ -10,9 +10,9 @@ abbrev pub totalIf : Bool → ℕ → Cost
 totalIf true total = fin total
 totalIf false total = none
 
--- none while every map so far says none
+-- none once a map has said none
 abbrev pub sumSaid : Sum → Cost
-sumSaid s = totalIf (s .any) (s .total)
+sumSaid s = totalIf (s .all) (s .total)
 
 -- the most that the numbers of all maps come to
 abbrev pub mostTotal : ℕ

@@ -1,4 +1,4 @@
--- `sums::sum_of` meets its contract: the sum so far is that of the maps passed so far. Assumes nothing.
+-- `sums::sum_of` meets its contract: the sum so far is that of the maps passed so far, and one that is settled stays so. Assumes nothing.
 use borrow.Author.Needs.{needs}
 use Prim.Native.Nat.{ℕ, _*_, _≤_, _-_}
 use mathlib.Core.Path.{_≡_, refl, ap, _∙_}
@@ -9,7 +9,7 @@ use Rattle.meaning.specs.Bound.{away, summed}
 use Rattle.tables.specs.Task.{taskOf, tables, stateOf}
 use Rattle.sweep.specs.Said.{NONE}
 use Rattle.views.specs.Inside.Sums.{sumSaid}
-use Rattle.views.proofs.Summing.{sum-more}
+use Rattle.views.proofs.Summing.{sum-more, sum-settled}
 use Rattle.views.proofs.sums.sum_of.Statement.{statement}
 use Rattle.views.proofs.sums.sum_of.Tie as tie
 
@@ -26,29 +26,40 @@ said c = let a = c .before .before .before .before .args in away (taskOf (tables
 
 away-of-requires : tie.Need-away-of-requires Inv-loop μ-loop
 away-of-requires c κs =
-    let pre = c .before .before .before .before .before .pre in
-    (pre .0, c .loop-test .taken, pre .1 (c .before .loop .m) (c .loop-test .taken), pre .2)
+    let pre = c .before .before .before .before .before .before .pre in
+    let more = c .before .loop-test .taken in
+    (pre .0, more, pre .1 (c .before .before .loop .m) more, pre .2)
 
 with-distance-requires : tie.Need-with-distance-requires Inv-loop μ-loop
 with-distance-requires c κs =
-    let pre = c .before .before .before .before .before .before .pre in
-    omega (arith, c .before .before .loop .inv .1, c .before .loop-test .taken, pre .0 .maps .1)
+    let pre = c .before .before .before .before .before .before .before .pre in
+    omega (arith, c .before .before .before .loop .inv .1, c .before .before .loop-test .taken, pre .0 .maps .1)
 
 loop-again : tie.Need-loop-again Inv-loop μ-loop
 loop-again c =
-    let l = c .before .before .before .loop in
+    let at = c .before .before .before .before in
+    let l = at .loop in
     let one = c .before .away-of in
     let next = c .with-distance in (
-      omega (arith, c .before .before .loop-test .taken),
+      omega (arith, c .before .before .before .loop-test .taken),
       omega (arith, l .inv .1, next .ensures .1),
-      sum-more (said (c .before .before .before)) (l .m) (sumSaid (l .sum)) (sumSaid (next .result)) (one .result) (l .inv .2) (one .ensures) (next .ensures .0),
+      sum-more (said at) (l .m) (sumSaid (l .sum)) (sumSaid (next .result)) (one .result) (l .inv .2) (one .ensures) (next .ensures .0),
     )
 
+-- a map said none
 returns : tie.Need-returns Inv-loop μ-loop
 returns c =
-    let l = c .before .loop in
-    let e : l .m ≡ c .before .before .before .before .before .args .c .maps = omega (arith, l .inv .0, c .loop-test .left) in
-    l .inv .2 ∙ ap (summed (said (c .before))) e
+    let at = c .before .before in
+    let l = at .loop in
+    sum-settled (said at) (l .m) (at .before .before .before .before .args .c .maps) (l .sum .all) (l .sum .total) (l .inv .0) (c .if1 .left) (l .inv .2)
+
+-- no map is left
+returns-2 : tie.Need-returns-2 Inv-loop μ-loop
+returns-2 c =
+    let at = c .before in
+    let l = at .loop in
+    let e : l .m ≡ at .before .before .before .before .args .c .maps = omega (arith, l .inv .0, c .loop-test .left) in
+    l .inv .2 ∙ ap (summed (said at)) e
 
 pub sum-of-spec : {M : Type 1} → statement M
 sum-of-spec =
@@ -62,4 +73,5 @@ sum-of-spec =
     (λ c. search needs)
     (λ c. search needs)
     loop-again
-    returns)
+    returns
+    returns-2)
