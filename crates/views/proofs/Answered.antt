@@ -26,6 +26,19 @@ pub by-told : (g : Found) (refused : Refusal → Type 0) (accepted : Type 0) →
 by-told Clean refused accepted never p = (refl, p)
 by-told (Fault f) refused accepted never p = absurd (never f p)
 
+-- where one cost alone is so, an answer that is no refusal is that cost, and nothing was at fault; and that cost is answered
+answered : {A : Type 0} (g : Found) (said : Cost → A) (refused : Refusal → A) (Is : Cost → Type 0) (own : Cost)
+    → ((v w : Cost) → said v ≡ said w → v ≡ w) → ((v : Cost) (f : Refusal) → said v ≡ refused f → ⊥)
+    → (g ≡ Clean → Is own) → (g ≡ Clean → (v w : Cost) → Is v → Is w → v ≡ w)
+    → (v : Cost) → ByFault g (λ f. said v ≡ refused f) ((w : Cost) × (said v ≡ said w) × Is w) ↔ ((g ≡ Clean) × (own ≡ v))
+answered g said refused Is own told never is only v = (
+  (λ given.
+      let p = by-told g _ _ (never v) given in
+      let q = p .1 in
+      (p .0, only (p .0) own (q .0) (is (p .0)) (q .2) ∙ sym (told v (q .0) (q .1)))),
+  (λ h. by-clean g _ _ (h .0) (v, refl, subst Is (h .1) (is (h .0)))),
+)
+
 -- ---- an answer tells its cost, and no refusal does
 
 distance-said : (v w : Cost) → distanceSaid v ≡ distanceSaid w → v ≡ w
@@ -63,27 +76,15 @@ module _ (t : Tables) (s : List ℕ) where
   -- ---- what is answered is so, and what is so is answered
 
   pub distance-answered : (m : ℕ) (v : Cost) → DistanceGiven t m s (distanceSaid v) ↔ ((distanceFault t m s ≡ Clean) × (away (taskOf t) (stateOf s) m ≡ v))
-  distance-answered m v = (
-    (λ given.
-        let p = by-told (distanceFault t m s) _ _ (distance-no-refusal v) given in
-        let q = p .1 in
-        let c = distance-clean t m s (p .0) in
-        let there = away-is (taskOf t) (c .0) m (c .1) (stateOf s) (c .2) in
-        (p .0, away-only (taskOf t) (c .0) m (c .1) (stateOf s) (away (taskOf t) (stateOf s) m) (q .0) (c .2) there (q .2) ∙ sym (distance-said v (q .0) (q .1)))),
-    (λ h.
-        let c = distance-clean t m s (h .0) in
-        by-clean (distanceFault t m s) _ _ (h .0) (v, refl, subst (IsAway (taskOf t) (stateOf s) m) (h .1) (away-is (taskOf t) (c .0) m (c .1) (stateOf s) (c .2)))),
-  )
+  distance-answered m =
+      let T = taskOf t in
+      answered (distanceFault t m s) distanceSaid distance.Refused (IsAway T (stateOf s) m) (away T (stateOf s) m) distance-said distance-no-refusal
+      (λ e. let c = distance-clean t m s e in away-is T (c .0) m (c .1) (stateOf s) (c .2))
+      (λ e v w. let c = distance-clean t m s e in away-only T (c .0) m (c .1) (stateOf s) v w (c .2))
 
   pub bound-answered : (v : Cost) → BoundGiven t s (boundSaid v) ↔ ((inputFault t s ≡ Clean) × (bound (taskOf t) (stateOf s) ≡ v))
-  bound-answered v = (
-    (λ given.
-        let p = by-told (inputFault t s) _ _ (bound-no-refusal v) given in
-        let q = p .1 in
-        let c = bound-clean t s (p .0) in
-        let there = bound-is (taskOf t) (c .0) (stateOf s) (c .1) in
-        (p .0, bound-only (taskOf t) (c .0) (stateOf s) (c .1) (bound (taskOf t) (stateOf s)) (q .0) there (q .2) ∙ sym (bound-said v (q .0) (q .1)))),
-    (λ h.
-        let c = bound-clean t s (h .0) in
-        by-clean (inputFault t s) _ _ (h .0) (v, refl, subst (IsBound (taskOf t) (stateOf s)) (h .1) (bound-is (taskOf t) (c .0) (stateOf s) (c .1)))),
-  )
+  bound-answered =
+      let T = taskOf t in
+      answered (inputFault t s) boundSaid bounds.Refused (IsBound T (stateOf s)) (bound T (stateOf s)) bound-said bound-no-refusal
+      (λ e. let c = bound-clean t s e in bound-is T (c .0) (stateOf s) (c .1))
+      (λ e. let c = bound-clean t s e in bound-only T (c .0) (stateOf s) (c .1))

@@ -39,7 +39,7 @@ RoundsOf T m r = IsRounds (T .sas) (view T m) r
 abbrev pub IsAway : Task → State → ℕ → Cost → Type 0
 IsAway T s m v = IsDistanceAt (T .sas) (view T m) (α (T .sas) (view T m) s) v
 
--- v is the summed bound of the state: the sum of the distances of its images
+-- v is the summed bound of the state: the sum of the distances of its images, none if one of them is
 abbrev pub IsBound : Task → State → Cost → Type 0
 IsBound T s v = (d : ℕ → Cost) × ((m : ℕ) → m < T .maps → IsAway T s m (d m)) × (v ≡ summed d (T .maps))
 
