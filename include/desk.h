@@ -116,6 +116,8 @@ desk_word desk_distance_at(uint32_t vars, uint32_t ops, uint32_t maps, const uin
 /* The summed BOUND of a state: at most the cost of every sequence from there to the goal, of any length. DESK_DONE
  * with the sum of the maps' distances in seconds; DESK_NONE exactly if at least one map says none, and then there is no
  * such sequence. So if some sequence leads to the goal, every map says a number.
+ * Asked at the state now of a run (its bytes from DESK_RUN_NOW on) it falls, from one moment to any later one, by at
+ * most what the maps were paid in between (desk_run_paid), and from DESK_NONE it does not come back.
  * Refusals: faulty tables, 8 (state too short), 9. */
 desk_word desk_bound(uint32_t vars, uint32_t ops, uint32_t maps, const uint8_t *facts, size_t facts_len,
                      const uint32_t *costs, size_t costs_len, const uint32_t *shares, size_t shares_len,

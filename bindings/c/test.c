@@ -221,6 +221,30 @@ static void runs(void)
     EXPECT(desk_run_steps(words) == 0 && memcmp(bytes, from, 3) == 0 && memcmp(bytes + DESK_RUN_NOW, from, 3) == 0);
 }
 
+/* A run that is watched, with a retry, a step that may not run and another operator at an old number on its way to the
+ * goal: between any two moments the bound falls by at most what the maps were paid in between. */
+static void watched(void)
+{
+    static uint8_t bytes[DESK_RUN_BYTES];
+    static uint32_t words[DESK_RUN_WORDS];
+    const uint32_t offers[8][2] = {{1, 0}, {1, 0}, {2, 2}, {2, 1}, {1, 1}, {3, 2}, {4, 3}, {4, 3}};
+    uint64_t bound[9], paid[9];
+    EXPECT(desk_begin(TASK, init, 3, bytes, DESK_RUN_BYTES, words, DESK_RUN_WORDS) == word(DESK_DONE, 0));
+    for (int i = 0; i < 9; i++) {
+        if (i > 0)
+            desk_offer(TASK, bytes, DESK_RUN_BYTES, words, DESK_RUN_WORDS, offers[i - 1][0], offers[i - 1][1]);
+        desk_word w = desk_bound(TASK, bytes + DESK_RUN_NOW, 3);
+        EXPECT(desk_kind(w) == DESK_DONE);
+        bound[i] = desk_number(w);
+        paid[i] = 0;
+        for (uint32_t map = 0; map < counts[2]; map++)
+            paid[i] += desk_run_paid(words, map);
+        for (int j = 0; j <= i; j++)
+            EXPECT(bound[j] <= bound[i] + (paid[i] - paid[j]));
+    }
+    EXPECT(bound[0] == 4 && paid[0] == 0 && bound[8] == 0 && paid[8] == 4);
+}
+
 /* What the helpers tell of a run's words, of any contents: nothing beyond its steps, its 8 maps and its words. */
 static void run_helpers(void)
 {
@@ -318,6 +342,7 @@ int main(int argc, char **argv)
     bounds();
     sequences();
     runs();
+    watched();
     run_helpers();
     short_tables();
     printf("C: %d expectations hold\n", tried);

@@ -168,6 +168,8 @@ impl Task {
     }
 
     /// The summed bound of a state: at most the cost of every sequence from there to the goal. None exactly if at least one map says none: then there is no such sequence.
+    ///
+    /// Asked at [`Run::now`] it falls, from one moment of a run to any later one, by at most what the maps were paid in between; from none it doesn't come back.
     pub fn bound(&self, state: &State) -> Result<Option<Seconds>, Refusal> {
         seconds(ffi::bound(self.lent(), &state.0))
     }

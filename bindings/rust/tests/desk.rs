@@ -173,6 +173,37 @@ fn a_run_and_its_ledger() {
     assert_eq!(damaged, before);
 }
 
+/// What the maps were paid so far and the bound now, at the start and after each offer, whatever it is answered.
+fn watched(task: &Task, offers: &[(u32, u32)]) -> Vec<(u64, Option<u64>)> {
+    let mut run = task.begin(&task.initial()).expect("a start");
+    let moment = |run: &Run| {
+        let paid = (0..task.counts().maps).map(|map| run.paid(Map(map)).0).sum();
+        (paid, task.bound(&run.now(task)).expect("a bound").map(|bound| bound.0))
+    };
+    let mut moments = vec![moment(&run)];
+    for &(number, op) in offers {
+        let _ = run.offer(task, Step(number), Operator(op));
+        moments.push(moment(&run));
+    }
+    moments
+}
+
+#[test]
+fn the_bound_never_falls_faster_than_the_ledger_rises() {
+    let moments = watched(&task(A), &[(1, 0), (1, 0), (2, 2), (2, 1), (1, 1), (3, 2), (4, 3), (4, 3)]);
+    let told: Vec<(u64, u64)> = moments.into_iter().map(|(paid, bound)| (paid, bound.expect("a way"))).collect();
+    assert_eq!((told[0], told[8]), ((0, 4), (4, 0)));
+    for (i, (paid, bound)) in told.iter().enumerate() {
+        assert!(told[..i].iter().all(|(before, earlier)| *earlier <= bound + (paid - before)), "{told:?}");
+    }
+}
+
+#[test]
+fn a_bound_of_none_does_not_come_back() {
+    let lost = "edition=1\nvars=2\ndom=2,2\ninit=0,0\ngoal=0:1,1:0\nops=2\nop=1;0:0;0:1\nop=1;1:0;1:1\nmaps=2\nmap=0,1/0,0\nmap=0,0/0,1\nshare=1,0\nshare=0,1\n";
+    assert_eq!(watched(&task(lost), &[(1, 1), (1, 1), (2, 0)]), [(0, Some(1)), (1, None), (1, None), (2, None)]);
+}
+
 #[test]
 fn a_run_of_any_contents_tells_nothing_beyond_its_steps_and_maps() {
     let mut words = [0; RUN_WORDS];

@@ -75,7 +75,7 @@ pub fn distance_at(
 }
 
 // The summed BOUND of a state: at most the cost of every sequence from there to the goal, of any length; none exactly if some map
-// says none, and then there is no such sequence.
+// says none, and then there is no such sequence. Along a run it falls by at most what the maps are paid (crates/watched_runs).
 // `bound-unique`.
 pub fn bound(c: Counts, facts: &[u8], costs: &[u32], shares: &[u32], state: &[u8]) -> BoundAnswer
     ensures { λ r. ⌜ BoundGiven (lent c facts costs shares) (was state) r ⌝ }

@@ -3,3 +3,4 @@ pub mod Unique
 pub mod Own
 pub mod Reading
 pub mod Bounding
+pub mod Watched

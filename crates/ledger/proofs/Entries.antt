@@ -65,6 +65,7 @@ module _ (t : Tables) (s : List ℕ) where
 
   -- an accepted start: clean tables, a state of the task, and the fresh run
   pub record Began : Type 0 where
+    pub input : inputFault t s ≡ Clean
     pub clean : tablesFault t ≡ Clean
     pub state : IsState (sasOf t) (stateOf s)
     pub run : begun t s .run ≡ fresh (copied s (t .counts .vars))
@@ -74,7 +75,7 @@ module _ (t : Tables) (s : List ℕ) where
   accepted-began e =
       let p = no-fault (inputFault t s) (fresh (copied s (t .counts .vars))) e in
       let own = stateFault (t .counts) (t .facts) s in
-      record { clean = clean-first (tablesFault t) own (p .0); state = state-clean t s .0 (clean-next (tablesFault t) own (p .0)) .1; run = p .1 }
+      record { input = p .0; clean = clean-first (tablesFault t) own (p .0); state = state-clean t s .0 (clean-next (tablesFault t) own (p .0)) .1; run = p .1 }
     where
       no-fault : (x : Found) (r : Run) → started x r .answer ≡ Accepted → (x ≡ Clean) × (started x r .run ≡ r)
       no-fault Clean r e = (refl, refl)

@@ -18,7 +18,7 @@ use Rattle.ledger.specs.declared.Run.{Run}
 use Rattle.ledger.specs.declared.Answer.the-variants.{Accepted}
 use Rattle.ledger.specs.Ledger.{fresh, offered, begun}
 use Rattle.meaning.specs.Columns.{costColumns, unshared, rest, gain}
-use Rattle.ledger.specs.History.{Offer, reallyRuns, added, reallyRun, ran, runAfter, Tells, Between}
+use Rattle.ledger.specs.History.{Offer, reallyRuns, added, reallyRun, ran, runAfter, Tells, Between, Sized}
 use Rattle.meaning.proofs.Columns.{sum-same, gain-map, gain-rest, gain-all}
 use Rattle.ledger.proofs.Sequences.{end-append, end-same, runs-later, runs-same, paid-append, paid-same, paid-sum}
 use Rattle.ledger.proofs.Entries.{Began, accepted-began}
@@ -71,7 +71,7 @@ ran-append t r [] ys = refl
 ran-append t r (x ∷ xs) ys = ran-append t (offered t r (x .number) (x .op) .run) xs ys
 
 module _ (t : Tables) (s : List ℕ) (clean : tablesFault t ≡ Clean) (state : IsState (sasOf t) (stateOf s)) where
-  ran-told : (xs : List Offer) (done : List ℕ) (q : Run) → Told t s done q
+  pub ran-told : (xs : List Offer) (done : List ℕ) (q : Run) → Told t s done q
       → Told t s (done ++ added (sasOf t) (stateOf s) done xs) (ran t q xs)
   unfolding ran added
   ran-told [] done q told = rw (append-nil done) told
@@ -89,16 +89,21 @@ module _ (t : Tables) (s : List ℕ) (clean : tablesFault t ≡ Clean) (state : 
   fresh-ran : (xs : List Offer) → Told t s (reallyRun (sasOf t) (stateOf s) xs) (ran t (fresh (startOf t s)) xs)
   fresh-ran xs = ran-told xs [] (fresh (startOf t s)) (fresh-told t s clean state)
 
-  fresh-between : (xs ys : List Offer)
-      → Between (taskOf t) (added (sasOf t) (stateOf s) (reallyRun (sasOf t) (stateOf s) xs) ys) (ran t (fresh (startOf t s)) xs)
-      (ran t (fresh (startOf t s)) (xs ++ ys))
-  fresh-between xs ys =
-      let earlier = ran t (fresh (startOf t s)) xs in
-      let done = reallyRun (sasOf t) (stateOf s) xs in
-      rw (ran-append t (fresh (startOf t s)) xs ys)
-      (tells-between (taskOf t) (stateOf s) done (added (sasOf t) (stateOf s) done ys) earlier (ran t earlier ys)
-      (fresh-ran xs .tells)
-      (ran-told ys done earlier (fresh-ran xs) .tells))
+  -- of a run that tells steps: its state now is a state of the task ..
+  pub told-state : (done : List ℕ) (q : Run) → Told t s done q → IsState (sasOf t) (stateOf (q .now))
+  told-state done q told v l =
+      rw (told .tells .now v l) (end-state (sasOf t) (clean-valid t clean .proper) done (stateOf s) state (told .tells .legal) v l)
+
+  -- .. and what further offers add runs from the earlier state to the later, and the columns grow by it
+  pub told-between : (done : List ℕ) (q : Run) → Told t s done q → (xs ys : List Offer)
+      → Between (taskOf t) (added (sasOf t) (stateOf s) (done ++ added (sasOf t) (stateOf s) done xs) ys) (ran t q xs) (ran t q (xs ++ ys))
+  told-between done q told xs ys =
+      let earlier = ran t q xs in
+      let so-far = done ++ added (sasOf t) (stateOf s) done xs in
+      let on = ran-told xs done q told in
+      rw (ran-append t q xs ys)
+      (tells-between (taskOf t) (stateOf s) so-far (added (sasOf t) (stateOf s) so-far ys) earlier (ran t earlier ys) (on .tells)
+      (ran-told ys so-far earlier on .tells))
 
 -- ---- THE THEOREMS, of any accepted start and any offers, so at every moment
 
@@ -109,15 +114,20 @@ module _ (t : Tables) (s : List ℕ) (accepted : begun t s .answer ≡ Accepted)
   valid : Valid (taskOf t)
   valid = clean-valid t (began .clean)
 
+  pub after-told : (xs : List Offer) → Told t s (reallyRun (sasOf t) (stateOf s) xs) (runAfter t s xs)
+  after-told xs = rw (began .run) (fresh-ran t s (began .clean) (began .state) xs)
+
   -- the run tells the steps really run
   pub history : (xs : List Offer) → Tells (taskOf t) (stateOf s) (reallyRun (sasOf t) (stateOf s) xs) (runAfter t s xs)
-  history xs = rw (began .run) (fresh-ran t s (began .clean) (began .state) xs .tells)
+  history xs = after-told xs .tells
+
+  -- it is as its type has it
+  pub run-sized : (xs : List Offer) → Sized (runAfter t s xs)
+  run-sized xs = after-told xs .sized
 
   -- the state now is a state of the task
   pub now-state : (xs : List Offer) → IsState (sasOf t) (stateOf (runAfter t s xs .now))
-  now-state xs v l =
-      rw (history xs .now v l)
-      (end-state (sasOf t) (valid .proper) (reallyRun (sasOf t) (stateOf s) xs) (stateOf s) (began .state) (history xs .legal) v l)
+  now-state xs = told-state t s (began .clean) (began .state) (reallyRun (sasOf t) (stateOf s) xs) (runAfter t s xs) (after-told xs)
 
   -- each map was paid its shares of them
   pub map-paid : (xs : List Offer) (m : ℕ) → m < t .counts .maps
@@ -139,4 +149,6 @@ module _ (t : Tables) (s : List ℕ) (accepted : begun t s .answer ≡ Accepted)
   pub between : (xs ys : List Offer)
       → Between (taskOf t) (added (sasOf t) (stateOf s) (reallyRun (sasOf t) (stateOf s) xs) ys) (runAfter t s xs)
       (runAfter t s (xs ++ ys))
-  between xs ys = rw (began .run) (fresh-between t s (began .clean) (began .state) xs ys)
+  between xs ys =
+      rw (began .run)
+      (told-between t s (began .clean) (began .state) [] (fresh (startOf t s)) (fresh-told t s (began .clean) (began .state)) xs ys)

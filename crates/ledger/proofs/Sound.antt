@@ -171,14 +171,20 @@ module _ (t : Tables) (clean : tablesFault t ≡ Clean) (r : Run) (sized : Sized
             (λ off. absurd (false≢true (sym (off .0) ∙ ap (λ (x : Tried). x .ok) again ∙ tested .ran))),
       )
 
-  tells-run : IsState (sasOf t) (stateOf (r .start)) → TellsSteps → isRun t r ≡ true
-  tells-run state (done, tells) =
+  -- a run that is what its start and log give tells its steps, and is the run that replaying them gives
+  pub given-told : GivenByStartAndLog (taskOf t) r → (done : List ℕ) × Told t (r .start) done r
+  given-told (state, (done, tells)) =
       from-fresh t (r .start) clean state done (tells .few)
       (λ on.
       let q = replayed t (fresh (startOf t (r .start))) done .run in
       let one : r ≡ q = tells-one (taskOf t) (stateOf (r .start)) done r q tells (on .1 .tells) sized (on .1 .sized) in
-      subst (λ (x : Run). isRun t x ≡ true) (sym one) (is-run t (r .start) clean state done q (on .1)))
+      (done, subst (Told t (r .start) done) (sym one) (on .1)))
       (λ off. absurd (off .1 (tells .legal)))
 
+  tells-run : GivenByStartAndLog (taskOf t) r → isRun t r ≡ true
+  tells-run h =
+      let told = given-told h in
+      is-run t (r .start) clean (h .0) (told .0) r (told .1)
+
   pub run-exactly : (isRun t r ≡ true) ↔ GivenByStartAndLog (taskOf t) r
-  run-exactly = (run-tells, λ h. tells-run (h .0) (h .1))
+  run-exactly = (run-tells, tells-run)

@@ -40,6 +40,13 @@ runIn bytes words =
       columns = part words columnsFrom allColumns;
     }
 
+-- what a C program looks at in it: the value now of variable v, and what stands in column m
+abbrev pub nowIn : List ℕ → ℕ → ℕ
+nowIn bytes v = getD bytes (mostVars + v) 0
+
+abbrev pub columnIn : List ℕ → ℕ → ℕ
+columnIn words m = getD words (columnsFrom + m) 0
+
 -- the lent memory with the run in it; places beyond are as they were
 unfoldable pub bytesWith : Run → List ℕ → List ℕ
 bytesWith r bytes = withPart (withPart bytes 0 (r .start) mostVars) mostVars (r .now) mostVars

@@ -6,6 +6,7 @@ pub mod Distances
 pub mod Rounds
 pub mod Sums
 pub mod Bounds
+pub mod Falling
 pub mod Theorems
 pub mod Columns
 pub mod Unread

@@ -6,7 +6,7 @@ use Prim.Native.Nat.{ℕ, zero, suc, _+_, _*_, _≤_, _<_}
 use native.Mathlib.Nat.{le-refl, le-of-suc-le-suc, not-suc-le-zero, eq-or-lt-of-le}
 use native.Mathlib.Omega.{arith}
 use Rattle.graph.specs.Cost.{Cost, none, fin, _⊑_}
-use Rattle.graph.proofs.Costs.{⊑-none}
+use Rattle.graph.proofs.Costs.{⊑-mono, ⊑-fin, ⊑-none}
 use Rattle.meaning.specs.Split.{sum}
 use Rattle.meaning.specs.Bound.{join, summed}
 
@@ -108,3 +108,14 @@ summed-below d c (suc k) h =
 pub summed-same : (d e : ℕ → Cost) (k : ℕ) → ((m : ℕ) → m < k → d m ≡ e m) → summed d k ≡ summed e k
 summed-same d e zero h = refl
 summed-same d e (suc k) h = ap₂ join (summed-same d e k (λ m l. h m (omega arith))) (h k (le-refl (suc k)))
+
+-- where each term falls by at most its part, the sum falls by at most the parts together
+pub summed-falls : (d e : ℕ → Cost) (p : ℕ → ℕ) (k : ℕ) → ((m : ℕ) → m < k → (c : ℕ) → e m ⊑ c → d m ⊑ p m + c)
+    → (c : ℕ) → summed e k ⊑ c → summed d k ⊑ sum p k + c
+summed-falls d e p k h c below =
+    let total = ⊑-fin (summed e k) c below in
+    let terms = summed-number e k (total .0) (total .1) in
+    let q : ℕ → ℕ = terms .0 in
+    ⊑-mono (summed d k) (sum (λ m. p m + q m) k) (sum p k + c)
+    (summed-below d (λ m. p m + q m) k (λ m l. h m l (q m) (subst (λ (v : Cost). v ⊑ q m) (sym (terms .1 m l)) (le-refl (q m)))))
+    (omega (arith, sum-add p q k, total .2, terms .2))

@@ -9,7 +9,7 @@ use Rattle.graph.specs.Cost.{Cost, none, fin, _⊑_}
 use Rattle.graph.specs.Graph.{to, Leads}
 use Rattle.graph.specs.Least.{least, Rounds}
 use Rattle.meaning.specs.Numbering.{size, number, digit, Positive, Digits}
-use Rattle.meaning.specs.Sas.{State, Sas, IsState, MayRun, Transition, after, Passes, paid, Proper}
+use Rattle.meaning.specs.Sas.{State, Sas, IsState, MayRun, Transition, after, Runs, end, Passes, paid, Proper}
 use Rattle.meaning.specs.Views.{α, abstractStates, AbstractStep, AbstractGoal, AbstractlyLeads, IsDistanceAt, IsRounds, space, viewGraph}
 use Rattle.meaning.specs.Split.{Task, sum, view, Valid}
 use Rattle.meaning.specs.Bound.{distance, away, summed, bound}
@@ -20,6 +20,7 @@ use Rattle.meaning.proofs.Distances as distances
 use Rattle.meaning.proofs.Rounds as rounds
 use Rattle.meaning.proofs.Sums as sums
 use Rattle.meaning.proofs.Bounds as bounds
+use Rattle.meaning.proofs.Falling as falling
 
 -- ---- numbering, for any list of radices
 
@@ -123,6 +124,11 @@ module _ (T : Task) (ok : Valid T) (m : ℕ) (lm : m < T .maps) where
       → away T (after (T .sas) o s) m ⊑ c → away T s m ⊑ T .share m o + c
   step-lowers-by-share o s c h lo r d = distances.step-falls (T .sas) (view T m) (ok .proper) (bounds.view-onto T ok m lm) o s c h lo r d
 
+  -- so a sequence lowers it by at most its shares
+  pub sequence-lowers-by-shares : (os : List ℕ) (s : State) (c : ℕ) → IsState (T .sas) s → Runs (T .sas) os s
+      → away T (end (T .sas) os s) m ⊑ c → away T s m ⊑ paid (T .share m) os + c
+  sequence-lowers-by-shares os s c h r d = falling.away-falls T ok m lm os s h r c d
+
 -- ---- the summed bound
 
 -- the sum is none exactly if some map says none
@@ -152,3 +158,8 @@ one-none-so-no-sequence T ok s h m l e os p = bounds.one-none-so-none T ok s h m
 pub sequence-so-every-number : (T : Task) → Valid T → (os : List ℕ) (s : State) → IsState (T .sas) s → Passes (T .sas) os s
     → (m : ℕ) → m < T .maps → (d : ℕ) × (away T s m ≡ fin d) × (d ≤ paid (T .share m) os)
 sequence-so-every-number T ok os s h p m l = bounds.reached-so-number T ok os s h p m l
+
+-- a sequence lowers the bound by at most what the maps are paid for it
+pub sequence-lowers-bound : (T : Task) → Valid T → (os : List ℕ) (s : State) (c : ℕ) → IsState (T .sas) s → Runs (T .sas) os s
+    → bound T (end (T .sas) os s) ⊑ c → bound T s ⊑ sum (λ m. paid (T .share m) os) (T .maps) + c
+sequence-lowers-bound T ok os s c h r d = falling.bound-falls T ok os s h r c d

@@ -1,0 +1,3 @@
+pub mod Pace
+pub mod Kept
+pub mod Theorems
