@@ -1,7 +1,7 @@
 -- THE BOUND DOESN'T JUMP, for a run that a C program keeps in lent memory: memory of any origin that isn't 17, and so that which `desk_begin` fills. Over the words
 -- that `desk_begin`, `desk_bound` and `desk_distance_at` hand back, and the state now and the columns where they stand in the memory that any calls of `desk_offer`
 -- leave, one after another. By the theorems of crates/watched_runs, as lent memory carries the desk's own run. Assumes nothing.
-use mathlib.Core.Path.{_≡_, refl, sym, ap, ap₂, _∙_, subst}
+use mathlib.Core.Path.{_≡_, sym, ap, ap₂, _∙_, subst}
 use mathlib.Core.List.{List, _++_}
 use Prim.Native.Nat.{ℕ, _-_, _≤_, _<_}
 use native.Mathlib.Omega.{arith}
@@ -17,27 +17,36 @@ use Rattle.scan.proofs.Validity.{clean-valid}
 use Rattle.tables.specs.Layout.{Tables}
 use Rattle.tables.specs.Task.{taskOf, stateOf}
 use Rattle.views.specs.Entries.{distanceSaid, boundSaid}
-use Rattle.views.specs.declared.DistanceAnswer.the-variants as distance
-use Rattle.views.specs.declared.BoundAnswer.the-variants as bounds
+use Rattle.views.proofs.Answered.{distance-said, bound-said}
 use Rattle.ledger.specs.declared.Run.{Run}
 use Rattle.ledger.specs.declared.Answer.the-variants.{Accepted}
 use Rattle.ledger.specs.Ledger.{allColumns, begun}
 use Rattle.ledger.specs.History.{Offer, ran, runAfter, GivenByStartAndLog}
 use Rattle.ledger.proofs.Entries.{accepted-began}
 use Rattle.words.specs.Words.{word, done, nowhere, refusedWord, distanceWord, boundWord}
-use Rattle.words.proofs.Told.{answer-told}
+use Rattle.words.proofs.Told.{distance-told, bound-told, answer-told}
 use Rattle.lent_runs.specs.Lent.{runBytes, runWords, columnsFrom, runIn, nowIn, columnIn}
 use Rattle.lent_runs.specs.Left.{RunLeft, runShort, beginHanded}
 use Rattle.lent_runs.proofs.Parts.{part-at}
 use Rattle.lent_runs.proofs.Sizes.{run-in-lengths}
 use Rattle.lent_runs.proofs.Handed.{long-enough}
 use Rattle.lent_runs.proofs.Carried.{runLent, begins-carried, offersHanded, memory-ran, memory-after}
-use Rattle.watched_runs.specs.Watched.{KeepsPace, columnOf, paidBetween, Shows}
-use Rattle.watched_runs.proofs.Pace.{told-keeps-pace}
-use Rattle.watched_runs.proofs.Kept as kept
+use Rattle.watched_runs.specs.Watched.{KeepsPace, columnOf, Shows, NeverJumps}
+use Rattle.watched_runs.proofs.Pace.{none-kept, told-keeps-pace}
+use Rattle.watched_runs.proofs.Kept.{kept-never-jumps}
 use Rattle.watched_runs.proofs.Theorems as watched
 use Rattle.desk_c.specs.Handing.{DistanceHanded, BoundHanded}
-use Rattle.desk_c.proofs.Bounding.{distance-behind, bound-behind}
+use Rattle.desk_c.specs.Watching.{NeverJumpsLent}
+
+-- where the earlier word is none, the later is: of a map, and of the bound
+module _ (t : Tables) (earlier later : RunLeft) (a b : List ℕ) (never : NeverJumpsLent t earlier later a b) where
+  pub map-none-stays : (m : ℕ) → m < t .counts .maps → (x y : ℕ) → DistanceHanded t m a x → DistanceHanded t m b y → x ≡ word nowhere 0 → y ≡ word nowhere 0
+  map-none-stays m l x y f g =
+      none-kept (λ v. distanceWord (distanceSaid v)) (λ v w e. distance-said v w (distance-told (distanceSaid v) (distanceSaid w) e)) (never .map m l x y f g)
+
+  pub none-stays : (x y : ℕ) → BoundHanded t a x → BoundHanded t b y → x ≡ word nowhere 0 → y ≡ word nowhere 0
+  none-stays x y f g =
+      none-kept (λ v. boundWord (boundSaid v)) (λ v w e. bound-said v w (bound-told (boundSaid v) (boundSaid w) e)) (never .bound x y f g)
 
 -- ---- what C looks at in memory that carries a run is the run's own
 
@@ -51,65 +60,41 @@ module _ (t : Tables) (valid : Valid (taskOf t)) (m : RunLeft) (r : Run) (carrie
         same v l ∙ sym (part-at (m .bytes) mostVars mostVars v small) ∙ ap (λ (x : Run). stateOf (x .now) v) carries,
   )
 
-  column-is : (k : ℕ) → k < t .counts .maps → columnIn (m .words) k ≡ columnOf r k
+  column-is : (c : ℕ) → c < allColumns → columnIn (m .words) c ≡ columnOf r c
   unfolding runIn
-  column-is k l =
-      let small : k < allColumns = omega (arith, valid .maps .1) in
-      sym (part-at (m .words) columnsFrom allColumns k small) ∙ ap (λ (x : Run). columnOf x k) carries
+  column-is c l = sym (part-at (m .words) columnsFrom allColumns c l) ∙ ap (λ (x : Run). columnOf x c) carries
 
--- ---- ANY MEMORY THAT ISN'T 17: long enough, and what stands in it is what its start and log give
+  map-column : (k : ℕ) → k < t .counts .maps → columnIn (m .words) k ≡ columnOf r k
+  map-column k l = column-is k (omega (arith, valid .maps .1))
 
-module _ (t : Tables) (m : RunLeft) (long-bytes : runBytes ≤ length (m .bytes)) (long-words : runWords ≤ length (m .words)) (clean : tablesFault t ≡ Clean)
-    (given : GivenByStartAndLog (taskOf t) (runLent m)) where
-  -- the memory after the offers xs
-  abbrev after : List Offer → RunLeft
-  after xs = offersHanded t m xs
+-- so what is promised of two runs is promised of memory that carries them
+lent-never-jumps : (t : Tables) (valid : Valid (taskOf t)) (m n : RunLeft) (r q : Run) → runLent m ≡ r → runLent n ≡ q → (a b : List ℕ)
+    → NeverJumps t r q a b → NeverJumpsLent t m n a b
+lent-never-jumps t valid m n r q e g a b never =
+    let grew : (k : ℕ) → k < t .counts .maps → columnIn (n .words) k - columnIn (m .words) k ≡ columnOf q k - columnOf r k =
+    λ k l. ap₂ _-_ (map-column t valid n q g k l) (map-column t valid m r e k l) in
+    record {
+      column = λ c l. omega (arith, column-is t valid m r e c l, column-is t valid n q g c l, never .column c l);
+      map = λ k l x y f h. told-keeps-pace distanceSaid distanceWord (grew k l) (f .2) (h .2) (never .map k l (f .0) (h .0) (f .1) (h .1));
+      bound =
+          λ x y f h.
+          told-keeps-pace boundSaid boundWord (sum-same _ _ (t .counts .maps) grew) (f .2) (h .2) (never .bound (f .0) (h .0) (f .1) (h .1));
+    }
 
-  carries : (xs : List Offer) → runLent (after xs) ≡ ran t (runLent m) xs
-  carries xs = memory-ran t xs m long-bytes long-words
-
-  now-seen : (xs : List Offer) (a : List ℕ) → Shows (t .counts .vars) a (nowIn (after xs .bytes)) → Shows (t .counts .vars) a (stateOf (ran t (runLent m) xs .now))
-  now-seen xs = shown t (clean-valid t clean) (after xs) (ran t (runLent m) xs) (carries xs)
-
-  column-seen : (xs : List Offer) (k : ℕ) → k < t .counts .maps → columnIn (after xs .words) k ≡ columnOf (ran t (runLent m) xs) k
-  column-seen xs = column-is t (clean-valid t clean) (after xs) (ran t (runLent m) xs) (carries xs)
-
-  -- BETWEEN TWO MOMENTS, after the offers xs and after the offers ys that follow them; a and b show the states now, as C lends them
-  module _ (xs ys : List Offer) (a b : List ℕ) (p : Shows (t .counts .vars) a (nowIn (after xs .bytes)))
-      (q : Shows (t .counts .vars) b (nowIn (after (xs ++ ys) .bytes))) where
-    -- a map's distance falls by at most what the map was paid ..
-    pub map-keeps-pace : (k : ℕ) → k < t .counts .maps → (x y : ℕ) → DistanceHanded t k a x → DistanceHanded t k b y
-        → KeepsPace (λ v. distanceWord (distanceSaid v)) (columnIn (after (xs ++ ys) .words) k - columnIn (after xs .words) k) x y
-    map-keeps-pace k l x y f g =
-        told-keeps-pace distanceSaid distanceWord (ap₂ _-_ (column-seen (xs ++ ys) k l) (column-seen xs k l)) (f .2) (g .2)
-        (kept.map-keeps-pace t (runLent m) clean (run-in-lengths (m .bytes) (m .words)) given xs ys a b (now-seen xs a p) (now-seen (xs ++ ys) b q) k l (f .0)
-        (g .0) (f .1) (g .1))
-
-    -- .. and the bound by at most what the maps were paid together
-    pub bound-keeps-pace : (x y : ℕ) → BoundHanded t a x → BoundHanded t b y
-        → KeepsPace (λ v. boundWord (boundSaid v)) (paidBetween (columnIn (after xs .words)) (columnIn (after (xs ++ ys) .words)) (t .counts .maps)) x y
-    bound-keeps-pace x y f g =
-        told-keeps-pace boundSaid boundWord
-        (sum-same _ _ (t .counts .maps) (λ k l. ap₂ _-_ (column-seen (xs ++ ys) k l) (column-seen xs k l))) (f .2) (g .2)
-        (kept.bound-keeps-pace t (runLent m) clean (run-in-lengths (m .bytes) (m .words)) given xs ys a b (now-seen xs a p) (now-seen (xs ++ ys) b q) (f .0)
-        (g .0) (f .1) (g .1))
-
-    -- where the earlier word is none, the later is
-    pub map-none-stays : (k : ℕ) → DistanceHanded t k a (word nowhere 0) → DistanceHanded t k b (word nowhere 0)
-    map-none-stays k h = (
-      distance.Nowhere,
-      kept.map-none-stays t (runLent m) clean (run-in-lengths (m .bytes) (m .words)) given xs ys a b (now-seen xs a p) (now-seen (xs ++ ys) b q) k
-          (distance-behind t a k distance.Nowhere (word nowhere 0) refl h),
-      refl,
-    )
-
-    pub none-stays : BoundHanded t a (word nowhere 0) → BoundHanded t b (word nowhere 0)
-    none-stays h = (
-      bounds.Nowhere,
-      kept.none-stays t (runLent m) clean (run-in-lengths (m .bytes) (m .words)) given xs ys a b (now-seen xs a p) (now-seen (xs ++ ys) b q)
-          (bound-behind t a bounds.Nowhere (word nowhere 0) refl h),
-      refl,
-    )
+-- BETWEEN TWO MOMENTS of any memory that isn't 17, being long enough and what its start and log give: after the offers xs, and after the offers ys that follow
+-- them; a and b show the states now, as C lends them
+pub never-jumps : (t : Tables) (m : RunLeft) → runBytes ≤ length (m .bytes) → runWords ≤ length (m .words) → tablesFault t ≡ Clean
+    → GivenByStartAndLog (taskOf t) (runLent m) → (xs ys : List Offer) (a b : List ℕ) → Shows (t .counts .vars) a (nowIn (offersHanded t m xs .bytes))
+    → Shows (t .counts .vars) b (nowIn (offersHanded t m (xs ++ ys) .bytes)) → NeverJumpsLent t (offersHanded t m xs) (offersHanded t m (xs ++ ys)) a b
+never-jumps t m long-bytes long-words clean given xs ys a b p q =
+    let valid = clean-valid t clean in
+    let earlier = offersHanded t m xs in
+    let later = offersHanded t m (xs ++ ys) in
+    let e : runLent earlier ≡ ran t (runLent m) xs = memory-ran t xs m long-bytes long-words in
+    let g : runLent later ≡ ran t (runLent m) (xs ++ ys) = memory-ran t (xs ++ ys) m long-bytes long-words in
+    lent-never-jumps t valid earlier later (ran t (runLent m) xs) (ran t (runLent m) (xs ++ ys)) e g a b
+    (kept-never-jumps t (runLent m) clean (run-in-lengths (m .bytes) (m .words)) given xs ys a b (shown t valid earlier (ran t (runLent m) xs) e a p)
+    (shown t valid later (ran t (runLent m) (xs ++ ys)) g b q))
 
 -- ---- MEMORY THAT `desk_begin` FILLED, its word being done, is such, and carries the run from its start
 
@@ -155,12 +140,12 @@ module _ (t : Tables) (s bytes words : List ℕ) (filled : beginHanded t s bytes
     pub map-from-start : (k : ℕ) → k < t .counts .maps → (x y : ℕ) → DistanceHanded t k a x → DistanceHanded t k b y
         → KeepsPace (λ v. distanceWord (distanceSaid v)) (columnIn (since xs .words) k) x y
     map-from-start k l x y f g =
-        told-keeps-pace distanceSaid distanceWord (column-is t (clean-valid t begun-clean) (since xs) (runAfter t s xs) (from-begun xs) k l) (f .2) (g .2)
+        told-keeps-pace distanceSaid distanceWord (map-column t (clean-valid t begun-clean) (since xs) (runAfter t s xs) (from-begun xs) k l) (f .2) (g .2)
         (watched.map-from-start t s (begun-behind .2) xs a b p seen k l (f .0) (g .0) (f .1) (g .1))
 
     pub bound-from-start : (x y : ℕ) → BoundHanded t a x → BoundHanded t b y
         → KeepsPace (λ v. boundWord (boundSaid v)) (sum (columnIn (since xs .words)) (t .counts .maps)) x y
     bound-from-start x y f g =
         told-keeps-pace boundSaid boundWord
-        (sum-same _ _ (t .counts .maps) (column-is t (clean-valid t begun-clean) (since xs) (runAfter t s xs) (from-begun xs))) (f .2) (g .2)
+        (sum-same _ _ (t .counts .maps) (map-column t (clean-valid t begun-clean) (since xs) (runAfter t s xs) (from-begun xs))) (f .2) (g .2)
         (watched.bound-from-start t s (begun-behind .2) xs a b p seen (f .0) (g .0) (f .1) (g .1))

@@ -41,7 +41,7 @@ answered g said refused Is own told never is only v = (
 
 -- ---- an answer tells its cost, and no refusal does
 
-distance-said : (v w : Cost) → distanceSaid v ≡ distanceSaid w → v ≡ w
+pub distance-said : (v w : Cost) → distanceSaid v ≡ distanceSaid w → v ≡ w
 distance-said none none e = refl
 distance-said none (fin b) e = absurd (let z : _≡_ {A = ℕ} 0 1 = cc in omega arith)
 distance-said (fin a) none e = absurd (let z : _≡_ {A = ℕ} 0 1 = cc in omega arith)
@@ -51,7 +51,7 @@ distance-no-refusal : (v : Cost) (f : Refusal) → distanceSaid v ≡ distance.R
 distance-no-refusal none f e = let z : _≡_ {A = ℕ} 0 1 = cc in omega arith
 distance-no-refusal (fin b) f e = let z : _≡_ {A = ℕ} 0 1 = cc in omega arith
 
-bound-said : (v w : Cost) → boundSaid v ≡ boundSaid w → v ≡ w
+pub bound-said : (v w : Cost) → boundSaid v ≡ boundSaid w → v ≡ w
 bound-said none none e = refl
 bound-said none (fin b) e = absurd (let z : _≡_ {A = ℕ} 0 1 = cc in omega arith)
 bound-said (fin a) none e = absurd (let z : _≡_ {A = ℕ} 0 1 = cc in omega arith)

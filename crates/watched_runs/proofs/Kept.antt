@@ -3,7 +3,7 @@
 -- from the one state to the other. Assumes nothing.
 use mathlib.Core.Path.{_≡_, refl, sym, _∙_, subst}
 use mathlib.Core.List.{List, _++_}
-use Prim.Native.Nat.{ℕ, _-_, _≤_, _<_}
+use Prim.Native.Nat.{ℕ, _-_, _<_}
 use native.Mathlib.Omega.{arith}
 use Rattle.meaning.specs.Sas.{IsState, Runs, end, paid}
 use Rattle.meaning.specs.Split.{Task, sum, Valid}
@@ -14,21 +14,15 @@ use Rattle.scan.specs.Scan.{tablesFault, inputFault}
 use Rattle.scan.proofs.Validity.{clean-valid, state-clean}
 use Rattle.tables.specs.Layout.{Tables}
 use Rattle.tables.specs.Task.{sasOf, taskOf, stateOf}
-use Rattle.views.specs.declared.DistanceAnswer.{DistanceAnswer}
-use Rattle.views.specs.declared.DistanceAnswer.the-variants as distance
-use Rattle.views.specs.declared.BoundAnswer.{BoundAnswer}
-use Rattle.views.specs.declared.BoundAnswer.the-variants as bounds
-use Rattle.views.specs.Entries.{distanceSaid, boundSaid, DistanceGiven, BoundGiven}
 use Rattle.sequences.proofs.Passing.{clean-input}
 use Rattle.ledger.specs.declared.Run.{Run}
-use Rattle.ledger.specs.Ledger.{allColumns}
 use Rattle.ledger.specs.History.{Offer, added, ran, Between, GivenByStartAndLog, Sized}
 use Rattle.ledger.proofs.Sequences.{runs-same, end-same, paid-same}
 use Rattle.ledger.proofs.Told.{Told}
 use Rattle.ledger.proofs.History.{ran-told, told-state, told-between}
 use Rattle.ledger.proofs.Sound.{given-told}
-use Rattle.watched_runs.specs.Watched.{KeepsPace, columnOf, paidBetween, Shows}
-use Rattle.watched_runs.proofs.Pace.{distances-keep-pace, bounds-keep-pace, distance-none-stays, bound-none-stays}
+use Rattle.watched_runs.specs.Watched.{columnOf, paidBetween, Shows, NeverJumps}
+use Rattle.watched_runs.proofs.Pace.{distances-keep-pace, bounds-keep-pace}
 
 -- ---- what the maps were paid between two moments are their shares of the steps between
 
@@ -42,7 +36,7 @@ module _ (T : Task) (valid : Valid T) (os : List ℕ) (earlier later : Run) (ste
   maps-grew : paidBetween (columnOf earlier) (columnOf later) (T .maps) ≡ sum (λ m. paid (T .share m) os) (T .maps)
   maps-grew = sum-same _ _ (T .maps) (λ m l. omega (arith, map-grew m l))
 
--- ---- THE THEOREMS
+-- ---- THE THEOREM
 
 module _ (t : Tables) (r : Run) (clean : tablesFault t ≡ Clean) (sized : Sized r) (given : GivenByStartAndLog (taskOf t) r) where
   valid : Valid (taskOf t)
@@ -59,8 +53,8 @@ module _ (t : Tables) (r : Run) (clean : tablesFault t ≡ Clean) (sized : Sized
   now-state xs = told-state t (r .start) clean (given .0) (done ++ added (sasOf t) (stateOf (r .start)) done xs) (ran t r xs) (told xs)
 
   -- at every moment the run's own list shows its state now
-  pub now-shown : (xs : List Offer) → Shows (t .counts .vars) (ran t r xs .now) (stateOf (ran t r xs .now))
-  now-shown xs = (omega (arith, told xs .sized .now, valid .vars .1), λ v l. refl)
+  pub kept-now-shown : (xs : List Offer) → Shows (t .counts .vars) (ran t r xs .now) (stateOf (ran t r xs .now))
+  kept-now-shown xs = (omega (arith, told xs .sized .now, valid .vars .1), λ v l. refl)
 
   -- what shows the state now is not refused
   now-clean : (xs : List Offer) (a : List ℕ) → Shows (t .counts .vars) a (stateOf (ran t r xs .now)) → inputFault t a ≡ Clean
@@ -82,10 +76,6 @@ module _ (t : Tables) (r : Run) (clean : tablesFault t ≡ Clean) (sized : Sized
     between : Between (taskOf t) steps earlier later
     between = told-between t (r .start) clean (given .0) done r (given-told t clean r sized given .1) xs ys
 
-    -- no column falls, so what is paid in between is the difference
-    pub columns-never-fall : (c : ℕ) → c < allColumns → columnOf earlier c ≤ columnOf later c
-    columns-never-fall c l = omega (arith, between .column c l)
-
     module _ (a b : List ℕ) (p : Shows (t .counts .vars) a (stateOf (earlier .now))) (q : Shows (t .counts .vars) b (stateOf (later .now))) where
       back : (v : ℕ) → v < t .counts .vars → stateOf (earlier .now) v ≡ stateOf a v
       back v l = sym (p .1 v l)
@@ -96,23 +86,15 @@ module _ (t : Tables) (r : Run) (clean : tablesFault t ≡ Clean) (sized : Sized
       lands : (v : ℕ) → v < t .counts .vars → stateOf b v ≡ end (sasOf t) steps (stateOf a) v
       lands v l = q .1 v l ∙ between .now v l ∙ end-same (sasOf t) steps (stateOf (earlier .now)) (stateOf a) back v l
 
-      -- a map's distance falls by at most what the map was paid ..
-      pub map-keeps-pace : (m : ℕ) → m < t .counts .maps → (x y : DistanceAnswer) → DistanceGiven t m a x → DistanceGiven t m b y
-          → KeepsPace distanceSaid (columnOf later m - columnOf earlier m) x y
-      map-keeps-pace m l =
-          distances-keep-pace t a b steps (now-clean xs a p) (now-clean (xs ++ ys) b q) legal lands m (columnOf later m - columnOf earlier m) l
-          (map-grew (taskOf t) valid steps earlier later between m l)
-
-      -- .. and the bound by at most what the maps were paid together
-      pub bound-keeps-pace : (x y : BoundAnswer) → BoundGiven t a x → BoundGiven t b y
-          → KeepsPace boundSaid (paidBetween (columnOf earlier) (columnOf later) (t .counts .maps)) x y
-      bound-keeps-pace =
-          bounds-keep-pace t a b steps (now-clean xs a p) (now-clean (xs ++ ys) b q) legal lands
-          (paidBetween (columnOf earlier) (columnOf later) (t .counts .maps)) (maps-grew (taskOf t) valid steps earlier later between)
-
-      -- where the earlier is none, the later is: of a map, and of the bound
-      pub map-none-stays : (m : ℕ) → DistanceGiven t m a distance.Nowhere → DistanceGiven t m b distance.Nowhere
-      map-none-stays = distance-none-stays t a b steps (now-clean xs a p) (now-clean (xs ++ ys) b q) legal lands
-
-      pub none-stays : BoundGiven t a bounds.Nowhere → BoundGiven t b bounds.Nowhere
-      none-stays = bound-none-stays t a b steps (now-clean xs a p) (now-clean (xs ++ ys) b q) legal lands
+      pub kept-never-jumps : NeverJumps t earlier later a b
+      kept-never-jumps =
+          record {
+            column = λ c l. omega (arith, between .column c l);
+            map =
+                λ m l.
+                distances-keep-pace t a b steps (now-clean xs a p) (now-clean (xs ++ ys) b q) legal lands m (columnOf later m - columnOf earlier m) l
+                (map-grew (taskOf t) valid steps earlier later between m l);
+            bound =
+                bounds-keep-pace t a b steps (now-clean xs a p) (now-clean (xs ++ ys) b q) legal lands
+                (paidBetween (columnOf earlier) (columnOf later) (t .counts .maps)) (maps-grew (taskOf t) valid steps earlier later between);
+          }

@@ -1,5 +1,5 @@
 -- The answers of `distance_at` and `bound` at the two ends of a sequence keep pace with what the maps are paid for it. Assumes nothing.
-use mathlib.Core.Path.{_≡_, refl, ap, _∙_, subst}
+use mathlib.Core.Path.{_≡_, refl, sym, ap, _∙_, subst}
 use mathlib.Core.List.{List}
 use Prim.Native.Nat.{ℕ, _+_, _<_}
 use native.Mathlib.Nat.{le-refl}
@@ -17,12 +17,10 @@ use Rattle.scan.specs.Scan.{inputFault}
 use Rattle.tables.specs.Layout.{Tables}
 use Rattle.tables.specs.Task.{sasOf, taskOf, stateOf}
 use Rattle.views.specs.declared.DistanceAnswer.{DistanceAnswer}
-use Rattle.views.specs.declared.DistanceAnswer.the-variants as distance
 use Rattle.views.specs.declared.BoundAnswer.{BoundAnswer}
-use Rattle.views.specs.declared.BoundAnswer.the-variants as bounds
 use Rattle.views.specs.Entries.{distanceSaid, boundSaid, DistanceGiven, BoundGiven}
 use Rattle.views.proofs.Judging.{bound-clean}
-use Rattle.views.proofs.Answered.{input-asked, asked-input, distance-answered, bound-answered}
+use Rattle.views.proofs.Answered.{input-asked, distance-answered, bound-answered}
 use Rattle.views.proofs.Promises.{distance-at-unique, bound-unique}
 use Rattle.watched_runs.specs.Watched.{FallsAtMost, KeepsPace}
 
@@ -46,6 +44,14 @@ none-falls k v (fin b) h e = absurd (⊑-none v e (k + b) (fallen k v (fin b) h 
 -- .. and what falls by its part in each map falls by the parts together in the sum
 sums-fall : (p : ℕ → ℕ) (d e : ℕ → Cost) (n : ℕ) → ((m : ℕ) → m < n → FallsAtMost (p m) (d m) (e m)) → FallsAtMost (sum p n) (summed d n) (summed e n)
 sums-fall p d e n h = falls-at-most (sum p n) (summed d n) (summed e n) (summed-falls d e p n (λ m l. fallen (p m) (d m) (e m) (h m l)))
+
+-- ---- two answers that keep pace
+
+-- where the earlier says none, the later does
+pub none-kept : {A : Type 0} (said : Cost → A) → ((v w : Cost) → said v ≡ said w → v ≡ w) → {k : ℕ} {x y : A} → KeepsPace said k x y → x ≡ said none
+    → y ≡ said none
+none-kept said told {k} pace e =
+    pace .3 ∙ ap said (none-falls k (pace .0) (pace .1) (pace .4) (told (pace .0) none (sym (pace .2) ∙ e)))
 
 -- what is told by answers keeps pace as they do
 pub told-keeps-pace : {A B : Type 0} (said : Cost → A) (f : A → B) {j k : ℕ} {a b : A} {x y : B} → j ≡ k → x ≡ f a → y ≡ f b → KeepsPace said k a b
@@ -102,13 +108,3 @@ module _ (t : Tables) (s z os : List ℕ) (from : inputFault t s ≡ Clean) (int
       → BoundGiven t s x → BoundGiven t z y → KeepsPace boundSaid k x y
   bounds-keep-pace k e x y p q =
       (bound (taskOf t) (stateOf s), bound (taskOf t) (stateOf z), bound-is-sum t s from x p, bound-is-sum t z into y q, rw e bound-paced)
-
-  -- where the earlier is none, the later is
-  pub distance-none-stays : (m : ℕ) → DistanceGiven t m s distance.Nowhere → DistanceGiven t m z distance.Nowhere
-  distance-none-stays m given =
-      let h = distance-answered t s m none .0 given in
-      let l = asked-input t s m (h .0) .1 in
-      distance-answered t z m none .1 (input-asked t z m into l, none-falls _ _ _ (away-paced m l) (h .1))
-
-  pub bound-none-stays : BoundGiven t s bounds.Nowhere → BoundGiven t z bounds.Nowhere
-  bound-none-stays given = bound-answered t z none .1 (into, none-falls _ _ _ bound-paced (bound-answered t s none .0 given .1))

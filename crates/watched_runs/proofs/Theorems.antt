@@ -3,7 +3,7 @@
 -- paid so far and the bound now. A run that was begun is one that the desk takes (Kept.antt). Assumes nothing.
 use mathlib.Core.Path.{_≡_, refl, sym, _∙_, subst}
 use mathlib.Core.List.{List, [], _++_}
-use Prim.Native.Nat.{ℕ, _-_, _≤_, _<_}
+use Prim.Native.Nat.{ℕ, _<_}
 use native.Mathlib.Omega.{arith}
 use Rattle.meaning.specs.Split.{sum}
 use Rattle.meaning.proofs.Columns.{sum-same}
@@ -15,16 +15,30 @@ use Rattle.views.specs.declared.DistanceAnswer.the-variants as distance
 use Rattle.views.specs.declared.BoundAnswer.{BoundAnswer}
 use Rattle.views.specs.declared.BoundAnswer.the-variants as bounds
 use Rattle.views.specs.Entries.{distanceSaid, boundSaid, DistanceGiven, BoundGiven}
+use Rattle.views.proofs.Answered.{distance-said, bound-said}
 use Rattle.sequences.proofs.Passing.{input-clean}
+use Rattle.ledger.specs.declared.Run.{Run}
 use Rattle.ledger.specs.declared.Answer.the-variants.{Accepted}
-use Rattle.ledger.specs.Ledger.{allColumns, begun}
+use Rattle.ledger.specs.Ledger.{begun}
 use Rattle.ledger.specs.History.{Offer, added, reallyRun, ran, runAfter, GivenByStartAndLog, Sized}
 use Rattle.ledger.proofs.Entries.{Began, accepted-began}
 use Rattle.ledger.proofs.Told.{is-run}
 use Rattle.ledger.proofs.History.{after-told, history, run-sized, map-paid}
 use Rattle.ledger.proofs.Sound.{run-exactly}
-use Rattle.watched_runs.specs.Watched.{KeepsPace, columnOf, paidBetween, Shows}
-use Rattle.watched_runs.proofs.Kept as kept
+use Rattle.watched_runs.specs.Watched.{KeepsPace, columnOf, Shows, NeverJumps}
+use Rattle.watched_runs.proofs.Pace.{none-kept}
+use Rattle.watched_runs.proofs.Kept.{kept-now-shown, kept-never-jumps}
+
+-- where the earlier is none, the later is: of a map, and of the bound
+module _ (t : Tables) (earlier later : Run) (a b : List ℕ) (never : NeverJumps t earlier later a b) where
+  pub map-none-stays : (m : ℕ) → m < t .counts .maps → (x y : DistanceAnswer) → DistanceGiven t m a x → DistanceGiven t m b y → x ≡ distance.Nowhere
+      → y ≡ distance.Nowhere
+  map-none-stays m l x y f g = none-kept distanceSaid distance-said (never .map m l x y f g)
+
+  pub none-stays : (x y : BoundAnswer) → BoundGiven t a x → BoundGiven t b y → x ≡ bounds.Nowhere → y ≡ bounds.Nowhere
+  none-stays x y f g = none-kept boundSaid bound-said (never .bound x y f g)
+
+-- ---- of any accepted start and any offers
 
 module _ (t : Tables) (s : List ℕ) (accepted : begun t s .answer ≡ Accepted) where
   began : Began t s
@@ -43,7 +57,7 @@ module _ (t : Tables) (s : List ℕ) (accepted : begun t s .answer ≡ Accepted)
 
   -- at every moment the run's own lists show its state now, and the start as it was handed in; and what was handed in shows that too
   pub now-shown : (xs : List Offer) → Shows (t .counts .vars) (runAfter t s xs .now) (stateOf (runAfter t s xs .now))
-  now-shown = kept.now-shown t (begun t s .run) (began .clean) begun-sized begun-given
+  now-shown = kept-now-shown t (begun t s .run) (began .clean) begun-sized begun-given
 
   pub start-shown : (xs : List Offer) → Shows (t .counts .vars) (runAfter t s xs .start) (stateOf s)
   start-shown xs = (omega (arith, run-sized t s accepted xs .start, clean-valid t (began .clean) .vars .1), history t s accepted xs .start)
@@ -52,29 +66,9 @@ module _ (t : Tables) (s : List ℕ) (accepted : begun t s .answer ≡ Accepted)
   handed-in-shown = (state-clean t s .0 (input-clean t s (began .input) .1) .0, λ v l. refl)
 
   -- BETWEEN TWO MOMENTS: after the offers xs, and after the offers ys that follow them
-  module _ (xs ys : List Offer) where
-    -- no column falls, so what is paid in between is the difference
-    pub columns-never-fall : (c : ℕ) → c < allColumns → columnOf (runAfter t s xs) c ≤ columnOf (runAfter t s (xs ++ ys)) c
-    columns-never-fall = kept.columns-never-fall t (begun t s .run) (began .clean) begun-sized begun-given xs ys
-
-    module _ (a b : List ℕ) (p : Shows (t .counts .vars) a (stateOf (runAfter t s xs .now)))
-        (q : Shows (t .counts .vars) b (stateOf (runAfter t s (xs ++ ys) .now))) where
-      -- a map's distance falls by at most what the map was paid ..
-      pub map-keeps-pace : (m : ℕ) → m < t .counts .maps → (x y : DistanceAnswer) → DistanceGiven t m a x → DistanceGiven t m b y
-          → KeepsPace distanceSaid (columnOf (runAfter t s (xs ++ ys)) m - columnOf (runAfter t s xs) m) x y
-      map-keeps-pace = kept.map-keeps-pace t (begun t s .run) (began .clean) begun-sized begun-given xs ys a b p q
-
-      -- .. and the bound by at most what the maps were paid together
-      pub bound-keeps-pace : (x y : BoundAnswer) → BoundGiven t a x → BoundGiven t b y
-          → KeepsPace boundSaid (paidBetween (columnOf (runAfter t s xs)) (columnOf (runAfter t s (xs ++ ys))) (t .counts .maps)) x y
-      bound-keeps-pace = kept.bound-keeps-pace t (begun t s .run) (began .clean) begun-sized begun-given xs ys a b p q
-
-      -- where the earlier is none, the later is: of a map, and of the bound
-      pub map-none-stays : (m : ℕ) → DistanceGiven t m a distance.Nowhere → DistanceGiven t m b distance.Nowhere
-      map-none-stays = kept.map-none-stays t (begun t s .run) (began .clean) begun-sized begun-given xs ys a b p q
-
-      pub none-stays : BoundGiven t a bounds.Nowhere → BoundGiven t b bounds.Nowhere
-      none-stays = kept.none-stays t (begun t s .run) (began .clean) begun-sized begun-given xs ys a b p q
+  pub never-jumps : (xs ys : List Offer) (a b : List ℕ) → Shows (t .counts .vars) a (stateOf (runAfter t s xs .now))
+      → Shows (t .counts .vars) b (stateOf (runAfter t s (xs ++ ys) .now)) → NeverJumps t (runAfter t s xs) (runAfter t s (xs ++ ys)) a b
+  never-jumps = kept-never-jumps t (begun t s .run) (began .clean) begun-sized begun-given
 
   -- AT EVERY MOMENT the bound at the start is at most what the maps were paid so far and the bound now; and so of each map alone
   module _ (xs : List Offer) (a b : List ℕ) (p : Shows (t .counts .vars) a (stateOf s)) (q : Shows (t .counts .vars) b (stateOf (runAfter t s xs .now))) where
@@ -90,11 +84,11 @@ module _ (t : Tables) (s : List ℕ) (accepted : begun t s .answer ≡ Accepted)
     pub map-from-start : (m : ℕ) → m < t .counts .maps → (x y : DistanceAnswer) → DistanceGiven t m a x → DistanceGiven t m b y
         → KeepsPace distanceSaid (columnOf (runAfter t s xs) m) x y
     map-from-start m l x y f g =
-        subst (λ (k : ℕ). KeepsPace distanceSaid k x y) (omega (arith, nothing-yet m l)) (map-keeps-pace [] xs a b at-start q m l x y f g)
+        subst (λ (k : ℕ). KeepsPace distanceSaid k x y) (omega (arith, nothing-yet m l)) (never-jumps [] xs a b at-start q .map m l x y f g)
 
     pub bound-from-start : (x y : BoundAnswer) → BoundGiven t a x → BoundGiven t b y
         → KeepsPace boundSaid (sum (columnOf (runAfter t s xs)) (t .counts .maps)) x y
     bound-from-start x y f g =
         subst (λ (k : ℕ). KeepsPace boundSaid k x y)
         (sum-same _ _ (t .counts .maps) (λ m l. omega (arith, nothing-yet m l)))
-        (bound-keeps-pace [] xs a b at-start q x y f g)
+        (never-jumps [] xs a b at-start q .bound x y f g)
