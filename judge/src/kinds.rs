@@ -3,6 +3,7 @@
 use crate::builder::{tables_of, text_of_task, Vector};
 use crate::edges::run_of;
 use crate::limits::*;
+use crate::moments;
 use crate::random::*;
 use crate::rng::Rng;
 use crate::rows;
@@ -41,8 +42,8 @@ const KINDS: [Kind; 24] = [
     shares_at_cost,
 ];
 
-/// The kinds over a row of records, and over sums of which some terms are none.
-const LATER_KINDS: [Kind; 3] = [rows::row_of_a_task, rows::damaged_row, sums::mixed];
+/// The kinds over a row of records, over sums of which some terms are none, and over runs watched at every moment.
+const LATER_KINDS: [Kind; 4] = [rows::row_of_a_task, rows::damaged_row, sums::mixed, moments::watched];
 
 /// The i-th vector by chance: the kinds take turns.
 pub fn by_chance(rng: &mut Rng, i: usize) -> Vector {
@@ -267,24 +268,28 @@ fn two_lists(rng: &mut Rng) -> Vector {
     vector
 }
 
-/// Offers as a careful and as a careless caller makes them.
+/// The number and the operator of an offer, as a careful or a careless caller makes it: the next step more often than not.
+pub fn some_offer(rng: &mut Rng, task: &Task, run: &Run) -> (u32, u32) {
+    let (next, _) = walk(rng, task, &run.state(task), 1);
+    let able = next.first().copied().unwrap_or(0);
+    let old = rng.between(1, run.len.max(1) as usize) as u32;
+    let any = rng.word();
+    match rng.below(10) {
+        0 => (old, run.log[old as usize - 1]),
+        1 => (old, rng_op(task, any)),
+        2 => (run.len + 1, rng_op(task, any)),
+        3 => (rng.pick(&[0, run.len + 2, any, run.len + 1]), rng.pick(&[able, task.ops.len() as u32, any])),
+        _ => (run.len + 1, able),
+    }
+}
+
 fn honest_run(rng: &mut Rng) -> Vector {
     let size = rng.pick(&[TINY, SMALL, MEDIUM, LARGE]);
     let task = lively_task(rng, size);
     let mut run = Run::fresh(&task.init);
     let mut vector = Vector::new("offers to a run, with retries and slips").task(&task).state(&task.init).lines("G");
     for _ in 0..30 {
-        let (next, _) = walk(rng, &task, &run.state(&task), 1);
-        let able = next.first().copied().unwrap_or(0);
-        let old = rng.between(1, run.len.max(1) as usize) as u32;
-        let any = rng.word();
-        let (number, op) = match rng.below(10) {
-            0 => (old, run.log[old as usize - 1]),
-            1 => (old, rng_op(&task, any)),
-            2 => (run.len + 1, rng_op(&task, any)),
-            3 => (rng.pick(&[0, run.len + 2, any, run.len + 1]), rng.pick(&[able, task.ops.len() as u32, any])),
-            _ => (run.len + 1, able),
-        };
+        let (number, op) = some_offer(rng, &task, &run);
         run = run.offer(&task, number, op).0;
         vector = vector.lines(&format!("O {} {}", number, op));
     }

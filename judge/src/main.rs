@@ -7,6 +7,7 @@ mod edges;
 mod edits;
 mod kinds;
 mod limits;
+mod moments;
 mod random;
 mod rng;
 mod row;
@@ -20,6 +21,8 @@ mod tables;
 mod task;
 #[cfg(test)]
 mod tests;
+#[cfg(test)]
+mod tests_moments;
 mod text;
 
 use std::io::{Read, Write};
@@ -38,7 +41,8 @@ fn input() -> Vec<u8> {
     bytes
 }
 
-/// The cases by name, then vectors by chance, as many as are asked for; then the small texts, the rows of records, and the sums last.
+/// The cases by name, then vectors by chance, as many as are asked for; then the small texts, the rows of records, the sums, and the
+/// watched runs last.
 fn vectors(seed: u64, count: usize) -> Vec<u8> {
     let mut vectors = cases::bench();
     vectors.extend(edges::edges());
@@ -51,6 +55,7 @@ fn vectors(seed: u64, count: usize) -> Vec<u8> {
     vectors.push(edits::small());
     vectors.extend(rows::rows(seed));
     vectors.extend(sums::sums(seed));
+    vectors.extend(moments::moments(seed));
     builder::script_of(&vectors)
 }
 

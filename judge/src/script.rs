@@ -276,6 +276,7 @@ impl Bench {
             }
             (b'A', [map]) => desk::distance_at(lent, *map, &state),
             (b'B', []) => desk::bound(lent, &state),
+            (b'M', []) => desk::bound(lent, &self.bytes(NOW)),
             (b'J', []) => desk::judge(lent, &state, a),
             (b'W', []) => desk::judge_row(Lent { costs: &[], ..lent }, &self.row(), &state, a),
             (b'C', []) => desk::cheaper(lent, &state, a, b),

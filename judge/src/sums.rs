@@ -13,7 +13,7 @@ const BY_CHANCE: usize = 12;
 const STUCK: Size = Size { vars: (2, 4), values: (2, 3), ops: (1, 6), maps: (2, 8) };
 
 /// Switches that must go on, each with a map and a price of its own; a stuck one has no operator.
-fn switches(count: usize, stuck: &[usize]) -> Task {
+pub fn switches(count: usize, stuck: &[usize]) -> Task {
     let only = |v: usize, value: usize| (0..count).map(|at| (at == v).then_some(value)).collect();
     let moved: Vec<usize> = (0..count).filter(|v| !stuck.contains(v)).collect();
     let price = |v: usize| 1 << v;
@@ -54,10 +54,15 @@ fn by_name() -> Vec<Vector> {
     vectors
 }
 
-/// A switch that must stay off and can be put on: a step after which there is no way, though the other map says a number.
+/// Switches of which the last must stay off and can be put on: after that step there is no way, though the other maps say a number.
+pub fn easily_lost(count: usize) -> Task {
+    let mut task = switches(count, &[]);
+    task.goal[count - 1] = Some(0);
+    task
+}
+
 fn lost_on_the_way() -> Vector {
-    let mut task = switches(2, &[]);
-    task.goal = vec![Some(1), Some(0)];
+    let task = easily_lost(2);
     let vector = asked("a step after which one map says none", &task, &[vec![0, 0], vec![0, 1], vec![1, 1], vec![1, 0]]);
     vector.state(&task.init).lines("G; O 1 1; B; s 4 0 0 1; B; s 4 0 0 1 1; B; J")
 }

@@ -31,8 +31,10 @@ use script::held::FACTS;
 use script::held::FACTS_PLACES;
 use script::held::FIRST;
 use script::held::LIST_PLACES;
+use script::held::NOW;
 use script::held::OUT;
 use script::held::OUT_PLACES;
+use script::held::RUN_STATE;
 use script::held::SECOND;
 use script::held::SHARES;
 use script::held::SHARES_PLACES;
@@ -90,6 +92,13 @@ fn call_distances(held: &mut [u32], facts: &[u8], costs: &[u32], shares: &[u32],
     let c = counts_held(held);
     say_distances(distances(c, facts, costs, shares, map, &mut out[..n]));
     save_words(held, OUT, &out);
+}
+
+// `M`: the bound at the run's state now; the run isn't judged.
+fn call_bound_now(held: &[u32], facts: &[u8], costs: &[u32], shares: &[u32]) {
+    let mut now = [0u8; RUN_STATE];
+    load_bytes(held, NOW, &mut now);
+    say_bound(bound(counts_held(held), facts, costs, shares, &now))
 }
 
 // `J`, `C` and `P`: the lists of operators.
@@ -151,6 +160,7 @@ fn call_over(
         b'D' => call_distances(held, facts, costs, shares, a),
         b'A' => say_distance(distance_at(c, facts, costs, shares, a, state)),
         b'B' => say_bound(bound(c, facts, costs, shares, state)),
+        b'M' => call_bound_now(held, facts, costs, shares),
         b'G' => call_begin(held, facts, costs, shares, state),
         b'O' => call_offer(held, facts, costs, shares, a, command.value(1)),
         _ => call_lists(held, facts, costs, shares, state, letter),
