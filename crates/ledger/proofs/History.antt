@@ -5,7 +5,7 @@ use mathlib.Core.Path.{_≡_, refl, ap, sym, _∙_, subst}
 use mathlib.Core.List.{List, [], _∷_, _++_, append-assoc, append-nil}
 use native.Mathlib.Omega.{arith}
 use lib.ListN.{getD}
-use Rattle.meaning.specs.Sas.{State, IsState, end, paid}
+use Rattle.meaning.specs.Sas.{State, IsState, Runs, end, paid}
 use Rattle.meaning.specs.Split.{Task, Valid, sum}
 use Rattle.meaning.proofs.Bounds.{end-state}
 use Rattle.scan.specs.declared.Found.the-variants.{Clean}
@@ -25,14 +25,16 @@ use Rattle.ledger.proofs.Entries.{Began, accepted-began}
 use Rattle.ledger.proofs.Begun.{startOf}
 use Rattle.ledger.proofs.Told.{Told, fresh-told, offer-told}
 
+-- what steps that run add to a map's column are the map's shares
+pub gains-shares : (T : Task) (s : State) (os : List ℕ) → Runs (T .sas) os s → (m : ℕ) → m < T .maps → paid (gain T m) os ≡ paid (T .share m) os
+gains-shares T s os legal m h = paid-same (T .sas) (gain T m) (T .share m) (λ o l. gain-map T m o h) os s legal
+
 -- ---- what a run that tells its steps says of the columns
 
 module _ (T : Task) (valid : Valid T) (s : State) (done : List ℕ) (r : Run) (tells : Tells T s done r) where
   -- each map was paid its shares
   tells-map : (m : ℕ) → m < T .maps → getD (r .columns) m 0 ≡ paid (T .share m) done
-  tells-map m h =
-      tells .column m (omega (arith, valid .maps .1))
-      ∙ paid-same (T .sas) (gain T m) (T .share m) (λ o l. gain-map T m o h) done s (tells .legal)
+  tells-map m h = tells .column m (omega (arith, valid .maps .1)) ∙ gains-shares T s done (tells .legal) m h
 
   -- what is left of the costs stands in the unshared column
   tells-unshared : getD (r .columns) unshared 0 ≡ paid (rest T) done

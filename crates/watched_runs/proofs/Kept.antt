@@ -7,8 +7,7 @@ use Prim.Native.Nat.{ℕ, _-_, _<_}
 use native.Mathlib.Omega.{arith}
 use Rattle.meaning.specs.Sas.{IsState, Runs, end, paid}
 use Rattle.meaning.specs.Split.{Task, sum, Valid}
-use Rattle.meaning.specs.Columns.{gain}
-use Rattle.meaning.proofs.Columns.{sum-same, gain-map}
+use Rattle.meaning.proofs.Columns.{sum-same}
 use Rattle.scan.specs.declared.Found.the-variants.{Clean}
 use Rattle.scan.specs.Scan.{tablesFault, inputFault}
 use Rattle.scan.proofs.Validity.{clean-valid, state-clean}
@@ -17,9 +16,9 @@ use Rattle.tables.specs.Task.{sasOf, taskOf, stateOf}
 use Rattle.sequences.proofs.Passing.{clean-input}
 use Rattle.ledger.specs.declared.Run.{Run}
 use Rattle.ledger.specs.History.{Offer, added, ran, Between, GivenByStartAndLog, Sized}
-use Rattle.ledger.proofs.Sequences.{runs-same, end-same, paid-same}
+use Rattle.ledger.proofs.Sequences.{runs-same, end-same}
 use Rattle.ledger.proofs.Told.{Told}
-use Rattle.ledger.proofs.History.{ran-told, told-state, told-between}
+use Rattle.ledger.proofs.History.{gains-shares, ran-told, told-state, told-between}
 use Rattle.ledger.proofs.Sound.{given-told}
 use Rattle.watched_runs.specs.Watched.{columnOf, paidBetween, Shows, NeverJumps}
 use Rattle.watched_runs.proofs.Pace.{distances-keep-pace, bounds-keep-pace}
@@ -28,10 +27,7 @@ use Rattle.watched_runs.proofs.Pace.{distances-keep-pace, bounds-keep-p
 
 module _ (T : Task) (valid : Valid T) (os : List ℕ) (earlier later : Run) (steps : Between T os earlier later) where
   map-grew : (m : ℕ) → m < T .maps → columnOf later m - columnOf earlier m ≡ paid (T .share m) os
-  map-grew m l =
-      let grown = steps .column m (omega (arith, valid .maps .1)) in
-      let shares = paid-same (T .sas) (gain T m) (T .share m) (λ o h. gain-map T m o l) os (stateOf (earlier .now)) (steps .legal) in
-      omega (arith, grown, shares)
+  map-grew m l = omega (arith, steps .column m (omega (arith, valid .maps .1)), gains-shares T (stateOf (earlier .now)) os (steps .legal) m l)
 
   maps-grew : paidBetween (columnOf earlier) (columnOf later) (T .maps) ≡ sum (λ m. paid (T .share m) os) (T .maps)
   maps-grew = sum-same _ _ (T .maps) (λ m l. omega (arith, map-grew m l))
