@@ -62,7 +62,8 @@ use Rattle.sequences.specs.Stepping.{stepOf}
 use Rattle.meaning.specs.Limits.{mostBytes, mostSteps}
 use Rattle.sweep.specs.Said.{said}
 use Rattle.sequences.specs.Judging.{walked, limited}
-use Rattle.ledger.specs.Ledger.{booked, fresh, advanced, canRun, replayed, given, startAt, startIn, sameTo, sameRun, isRun, oldStep, nextStep, offerJudged}
+use Rattle.ledger.specs.Ledger.{booked, atStart, onward, fresh, advanced, canRun, replayed, given, startAt, startIn, zeros, sameTo, alike, isRun}
+use Rattle.ledger.specs.Ledger.{oldStep, nextStep, offerJudged}
 use Rattle.meaning.specs.Columns.{rest, gain}
 use Rattle.cases.specs.Told.{Told, yes!, no!, Claim, EachAt, Case, RightOf, Right}
 use Rattle.cases.specs.Cases.{table}
@@ -150,7 +151,7 @@ opened-steps = tt
 
 -- a run
 opened-run : Unit {0}
-unfolding rest gain booked fresh advanced canRun replayed given startAt startIn sameTo sameRun isRun oldStep nextStep offerJudged
+unfolding rest gain booked atStart onward fresh advanced canRun replayed given startAt startIn zeros sameTo alike isRun oldStep nextStep offerJudged
 opened-run = tt
 
 pub cases-hold : (f c s : List ℕ) → factsRoom ≤ length f → costsRoom ≤ length c → sharesRoom ≤ length s → EachAt (λ i x. Right f c s x) 0 table

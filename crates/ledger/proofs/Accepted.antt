@@ -66,7 +66,7 @@ module _ (t : Tables) (r : Run) (number o : ℕ) where
     pub exists : o < t .counts .ops
     pub next : number ≡ r .len + 1
     pub room : r .len < mostSteps
-    pub can : canRun (t .counts) (t .facts) r o ≡ true
+    pub can : canRun (t .counts) (t .facts) (r .now) o ≡ true
 
   pub accepted-had : answered t r number o ≡ Accepted → Had
   unfolding answered offerJudged oldStep
@@ -96,7 +96,7 @@ module _ (t : Tables) (r : Run) (number o : ℕ) where
             );
         room = room;
         can =
-            by-cases (canRun (t .counts) (t .facts) r o) (λ p. p)
+            by-cases (canRun (t .counts) (t .facts) (r .now) o) (λ p. p)
             (λ p. absurd (not-refused (MayNotRun number) (next-not (t .counts) (t .facts) r number o room p ∙ new .1)));
       }
 

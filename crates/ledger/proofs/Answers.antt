@@ -30,12 +30,12 @@ module _ (c : Counts) (facts : List ℕ) (v x : ℕ) where
 
 -- ---- the operator exists and may run
 
-module _ (c : Counts) (facts : List ℕ) (r : Run) (o : ℕ) where
-  pub can-no : c .ops ≤ o → false ≡ canRun c facts r o
+module _ (c : Counts) (facts s : List ℕ) (o : ℕ) where
+  pub can-no : c .ops ≤ o → false ≡ canRun c facts s o
   unfolding canRun
   can-no h = rw (le-ltb o (c .ops) h) refl
 
-  pub can-may : (x : Bool) → o < c .ops → x ≡ mayRun c facts (r .now) o → x ≡ canRun c facts r o
+  pub can-may : (x : Bool) → o < c .ops → x ≡ mayRun c facts s o → x ≡ canRun c facts s o
   unfolding canRun
   can-may x h e = rw (lt-ltb o (c .ops) h) e
 
@@ -55,11 +55,11 @@ module _ (c : Counts) (facts : List ℕ) (r : Run) (number o : ℕ) where
   unfolding nextStep
   next-full h = rw (le-leb mostSteps (r .len) h) refl
 
-  pub next-go : r .len < mostSteps → canRun c facts r o ≡ true → Accepted ≡ nextStep c facts r number o
+  pub next-go : r .len < mostSteps → canRun c facts (r .now) o ≡ true → Accepted ≡ nextStep c facts r number o
   unfolding nextStep
   next-go h e = rw (lt-leb mostSteps (r .len) h, e) refl
 
-  pub next-not : r .len < mostSteps → canRun c facts r o ≡ false → Refused (MayNotRun number) ≡ nextStep c facts r number o
+  pub next-not : r .len < mostSteps → canRun c facts (r .now) o ≡ false → Refused (MayNotRun number) ≡ nextStep c facts r number o
   unfolding nextStep
   next-not h e = rw (lt-leb mostSteps (r .len) h, e) refl
 

@@ -16,7 +16,7 @@ use Rattle.tables.proofs.Laws.{filled-at, filled-later, length-filled}
 use Rattle.tables.specs.Steps.{copied}
 use Rattle.scan.specs.declared.Found.the-variants.{Clean}
 use Rattle.scan.specs.Scan.{inputFault}
-use Rattle.ledger.specs.Ledger.{fresh, startsAt, startIn, started, begun}
+use Rattle.ledger.specs.Ledger.{atStart, fresh, startsAt, startIn, started, begun}
 use Rattle.ledger.proofs.Answers.{start-within, start-beyond}
 use Rattle.ledger.proofs.Gains.{zeros-at}
 
@@ -37,7 +37,7 @@ module _ (t : Tables) (s : List ℕ) (valid : Valid (taskOf t)) where
 
   -- so a start that is accepted has 0 beyond the variables, whatever the lent list has there
   pub begun-beyond : inputFault t s ≡ Clean → (v : ℕ) → t .counts .vars ≤ v → stateOf (begun t s .run .start) v ≡ 0
-  unfolding begun started fresh
+  unfolding begun started fresh atStart
   begun-beyond p v h = rw p (from-beyond v h)
 
   pub from-size : length (startOf t s) ≡ mostVars

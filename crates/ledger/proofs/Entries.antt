@@ -6,14 +6,13 @@ use lib.ListN.{replicate}
 use Rattle.refusals.specs.declared.Refusal.{Refusal}
 use Rattle.meaning.specs.Limits.{mostVars, mostSteps}
 use Rattle.meaning.specs.Sas.{IsState}
-use Rattle.meaning.specs.Split.{Valid}
 use Rattle.scan.specs.declared.Found.{Found}
 use Rattle.scan.specs.declared.Found.the-variants.{Clean, Fault}
 use Rattle.scan.specs.Scan.{tablesFault, stateFault, inputFault}
 use Rattle.scan.proofs.Walks.{clean-first, clean-next}
 use Rattle.scan.proofs.Validity.{clean-valid, state-clean}
 use Rattle.tables.specs.Layout.{Tables}
-use Rattle.tables.specs.Task.{taskOf, sasOf, stateOf}
+use Rattle.tables.specs.Task.{sasOf, stateOf}
 use Rattle.tables.specs.Steps.{copied}
 use Rattle.ledger.specs.declared.Run.{Run}
 use Rattle.ledger.specs.declared.Answer.{Answer}
@@ -40,11 +39,10 @@ module _ (t : Tables) (r : Run) (number o : ℕ) (x : Answer) (e : x ≡ answere
 
 -- ALL THAT A STEP ASKS, an accepted offer had
 pub step-asks : (t : Tables) (r : Run) (number o : ℕ) → answered t r number o ≡ Accepted
-    → Valid (taskOf t) × (o < t .counts .ops) × (r .len < mostSteps) × Bounded r
+    → (tablesFault t ≡ Clean) × (o < t .counts .ops) × (r .len < mostSteps) × Bounded (r .len) (r .columns)
 step-asks t r number o e =
     let had = accepted-had t r number o e in
-    let valid = clean-valid t (had .clean) in
-    (valid, had .exists, had .room, run-bounded t r valid (had .run))
+    (had .clean, had .exists, had .room, run-bounded t r (clean-valid t (had .clean)) (had .run))
 
 -- ---- a start
 

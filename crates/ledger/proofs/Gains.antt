@@ -11,8 +11,7 @@ use Rattle.meaning.proofs.Facts.{by-order}
 use Rattle.meaning.proofs.Columns.{gain-unused, gain-rest}
 use Rattle.tables.specs.Steps.{overwritten}
 use Rattle.tables.proofs.Laws.{filled-next, filled-still, filled-later, filled-at, length-filled}
-use Rattle.ledger.specs.declared.Run.{Run}
-use Rattle.ledger.specs.Ledger.{allColumns, bookedAt, booked, fresh}
+use Rattle.ledger.specs.Ledger.{allColumns, bookedAt, booked, atStart}
 use Rattle.meaning.specs.Columns.{unshared, rest, gain}
 use Rattle.ledger.specs.Inside.Bounded.{Bounded, HasRoom}
 
@@ -86,11 +85,11 @@ module _ (T : Task) where
 
 -- ---- no column has more than the steps can have paid
 
-pub fresh-bounded : (s : List ℕ) → Bounded (fresh s)
-unfolding fresh
-fresh-bounded s = record { within = λ c h. omega (arith, zeros-at allColumns c) }
+pub start-bounded : (s : List ℕ) → Bounded 0 (atStart s .columns)
+unfolding atStart
+start-bounded s c h = omega (arith, zeros-at allColumns c)
 
 -- columns with room in the log have room for a gain
-pub column-room : (r : Run) → r .len < mostSteps → Bounded r → HasRoom (r .columns)
+pub column-room : (steps : ℕ) (columns : List ℕ) → steps < mostSteps → Bounded steps columns → HasRoom columns
 unfolding mostSteps
-column-room r l b c h = omega (arith, b .within c h)
+column-room steps columns l b c h = omega (arith, b c h)

@@ -43,7 +43,7 @@ module _ (T : Task) (valid : Valid T) (s : State) (done : List ℕ) (r : Run) (t
       ∙ paid-same (T .sas) (gain T unshared) (rest T) (λ o l. gain-rest T unshared o (valid .maps .1) refl) done s (tells .legal)
 
   -- these together are the costs
-  tells-all : sum (λ c. getD (r .columns) c 0) costColumns ≡ paid (T .sas .cost) done
+  pub tells-all : sum (λ c. getD (r .columns) c 0) costColumns ≡ paid (T .sas .cost) done
   tells-all =
       sum-same (λ c. getD (r .columns) c 0) (λ c. paid (gain T c) done) costColumns (λ c h. tells .column c (omega arith))
       ∙ paid-sum (gain T) costColumns done

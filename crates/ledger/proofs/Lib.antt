@@ -10,3 +10,4 @@ pub mod History
 pub mod Sound
 pub mod Unread
 pub mod Seventeen
+pub mod Within

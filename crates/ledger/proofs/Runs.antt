@@ -1,13 +1,14 @@
--- Laws of runs: when two are the same, what replaying a log gives, and what a run has that its start and log give. Assumes nothing.
-use Prim.Native.Nat.{ℕ, _+_, _≤_, _<_}
-use mathlib.Core.Path.{_≡_, refl, ap, sym, _∙_}
+-- Laws of runs: when two stand alike, when the unused places of a log are 0, what replaying a log gives, and what a run has that its start and log give.
+-- Assumes nothing.
+use Prim.Native.Nat.{ℕ, zero, suc, _+_, _-_, _≤_, _<_}
+use mathlib.Core.Path.{_≡_, refl, ap, ap₂, sym, _∙_}
 use mathlib.Core.List.{List, [], _∷_}
 use mathlib.Core.Bool.{Bool, true, false, _&&_, and-false, false≢true}
 use native.Mathlib.Numerals.{add-one}
 use native.Mathlib.Omega.{arith}
 use lib.Dec.{ltb, leb, eqb}
-use lib.ListN.{length, getD, take, drop, drop-of-length-le, length-take}
-use lib.Seq.{drop-cons, getD-take}
+use lib.ListN.{length, getD, take, drop, drop-of-length-le, length-take, length-set, length-replicate}
+use lib.Seq.{drop-cons, getD-take, getD-drop}
 use borrow.Author.Tests.{lt-leb, le-leb, eq-eqb, ne-eqb, leb-true, eqb-true, ltb-true}
 use Rattle.meaning.specs.Limits.{mostVars, mostSteps}
 use Rattle.meaning.specs.Split.{Valid}
@@ -15,12 +16,15 @@ use Rattle.meaning.proofs.Facts.{and-left, and-right, every-true, true-every, b
 use Rattle.tables.specs.declared.Counts.{Counts}
 use Rattle.tables.specs.Layout.{Tables}
 use Rattle.tables.specs.Task.{taskOf}
-use Rattle.tables.specs.Steps.{mayRun}
+use Rattle.tables.specs.Steps.{mayRun, stepped}
+use Rattle.tables.proofs.Meant.{stepped-length}
 use Rattle.ledger.specs.declared.Run.{Run}
-use Rattle.ledger.specs.declared.Tried.{Tried}
-use Rattle.ledger.specs.Ledger.{allColumns, fresh, advanced, canRun, replayed, given, startIn, sameAt, sameTo, sameRun, isRun}
+use Rattle.ledger.specs.declared.replay.Standing.{Standing}
+use Rattle.ledger.specs.declared.replay.Tried.{Tried}
+use Rattle.ledger.specs.Ledger.{allColumns, booked, atStart, onward, standing, fresh, advanced, canRun, replayed, given, startIn, zeros, sameAt, sameTo, alike, isRun}
+use Rattle.ledger.specs.History.{Sized}
 use Rattle.ledger.specs.Inside.Bounded.{Bounded}
-use Rattle.ledger.proofs.Gains.{booked-most, fresh-bounded}
+use Rattle.ledger.proofs.Gains.{booked-length, booked-most, start-bounded}
 use Rattle.meaning.proofs.Columns.{gain-small}
 
 -- ---- several tests that all hold
@@ -40,42 +44,35 @@ five a b c d e p =
     let q = four a b c d (and-left (a && b && c && d) e p) in
     (q .0, q .1, q .2, q .3, and-right (a && b && c && d) e p)
 
--- ---- two runs, part by part
+-- ---- where two runs stand, part by part
 
-sameTo-fewer : (j k : ℕ) (xs ys : List ℕ) → k ≤ j → sameTo j xs ys ≡ true → sameTo k xs ys ≡ true
-unfolding sameTo
-sameTo-fewer j k xs ys l p = true-every (sameAt xs ys) k (λ i h. every-true (sameAt xs ys) j p i (omega arith))
+module _ (x y : Standing) where
+  pub now-differs : sameTo mostVars (x .now) (y .now) ≡ false → false ≡ alike x y
+  unfolding alike
+  now-differs p = rw p refl
 
-module _ (r q : Run) where
-  pub start-differs : sameTo mostVars (r .start) (q .start) ≡ false → false ≡ sameRun r q
-  unfolding sameRun
-  start-differs p = rw p refl
+  -- where the states are the same, the columns decide
+  pub columns-decide : (b : Bool) → sameTo mostVars (x .now) (y .now) ≡ true → b ≡ sameTo allColumns (x .columns) (y .columns) → b ≡ alike x y
+  unfolding alike
+  columns-decide b n e = rw n e
 
-  pub now-differs : sameTo mostVars (r .now) (q .now) ≡ false → false ≡ sameRun r q
-  unfolding sameRun
-  now-differs p = rw (p, and-false) refl
-
-  pub len-differs : (r .len ≡ q .len → ⊥) → false ≡ sameRun r q
-  unfolding sameRun
-  len-differs p = rw (ne-eqb (r .len) (q .len) p, and-false) refl
-
-  -- a difference among the first places, however many
-  pub log-differs : (k : ℕ) → k ≤ mostSteps → sameTo k (r .log) (q .log) ≡ false → false ≡ sameRun r q
-  unfolding sameRun
-  log-differs k l p =
-      by-cases (sameTo mostSteps (r .log) (q .log)) (λ e. absurd (false≢true (sym p ∙ sameTo-fewer mostSteps k (r .log) (q .log) l e)))
-      (λ e. rw (e, and-false) refl)
-
-  -- where all else is the same, the columns decide
-  pub columns-decide : (x : Bool) → sameTo mostVars (r .start) (q .start) ≡ true → sameTo mostVars (r .now) (q .now) ≡ true
-      → r .len ≡ q .len → sameTo mostSteps (r .log) (q .log) ≡ true → x ≡ sameTo allColumns (r .columns) (q .columns)
-      → x ≡ sameRun r q
-  unfolding sameRun
-  columns-decide x s n l g e = rw (s, n, eq-eqb (r .len) (q .len) l, g) e
+  pub alike-parts : alike x y ≡ true → (sameTo mostVars (x .now) (y .now) ≡ true) × (sameTo allColumns (x .columns) (y .columns) ≡ true)
+  unfolding alike
+  alike-parts p =
+      let n = sameTo mostVars (x .now) (y .now) in
+      let c = sameTo allColumns (x .columns) (y .columns) in
+      (and-left n c p, and-right n c p)
 
 pub sameTo-at : (k : ℕ) (xs ys : List ℕ) → sameTo k xs ys ≡ true → (i : ℕ) → i < k → getD xs i 0 ≡ getD ys i 0
 unfolding sameTo
 sameTo-at k xs ys p i h = eqb-true (getD xs i 0) (getD ys i 0) (every-true (sameAt xs ys) k p i h)
+
+pub alike-refl : (x : Standing) → alike x x ≡ true
+unfolding sameTo
+alike-refl x = sym (columns-decide x x true (self mostVars (x .now)) (sym (self allColumns (x .columns))))
+  where
+    self : (k : ℕ) (xs : List ℕ) → sameTo k xs xs ≡ true
+    self k xs = true-every (sameAt xs xs) k (λ i h. eq-eqb (getD xs i 0) (getD xs i 0) refl)
 
 -- two runs have the same numbers at the places that count
 pub record SamePlaces (r q : Run) : Type 0 where
@@ -85,102 +82,128 @@ pub record SamePlaces (r q : Run) : Type 0 where
   pub log : (i : ℕ) → i < mostSteps → getD (r .log) i 0 ≡ getD (q .log) i 0
   pub columns : (c : ℕ) → c < allColumns → getD (r .columns) c 0 ≡ getD (q .columns) c 0
 
-pub same-places : (r q : Run) → sameRun r q ≡ true → SamePlaces r q
-unfolding sameRun
-same-places r q p =
-    let s = sameTo mostVars (r .start) (q .start) in
-    let n = sameTo mostVars (r .now) (q .now) in
-    let g = sameTo mostSteps (r .log) (q .log) in
-    let h = five s n (eqb (r .len) (q .len)) g (sameTo allColumns (r .columns) (q .columns)) p in
+-- ---- a run as its type has it: a fresh one, and one with a step more
+
+pub fresh-sized : (s : List ℕ) → length s ≡ mostVars → Sized (fresh s)
+unfolding fresh atStart
+fresh-sized s e =
+    record { start = e; log = length-replicate {A = ℕ} mostSteps 0; now = e; columns = length-replicate {A = ℕ} allColumns 0 }
+
+pub advanced-sized : (t : Tables) (r : Run) (o : ℕ) → Sized r → Sized (advanced t r o)
+unfolding advanced onward
+advanced-sized t r o sized =
     record {
-      start = sameTo-at mostVars (r .start) (q .start) (h .0);
-      now = sameTo-at mostVars (r .now) (q .now) (h .1);
-      len = eqb-true (r .len) (q .len) (h .2);
-      log = sameTo-at mostSteps (r .log) (q .log) (h .3);
-      columns = sameTo-at allColumns (r .columns) (q .columns) (h .4);
+      start = sized .start;
+      log = length-set (r .log) (r .len) o ∙ sized .log;
+      now = stepped-length t (r .now) o ∙ sized .now;
+      columns = booked-length (taskOf t) (r .columns) o ∙ sized .columns;
     }
 
-pub same-refl : (r : Run) → sameRun r r ≡ true
-unfolding sameTo
-same-refl r =
-    sym
-    (columns-decide r r true (self mostVars (r .start)) (self mostVars (r .now)) refl (self mostSteps (r .log))
-    (sym (self allColumns (r .columns))))
-  where
-    self : (k : ℕ) (xs : List ℕ) → sameTo k xs xs ≡ true
-    self k xs = true-every (sameAt xs xs) k (λ i h. eq-eqb (getD xs i 0) (getD xs i 0) refl)
+-- ---- unused places of a log
+
+-- the first place that isn't 0 ends it; past the last one nothing is left
+pub zeros-stop : (l : List ℕ) (i : ℕ) → i < length l → (getD l i 0 ≡ 0 → ⊥) → zeros (drop i l) ≡ false
+unfolding zeros
+zeros-stop l i h p = rw (drop-cons l i 0 h, ne-eqb (getD l i 0) 0 p) refl
+
+pub zeros-on : (l : List ℕ) (i : ℕ) → i < length l → getD l i 0 ≡ 0 → zeros (drop i l) ≡ zeros (drop (i + 1) l)
+unfolding zeros
+zeros-on l i h p = rw (add-one, drop-cons l i 0 h, eq-eqb (getD l i 0) 0 p) refl
+
+pub zeros-end : (l : List ℕ) (i : ℕ) → length l ≤ i → zeros (drop i l) ≡ true
+unfolding zeros
+zeros-end l i h = rw (drop-of-length-le l h) refl
+
+-- they are 0 exactly if none is another number
+all-zeros : (l : List ℕ) → ((i : ℕ) → getD l i 0 ≡ 0) → zeros l ≡ true
+unfolding zeros
+all-zeros [] h = refl
+all-zeros (x ∷ xs) h = rw (eq-eqb x 0 (h 0)) (all-zeros xs (λ i. h (suc i)))
+
+zeros-all : (l : List ℕ) → zeros l ≡ true → (i : ℕ) → getD l i 0 ≡ 0
+unfolding zeros
+zeros-all [] p i = refl
+zeros-all (x ∷ xs) p zero = eqb-true x 0 (and-left (eqb x 0) (zeros xs) p)
+zeros-all (x ∷ xs) p (suc i) = zeros-all xs (and-right (eqb x 0) (zeros xs) p) i
+
+pub unused-zeros : (l : List ℕ) (k : ℕ) → ((i : ℕ) → k ≤ i → getD l i 0 ≡ 0) → zeros (drop k l) ≡ true
+unused-zeros l k h = all-zeros (drop k l) (λ i. getD-drop k l i 0 ∙ h (k + i) (omega arith))
+
+pub zeros-unused : (l : List ℕ) (k : ℕ) → zeros (drop k l) ≡ true → (i : ℕ) → k ≤ i → getD l i 0 ≡ 0
+zeros-unused l k p i h =
+    let e : k + (i - k) ≡ i = omega arith in
+    ap (λ (j : ℕ). getD l j 0) (sym e) ∙ sym (getD-drop k l (i - k) 0) ∙ zeros-all (drop k l) p (i - k)
 
 -- ---- replaying
 
-pub can-exists : (c : Counts) (facts : List ℕ) (r : Run) (o : ℕ) → canRun c facts r o ≡ true → o < c .ops
+pub can-exists : (c : Counts) (facts s : List ℕ) (o : ℕ) → canRun c facts s o ≡ true → o < c .ops
 unfolding canRun
-can-exists c facts r o p = ltb-true o (c .ops) (and-left (ltb o (c .ops)) (mayRun c facts (r .now) o) p)
+can-exists c facts s o p = ltb-true o (c .ops) (and-left (ltb o (c .ops)) (mayRun c facts s o) p)
 
 module _ (t : Tables) where
-  pub len-next : (r q : Run) (o i : ℕ) → q ≡ advanced t r o → r .len ≡ i → q .len ≡ i + 1
-  unfolding advanced
-  len-next r q o i e p = ap (λ (x : Run). x .len) e ∙ ap (λ (n : ℕ). n + 1) p
-
-  pub replayed-yes : (r : Run) (o : ℕ) (os : List ℕ) → canRun (t .counts) (t .facts) r o ≡ true
-      → replayed t r (o ∷ os) ≡ replayed t (advanced t r o) os
+  pub replayed-yes : (x : Standing) (o : ℕ) (os : List ℕ) → canRun (t .counts) (t .facts) (x .now) o ≡ true
+      → replayed t x (o ∷ os) ≡ replayed t (onward t x o) os
   unfolding replayed
-  replayed-yes r o os p = rw (replayed, p) refl
+  replayed-yes x o os p = rw (replayed, p) refl
 
-  pub replayed-no : (r : Run) (o : ℕ) (os : List ℕ) → canRun (t .counts) (t .facts) r o ≡ false
-      → replayed t r (o ∷ os) ≡ record { ok = false; run = r }
+  pub replayed-no : (x : Standing) (o : ℕ) (os : List ℕ) → canRun (t .counts) (t .facts) (x .now) o ≡ false
+      → replayed t x (o ∷ os) ≡ record { ok = false; at = x }
   unfolding replayed
-  replayed-no r o os p = rw (replayed, p) refl
+  replayed-no x o os p = rw (replayed, p) refl
 
-  -- the replaying loop: q₀ is the fresh run, q the run after i of the first k steps of the log
-  module _ (s log : List ℕ) (k : ℕ) (long : k ≤ length log) (q₀ q : Run) (i : ℕ) (start : q₀ ≡ fresh s)
-      (so-far : replayed t q₀ (take k log) ≡ replayed t q (drop i (take k log))) where
-    left-over : i < k → replayed t q (drop i (take k log)) ≡ replayed t q (getD log i 0 ∷ drop (i + 1) (take k log))
+  -- a step, from what it does to the state and to the columns
+  pub stepped-onward : (x : Standing) (o : ℕ) (s columns : List ℕ) → s ≡ stepped (t .counts) (t .facts) (x .now) o → columns ≡ booked (taskOf t) (x .columns) o
+      → record { now = s; columns = columns } ≡ onward t x o
+  unfolding onward
+  stepped-onward x o s columns p q = ap₂ (λ (s columns : List ℕ). record { now = s; columns = columns }) p q
+
+  -- the replaying loop: x is where the first i of the first k steps of the log lead from s
+  module _ (s log : List ℕ) (k : ℕ) (long : k ≤ length log) (x : Standing) (i : ℕ)
+      (so-far : replayed t (atStart s) (take k log) ≡ replayed t x (drop i (take k log))) where
+    left-over : i < k → replayed t x (drop i (take k log)) ≡ replayed t x (getD log i 0 ∷ drop (i + 1) (take k log))
     left-over h =
         let g : i < length (take k log) = omega (arith, length-take k log) in
         rw (add-one, drop-cons (take k log) i 0, getD-take k log i 0 h) refl
 
-    whole : replayed t (fresh s) (take k log) ≡ replayed t q (drop i (take k log))
-    whole = ap (λ (z : Run). replayed t z (take k log)) (sym start) ∙ so-far
-
-    pub given-next : (q′ : Run) → i < k → canRun (t .counts) (t .facts) q (getD log i 0) ≡ true → q′ ≡ advanced t q (getD log i 0)
-        → replayed t q₀ (take k log) ≡ replayed t q′ (drop (i + 1) (take k log))
-    given-next q′ h p e =
+    pub given-next : (y : Standing) → i < k → canRun (t .counts) (t .facts) (x .now) (getD log i 0) ≡ true → y ≡ onward t x (getD log i 0)
+        → replayed t (atStart s) (take k log) ≡ replayed t y (drop (i + 1) (take k log))
+    given-next y h p e =
         so-far
         ∙ left-over h
-        ∙ replayed-yes q (getD log i 0) (drop (i + 1) (take k log)) p
-        ∙ ap (λ (z : Run). replayed t z (drop (i + 1) (take k log))) (sym e)
+        ∙ replayed-yes x (getD log i 0) (drop (i + 1) (take k log)) p
+        ∙ ap (λ (z : Standing). replayed t z (drop (i + 1) (take k log))) (sym e)
 
-    pub given-stop : i < k → canRun (t .counts) (t .facts) q (getD log i 0) ≡ false
-        → record { ok = false; run = q } ≡ replayed t (fresh s) (take k log)
-    given-stop h p = sym (whole ∙ left-over h ∙ replayed-no q (getD log i 0) (drop (i + 1) (take k log)) p)
+    pub given-stop : i < k → canRun (t .counts) (t .facts) (x .now) (getD log i 0) ≡ false
+        → record { ok = false; at = x } ≡ replayed t (atStart s) (take k log)
+    given-stop h p = sym (so-far ∙ left-over h ∙ replayed-no x (getD log i 0) (drop (i + 1) (take k log)) p)
 
-    pub given-end : k ≤ i → record { ok = true; run = q } ≡ replayed t (fresh s) (take k log)
+    pub given-end : k ≤ i → record { ok = true; at = x } ≡ replayed t (atStart s) (take k log)
     unfolding replayed
     given-end h =
         let g : length (take k log) ≤ i = omega (arith, length-take k log) in
-        sym (whole ∙ ap (replayed t q) (drop-of-length-le (take k log) g))
+        sym (so-far ∙ ap (replayed t x) (drop-of-length-le (take k log) g))
 
   -- ---- no column has more than the steps can have paid
 
   module _ (valid : Valid (taskOf t)) where
-    pub bounded-step : (r q : Run) (o : ℕ) → o < t .counts .ops → Bounded r → q ≡ advanced t r o → Bounded q
-    unfolding advanced
-    bounded-step r q o g b e =
-        rw e record {
-          within =
-              λ c h.
-              omega (arith, booked-most (taskOf t) (r .columns) o c h, gain-small (taskOf t) valid o g c, b .within c h);
-        }
+    pub bounded-step : (steps : ℕ) (x y : Standing) (o : ℕ) → o < t .counts .ops → Bounded steps (x .columns) → y ≡ onward t x o
+        → Bounded (steps + 1) (y .columns)
+    unfolding onward
+    bounded-step steps x y o g b e c h =
+        rw e (omega (arith, booked-most (taskOf t) (x .columns) o c h, gain-small (taskOf t) valid o g c, b c h))
 
-    bounded-replayed : (os : List ℕ) (r : Run) → Bounded r → Bounded (replayed t r os .run)
+    bounded-replayed : (os : List ℕ) (steps : ℕ) (x : Standing) → Bounded steps (x .columns)
+        → Bounded (steps + length os) (replayed t x os .at .columns)
     unfolding replayed
-    bounded-replayed [] r b = b
-    bounded-replayed (o ∷ os) r b =
-        by-cases (canRun (t .counts) (t .facts) r o)
+    bounded-replayed [] steps x b = λ c h. omega (arith, b c h)
+    bounded-replayed (o ∷ os) steps x b =
+        by-cases (canRun (t .counts) (t .facts) (x .now) o)
         (λ p.
-        rw (replayed-yes r o os p)
-        (bounded-replayed os (advanced t r o) (bounded-step r (advanced t r o) o (can-exists (t .counts) (t .facts) r o p) b refl)))
-        (λ p. rw (replayed-no r o os p) b)
+        rw (replayed-yes x o os p)
+        (λ c h.
+        let next = bounded-step steps x (onward t x o) o (can-exists (t .counts) (t .facts) (x .now) o p) b refl in
+        omega (arith, bounded-replayed os (steps + 1) (onward t x o) next c h)))
+        (λ p. rw (replayed-no x o os p) (λ c h. omega (arith, b c h)))
 
   -- ---- what a run has that is what its start and log give
 
@@ -188,22 +211,24 @@ module _ (t : Tables) where
     pub record Tested : Type 0 where
       pub len : r .len ≤ mostSteps
       pub inside : startIn (t .counts) (t .facts) (r .start) ≡ true
+      pub unused : zeros (drop (r .len) (r .log)) ≡ true
       pub ran : given t r .ok ≡ true
-      pub same : sameRun r (given t r .run) ≡ true
+      pub same : alike (standing r) (given t r .at) ≡ true
 
     pub run-tested : isRun t r ≡ true → Tested
     unfolding isRun
     run-tested p =
         let i = startIn (t .counts) (t .facts) (r .start) in
-        let h = four (leb (r .len) mostSteps) i (given t r .ok) (sameRun r (given t r .run)) p in
-        record { len = leb-true (r .len) mostSteps (h .0); inside = h .1; ran = h .2; same = h .3 }
+        let z = zeros (drop (r .len) (r .log)) in
+        let h = five (leb (r .len) mostSteps) i z (given t r .ok) (alike (standing r) (given t r .at)) p in
+        record { len = leb-true (r .len) mostSteps (h .0); inside = h .1; unused = h .2; ran = h .3; same = h .4 }
 
-    pub run-bounded : Valid (taskOf t) → isRun t r ≡ true → Bounded r
+    pub run-bounded : Valid (taskOf t) → isRun t r ≡ true → Bounded (r .len) (r .columns)
     unfolding given
-    run-bounded valid p =
-        let e = same-places r (given t r .run) (run-tested p .same) in
-        let b = bounded-replayed valid (take (r .len) (r .log)) (fresh (r .start)) (fresh-bounded (r .start)) in
-        record { within = λ c h. omega (arith, e .columns c h, b .within c h, e .len) }
+    run-bounded valid p c h =
+        let e = sameTo-at allColumns (r .columns) (given t r .at .columns) (alike-parts (standing r) (given t r .at) (run-tested p .same) .1) c h in
+        let os = take (r .len) (r .log) in
+        omega (arith, e, bounded-replayed valid os 0 (atStart (r .start)) (start-bounded (r .start)) c h, length-take (r .len) (r .log))
 
     -- ---- its tests, one after another
 
@@ -215,13 +240,18 @@ module _ (t : Tables) where
     unfolding isRun
     run-outside p = rw (p, and-false) refl
 
+    pub run-used : zeros (drop (r .len) (r .log)) ≡ false → false ≡ isRun t r
+    unfolding isRun
+    run-used p = rw (p, and-false) refl
+
     module _ (x : Tried) (e : x ≡ given t r) where
       pub run-stuck : x .ok ≡ false → false ≡ isRun t r
       unfolding isRun
       run-stuck p = rw (← e, p, and-false) refl
 
-      pub run-same : (b : Bool) → r .len ≤ mostSteps → startIn (t .counts) (t .facts) (r .start) ≡ true → x .ok ≡ true
-          → b ≡ sameRun r (x .run)
+      pub run-stands : (b : Bool) → r .len ≤ mostSteps → startIn (t .counts) (t .facts) (r .start) ≡ true
+          → zeros (drop (r .len) (r .log)) ≡ true → x .ok ≡ true
+          → b ≡ alike (standing r) (x .at)
           → b ≡ isRun t r
       unfolding isRun
-      run-same b h s p d = rw (← e, le-leb (r .len) mostSteps h, s, p) d
+      run-stands b h s z p d = rw (← e, le-leb (r .len) mostSteps h, s, z, p) d

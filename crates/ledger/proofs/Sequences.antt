@@ -1,8 +1,9 @@
 -- Laws of sequences: one step more at the end, two parts, and states that agree on the variables. Assumes nothing.
-use Prim.Native.Nat.{ℕ, _+_, _<_}
+use Prim.Native.Nat.{ℕ, _+_, _*_, _≤_, _<_}
 use mathlib.Core.Path.{_≡_, refl, ap₂, subst}
 use mathlib.Core.List.{List, [], _∷_, _++_}
 use native.Mathlib.Omega.{arith}
+use lib.ListN.{length}
 use Rattle.meaning.specs.Sas.{State, Sas, Holds, after, Runs, end, paid}
 use Rattle.meaning.specs.Split.{sum}
 use Rattle.meaning.proofs.Sums.{sum-add, sum-zero}
@@ -43,6 +44,12 @@ pub paid-same : (S : Sas) (p q : ℕ → ℕ) → ((o : ℕ) → o < S .ops → 
     → paid p os ≡ paid q os
 paid-same S p q h [] s r = refl
 paid-same S p q h (o ∷ os) s r = ap₂ _+_ (h o (r .0)) (paid-same S p q h os (after S o s) (r .2))
+
+-- prices of at most k give at most k for each step
+pub paid-most : (S : Sas) (p : ℕ → ℕ) (k : ℕ) → ((o : ℕ) → o < S .ops → p o ≤ k) → (os : List ℕ) (s : State) → Runs S os s
+    → paid p os ≤ length os * k
+paid-most S p k h [] s r = omega arith
+paid-most S p k h (o ∷ os) s r = omega (arith, h o (r .0), paid-most S p k h os (after S o s) (r .2))
 
 -- the sums of several prices are the sum of the prices' total
 pub paid-sum : (p : ℕ → ℕ → ℕ) (k : ℕ) (os : List ℕ) → sum (λ c. paid (p c) os) k ≡ paid (λ o. sum (λ c. p c o) k) os

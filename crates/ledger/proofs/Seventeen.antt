@@ -47,7 +47,7 @@ module _ (t : Tables) (r : Run) (number o : ℕ) where
   unfolding nextStep
   next-other =
       either (leb mostSteps (r .len)) (Refused (RunFull number)) _ (omega arith)
-      (either (canRun (t .counts) (t .facts) r o) Accepted (Refused (MayNotRun number)) (omega arith) (omega arith))
+      (either (canRun (t .counts) (t .facts) (r .now) o) Accepted (Refused (MayNotRun number)) (omega arith) (omega arith))
 
   judged-other : told (offerJudged (t .counts) (t .facts) r number o) ≤ 16
   unfolding offerJudged

@@ -19,11 +19,11 @@ use Rattle.scan.proofs.Validity.{clean-valid}
 use Rattle.tables.specs.Layout.{Tables, domAt}
 use Rattle.tables.specs.Task.{taskOf, sasOf, stateOf}
 use Rattle.ledger.specs.declared.Run.{Run}
-use Rattle.ledger.specs.declared.Tried.{Tried}
-use Rattle.ledger.specs.Ledger.{allColumns, fresh, advanced, canRun, replayed, given, startsAt, startIn, sameRun, isRun}
+use Rattle.ledger.specs.declared.replay.Tried.{Tried}
+use Rattle.ledger.specs.Ledger.{allColumns, atStart, standing, fresh, advanced, canRun, replayed, given, startsAt, startIn, alike, isRun}
 use Rattle.ledger.specs.History.{mayFollow, Tells, GivenByStartAndLog, Sized}
 use Rattle.ledger.proofs.Answers.{start-within, start-beyond}
-use Rattle.ledger.proofs.Runs.{SamePlaces, same-places, replayed-yes, replayed-no, run-tested}
+use Rattle.ledger.proofs.Runs.{SamePlaces, Tested, alike-parts, sameTo-at, zeros-unused, replayed-yes, replayed-no, run-tested}
 use Rattle.ledger.proofs.Begun.{startOf, from-at, from-beyond, from-size}
 use Rattle.ledger.proofs.Sequences.{end-append}
 use Rattle.ledger.proofs.Told.{Told, fresh-told, step-told, can-is, is-run}
@@ -74,29 +74,32 @@ module _ (T : Task) (s : State) (done : List ℕ) (r q : Run) (a : Tells T s don
 -- ---- replaying steps: each can run and the run then tells them, or they may not run one after another
 
 module _ (t : Tables) (s : List ℕ) (clean : tablesFault t ≡ Clean) (state : IsState (sasOf t) (stateOf s)) where
+  -- some run tells them all and stands where they lead
   abbrev TellsAll : List ℕ → List ℕ → Run → Type 0
-  TellsAll done os q = (replayed t q os .ok ≡ true) × Told t s (done ++ os) (replayed t q os .run)
+  TellsAll done os q = (z : Run) × (replayed t (standing q) os ≡ record { ok = true; at = standing z }) × Told t s (done ++ os) z
 
   abbrev Stops : List ℕ → List ℕ → Run → Type 0
-  Stops done os q = (replayed t q os .ok ≡ false) × (Runs (sasOf t) os (end (sasOf t) done (stateOf s)) → ⊥)
+  Stops done os q = (replayed t (standing q) os .ok ≡ false) × (Runs (sasOf t) os (end (sasOf t) done (stateOf s)) → ⊥)
 
   module _ (done : List ℕ) (q : Run) (told : Told t s done q) (o : ℕ) (os : List ℕ) where
     abbrev more : List ℕ
     more = done ++ (o ∷ [])
 
-    replay-on : canRun (t .counts) (t .facts) q o ≡ true → TellsAll more os (advanced t q o) ⊎ Stops more os (advanced t q o)
+    replay-on : canRun (t .counts) (t .facts) (q .now) o ≡ true → TellsAll more os (advanced t q o) ⊎ Stops more os (advanced t q o)
         → TellsAll done (o ∷ os) q ⊎ Stops done (o ∷ os) q
-    replay-on p (inl (k, on)) = inl (rw (replayed-yes t q o os p) k, rw (replayed-yes t q o os p, ← append-assoc done (o ∷ []) os) on)
+    unfolding advanced
+    replay-on p (inl (z, k, on)) =
+        inl (z, replayed-yes t (standing q) o os p ∙ k, subst (λ (l : List ℕ). Told t s l z) (append-assoc done (o ∷ []) os) on)
     replay-on p (inr (k, never)) =
         inr (
-          rw (replayed-yes t q o os p) k,
+          ap (λ (x : Tried). x .ok) (replayed-yes t (standing q) o os p) ∙ k,
           λ h. never (subst (Runs (sasOf t) os) (sym (end-append (sasOf t) done (o ∷ []) (stateOf s))) (h .2)),
         )
 
-    replay-not : canRun (t .counts) (t .facts) q o ≡ false → Stops done (o ∷ os) q
+    replay-not : canRun (t .counts) (t .facts) (q .now) o ≡ false → Stops done (o ∷ os) q
     unfolding mayFollow
     replay-not p = (
-      ap (λ (x : Tried). x .ok) (replayed-no t q o os p),
+      ap (λ (x : Tried). x .ok) (replayed-no t (standing q) o os p),
       λ h.
           let may = true-complies (sasOf t) (sasOf t .pre o) (end (sasOf t) done (stateOf s)) (h .1) in
           false≢true (sym p ∙ can-is t s clean state done q told o ∙ rw (lt-ltb o (t .counts .ops) (h .0), may) refl),
@@ -105,9 +108,9 @@ module _ (t : Tables) (s : List ℕ) (clean : tablesFault t ≡ Clean) (state : 
   replay-either : (os done : List ℕ) (q : Run) → Told t s done q → length done + length os ≤ mostSteps
       → TellsAll done os q ⊎ Stops done os q
   unfolding replayed
-  replay-either [] done q told l = inl (refl, rw (append-nil done) told)
+  replay-either [] done q told l = inl (q, refl, rw (append-nil done) told)
   replay-either (o ∷ os) done q told l =
-      by-cases (canRun (t .counts) (t .facts) q o)
+      by-cases (canRun (t .counts) (t .facts) (q .now) o)
       (λ p.
       replay-on done q told o os p
       (replay-either os (done ++ (o ∷ [])) (advanced t q o) (step-told t s clean state done q told o p (omega arith))
@@ -116,12 +119,15 @@ module _ (t : Tables) (s : List ℕ) (clean : tablesFault t ≡ Clean) (state : 
 
   -- from the fresh run
   abbrev replay : List ℕ → Tried
-  replay os = replayed t (fresh (startOf t s)) os
+  replay os = replayed t (atStart (startOf t s)) os
 
-  from-fresh : {A : Type 0} (os : List ℕ) → length os ≤ mostSteps → ((replay os .ok ≡ true) × Told t s os (replay os .run) → A)
+  from-fresh : {A : Type 0} (os : List ℕ) → length os ≤ mostSteps
+      → ((z : Run) → replay os ≡ record { ok = true; at = standing z } → Told t s os z → A)
       → ((replay os .ok ≡ false) × (Runs (sasOf t) os (stateOf s) → ⊥) → A)
       → A
-  from-fresh os l on off = ⊎-elim on off (replay-either os [] (fresh (startOf t s)) (fresh-told t s clean state) (omega arith))
+  unfolding fresh
+  from-fresh os l on off =
+      ⊎-elim (λ x. on (x .0) (x .1) (x .2)) off (replay-either os [] (fresh (startOf t s)) (fresh-told t s clean state) (omega arith))
 
 -- ---- the start of a run that passes
 
@@ -146,6 +152,29 @@ module _ (t : Tables) (valid : Valid (taskOf t)) (s : List ℕ) (wide : length s
       from-beyond t s valid v l
       ∙ sym (eqb-true (stateOf s v) 0 (start-beyond (t .counts) (t .facts) v (stateOf s v) l ∙ place v h))))
 
+-- a run that passes has, at every place, what the run has that replaying its own log leads to
+replayed-places : {t : Tables} (r z : Run) → Sized r → Tested t r → Told t (r .start) (take (r .len) (r .log)) z → startOf t (r .start) ≡ r .start
+    → alike (standing r) (standing z) ≡ true
+    → SamePlaces r z
+replayed-places {t} r z sized tested told self same =
+    let done = take (r .len) (r .log) in
+    let many : length done ≡ r .len = omega (arith, length-take (r .len) (r .log), sized .log, tested .len) in
+    let parts = alike-parts (standing r) (standing z) same in
+    record {
+      start = λ v h. ap (λ (l : List ℕ). getD l v 0) (sym (told .from ∙ self));
+      now = sameTo-at mostVars (r .now) (z .now) (parts .0);
+      len = sym (told .tells .len ∙ many);
+      log =
+          λ i h.
+          by-order i (r .len)
+          (λ l.
+          sym (getD-take (r .len) (r .log) i 0 l)
+          ∙ ap (λ (l : List ℕ). getD l i 0) (sym (told .tells .log))
+          ∙ getD-take (length done) (z .log) i 0 (omega arith))
+          (λ l. zeros-unused (r .log) (r .len) (tested .unused) i l ∙ sym (told .tells .log-unused i (omega arith)));
+      columns = sameTo-at allColumns (r .columns) (z .columns) (parts .1);
+    }
+
 -- ---- THE THEOREM
 
 module _ (t : Tables) (clean : tablesFault t ≡ Clean) (r : Run) (sized : Sized r) where
@@ -158,16 +187,15 @@ module _ (t : Tables) (clean : tablesFault t ≡ Clean) (r : Run) (sized : Sized
       let tested = run-tested t r p in
       let state = start-state t (clean-valid t clean) (r .start) (sized .start) (tested .inside) in
       let done = take (r .len) (r .log) in
-      let again : replayed t (fresh (startOf t (r .start))) done ≡ given t r =
-      ap (λ (x : List ℕ). replayed t (fresh x) done)
-      (start-from-self t (clean-valid t clean) (r .start) (sized .start) (tested .inside)) in (
+      let self = start-from-self t (clean-valid t clean) (r .start) (sized .start) (tested .inside) in
+      let again : replayed t (atStart (startOf t (r .start))) done ≡ given t r = ap (λ (x : List ℕ). replayed t (atStart x) done) self in (
         state,
         from-fresh t (r .start) clean state done (omega (arith, length-take (r .len) (r .log), tested .len))
-            (λ on.
-            let q = replayed t (fresh (startOf t (r .start))) done .run in
-            let same = subst (λ (x : Tried). sameRun r (x .run) ≡ true) (sym again) (tested .same) in
-            let one : r ≡ q = same-equal r q sized (on .1 .sized) (same-places r q same) in
-            (done, subst (Tells (taskOf t) (stateOf (r .start)) done) (sym one) (on .1 .tells)))
+            (λ z leads told.
+            let same : alike (standing r) (standing z) ≡ true =
+            subst (λ (x : Tried). alike (standing r) (x .at) ≡ true) (sym again ∙ leads) (tested .same) in
+            let one : r ≡ z = same-equal r z sized (told .sized) (replayed-places r z sized tested told self same) in
+            (done, subst (Tells (taskOf t) (stateOf (r .start)) done) (sym one) (told .tells)))
             (λ off. absurd (false≢true (sym (off .0) ∙ ap (λ (x : Tried). x .ok) again ∙ tested .ran))),
       )
 
@@ -175,10 +203,9 @@ module _ (t : Tables) (clean : tablesFault t ≡ Clean) (r : Run) (sized : Sized
   pub given-told : GivenByStartAndLog (taskOf t) r → (done : List ℕ) × Told t (r .start) done r
   given-told (state, (done, tells)) =
       from-fresh t (r .start) clean state done (tells .few)
-      (λ on.
-      let q = replayed t (fresh (startOf t (r .start))) done .run in
-      let one : r ≡ q = tells-one (taskOf t) (stateOf (r .start)) done r q tells (on .1 .tells) sized (on .1 .sized) in
-      (done, subst (Told t (r .start) done) (sym one) (on .1)))
+      (λ z leads told.
+      let one : r ≡ z = tells-one (taskOf t) (stateOf (r .start)) done r z tells (told .tells) sized (told .sized) in
+      (done, subst (Told t (r .start) done) (sym one) told))
       (λ off. absurd (off .1 (tells .legal)))
 
   tells-run : GivenByStartAndLog (taskOf t) r → isRun t r ≡ true

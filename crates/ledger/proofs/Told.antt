@@ -6,7 +6,7 @@ use mathlib.Core.Bool.{Bool, true, _&&_, cond, false≢true}
 use native.Mathlib.Numerals.{add-one}
 use native.Mathlib.Omega.{arith}
 use lib.Dec.{ltb, eqb}
-use lib.ListN.{length, set, take, length-append, length-replicate, length-set}
+use lib.ListN.{length, set, take, length-append}
 use lib.Seq.{take-suc-set, getD-set-other}
 use borrow.Author.Tests.{lt-ltb, le-leb, eq-eqb, eqb-true, ltb-true}
 use Rattle.meaning.specs.Limits.{mostSteps}
@@ -21,17 +21,18 @@ use Rattle.scan.proofs.Validity.{clean-valid}
 use Rattle.tables.specs.Layout.{Tables}
 use Rattle.tables.specs.Task.{taskOf, sasOf, stateOf}
 use Rattle.tables.specs.Steps.{stepped}
-use Rattle.tables.proofs.Meant.{may-run-is, stepped-is, stepped-beyond, stepped-length}
+use Rattle.tables.proofs.Meant.{may-run-is, stepped-is, stepped-beyond}
 use Rattle.ledger.specs.declared.Run.{Run}
-use Rattle.ledger.specs.declared.Tried.{Tried}
+use Rattle.ledger.specs.declared.replay.Standing.{Standing}
+use Rattle.ledger.specs.declared.replay.Tried.{Tried}
 use Rattle.ledger.specs.declared.Answer.the-variants.{Accepted}
-use Rattle.ledger.specs.Ledger.{allColumns, fresh, advanced, canRun, replayed, given, startIn, isRun, answered, offered}
+use Rattle.ledger.specs.Ledger.{allColumns, atStart, onward, standing, fresh, advanced, canRun, replayed, given, startIn, isRun, answered, offered}
 use Rattle.meaning.specs.Columns.{gain}
 use Rattle.ledger.specs.History.{Offer, mayFollow, reallyRuns, Tells, Sized}
-use Rattle.ledger.proofs.Gains.{zeros-at, booked-at, booked-length}
+use Rattle.ledger.proofs.Gains.{zeros-at, booked-at}
 use Rattle.ledger.proofs.Answers.{next-go, judged-next}
 use Rattle.ledger.proofs.Begun.{startOf, from-at, from-beyond, from-size, from-inside}
-use Rattle.ledger.proofs.Runs.{three, same-refl, replayed-yes, replayed-no, can-exists}
+use Rattle.ledger.proofs.Runs.{three, fresh-sized, advanced-sized, alike-refl, unused-zeros, replayed-yes, replayed-no, can-exists}
 use Rattle.ledger.proofs.Sequences.{end-append, runs-append, paid-append}
 use Rattle.ledger.proofs.Accepted.{answered-judged, accepted-had, offer-runs, offer-stays}
 
@@ -39,27 +40,27 @@ length-snoc : (done : List ℕ) (o : ℕ) → length (done ++ (o ∷ [])) ≡ le
 length-snoc done o = length-append done (o ∷ [])
 
 -- a step more that can run is replayed after the others
-replayed-snoc : (t : Tables) (os : List ℕ) (r q : Run) (o : ℕ) → replayed t r os ≡ record { ok = true; run = q }
-    → canRun (t .counts) (t .facts) q o ≡ true
-    → replayed t r (os ++ (o ∷ [])) ≡ record { ok = true; run = advanced t q o }
+replayed-snoc : (t : Tables) (os : List ℕ) (x y : Standing) (o : ℕ) → replayed t x os ≡ record { ok = true; at = y }
+    → canRun (t .counts) (t .facts) (y .now) o ≡ true
+    → replayed t x (os ++ (o ∷ [])) ≡ record { ok = true; at = onward t y o }
 unfolding replayed
-replayed-snoc t [] r q o e c =
-    let h : r ≡ q = ap (λ (x : Tried). x .run) e in
-    let c′ : canRun (t .counts) (t .facts) r o ≡ true = rw h c in
-    replayed-yes t r o [] c′ ∙ ap (λ (z : Run). record { ok = true; run = advanced t z o }) h
-replayed-snoc t (x ∷ os) r q o e c =
-    by-cases (canRun (t .counts) (t .facts) r x)
-    (λ p.
-    replayed-yes t r x (os ++ (o ∷ [])) p
-    ∙ replayed-snoc t os (advanced t r x) q o (sym (replayed-yes t r x os p) ∙ e) c)
-    (λ p. absurd (false≢true (ap (λ (x : Tried). x .ok) (sym (replayed-no t r x os p) ∙ e))))
+replayed-snoc t [] x y o e c =
+    let h : x ≡ y = ap (λ (z : Tried). z .at) e in
+    let c′ : canRun (t .counts) (t .facts) (x .now) o ≡ true = rw h c in
+    replayed-yes t x o [] c′ ∙ ap (λ (z : Standing). record { ok = true; at = onward t z o }) h
+replayed-snoc t (p ∷ os) x y o e c =
+    by-cases (canRun (t .counts) (t .facts) (x .now) p)
+    (λ can.
+    replayed-yes t x p (os ++ (o ∷ [])) can
+    ∙ replayed-snoc t os (onward t x p) y o (sym (replayed-yes t x p os can) ∙ e) c)
+    (λ not. absurd (false≢true (ap (λ (z : Tried). z .ok) (sym (replayed-no t x p os not) ∙ e))))
 
--- the run tells the steps done from the lent state s, and is what its start and log give
+-- the run tells the steps done from the lent state s, and stands where replaying them leads
 pub record Told (t : Tables) (s done : List ℕ) (q : Run) : Type 0 where
   pub tells : Tells (taskOf t) (stateOf s) done q
   pub sized : Sized q
   pub from : q .start ≡ startOf t s
-  pub given : replayed t (fresh (startOf t s)) done ≡ record { ok = true; run = q }
+  pub given : replayed t (atStart (startOf t s)) done ≡ record { ok = true; at = standing q }
 
 module _ (t : Tables) (s : List ℕ) (clean : tablesFault t ≡ Clean) (state : IsState (sasOf t) (stateOf s)) where
   valid : Valid (taskOf t)
@@ -68,7 +69,7 @@ module _ (t : Tables) (s : List ℕ) (clean : tablesFault t ≡ Clean) (state : 
   -- ---- the fresh run
 
   fresh-tells : Tells (taskOf t) (stateOf s) [] (fresh (startOf t s))
-  unfolding fresh
+  unfolding fresh atStart
   fresh-tells =
       record {
         few = omega arith;
@@ -83,15 +84,9 @@ module _ (t : Tables) (s : List ℕ) (clean : tablesFault t ≡ Clean) (state : 
         column = λ c h. zeros-at allColumns c;
       }
 
-  fresh-sized : Sized (fresh (startOf t s))
-  unfolding fresh
-  fresh-sized =
-      let size = from-size t s valid in
-      record { start = size; log = length-replicate {A = ℕ} mostSteps 0; now = size; columns = length-replicate {A = ℕ} allColumns 0 }
-
   pub fresh-told : Told t s [] (fresh (startOf t s))
   unfolding fresh replayed
-  fresh-told = record { tells = fresh-tells; sized = fresh-sized; from = refl; given = refl }
+  fresh-told = record { tells = fresh-tells; sized = fresh-sized (startOf t s) (from-size t s valid); from = refl; given = refl }
 
   -- ---- what can run is what may follow the steps done
 
@@ -99,7 +94,7 @@ module _ (t : Tables) (s : List ℕ) (clean : tablesFault t ≡ Clean) (state : 
     abbrev reached : State
     reached = end (sasOf t) done (stateOf s)
 
-    pub can-is : (o : ℕ) → canRun (t .counts) (t .facts) q o ≡ mayFollow (sasOf t) (stateOf s) done o
+    pub can-is : (o : ℕ) → canRun (t .counts) (t .facts) (q .now) o ≡ mayFollow (sasOf t) (stateOf s) done o
     unfolding canRun mayFollow
     can-is o =
         ap (λ (b : Bool). ltb o (t .counts .ops) && b)
@@ -107,7 +102,7 @@ module _ (t : Tables) (s : List ℕ) (clean : tablesFault t ≡ Clean) (state : 
 
     -- ---- one step more
 
-    module _ (o : ℕ) (can : canRun (t .counts) (t .facts) q o ≡ true) where
+    module _ (o : ℕ) (can : canRun (t .counts) (t .facts) (q .now) o ≡ true) where
       abbrev more : List ℕ
       more = done ++ (o ∷ [])
 
@@ -128,7 +123,7 @@ module _ (t : Tables) (s : List ℕ) (clean : tablesFault t ≡ Clean) (state : 
             rw (length-snoc done o, add-one, told .tells .len, take-suc-set (q .log) (length done) o i, told .tells .log) refl
 
         tells-more : Tells (taskOf t) (stateOf s) more (advanced t q o)
-        unfolding advanced
+        unfolding advanced onward
         tells-more =
             record {
               few = omega (arith, length-snoc done o);
@@ -140,7 +135,7 @@ module _ (t : Tables) (s : List ℕ) (clean : tablesFault t ≡ Clean) (state : 
                   ∙ told .tells .log-unused i (omega (arith, length-snoc done o));
               legal =
                   runs-append (sasOf t) done (o ∷ []) (stateOf s) (told .tells .legal)
-                  (can-exists (t .counts) (t .facts) q o can, complies-true (sasOf t) (sasOf t .pre o) reached may, tt);
+                  (can-exists (t .counts) (t .facts) (q .now) o can, complies-true (sasOf t) (sasOf t .pre o) reached may, tt);
               start = told .tells .start;
               start-unused = told .tells .start-unused;
               now = now-more;
@@ -155,32 +150,22 @@ module _ (t : Tables) (s : List ℕ) (clean : tablesFault t ≡ Clean) (state : 
                   );
             }
 
-        sized-more : Sized (advanced t q o)
-        unfolding advanced
-        sized-more =
-            record {
-              start = told .sized .start;
-              log = length-set (q .log) (q .len) o ∙ told .sized .log;
-              now = stepped-length t (q .now) o ∙ told .sized .now;
-              columns = booked-length (taskOf t) (q .columns) o ∙ told .sized .columns;
-            }
-
         pub step-told : Told t s more (advanced t q o)
         unfolding advanced
         step-told =
             record {
               tells = tells-more;
-              sized = sized-more;
+              sized = advanced-sized t q o (told .sized);
               from = told .from;
-              given = replayed-snoc t done (fresh (startOf t s)) q o (told .given) can;
+              given = replayed-snoc t done (atStart (startOf t s)) (standing q) o (told .given) can;
             }
 
     -- ---- it is a run, and an offer to it is accepted exactly if it is a step really run
 
-    told-given : given t q ≡ record { ok = true; run = q }
+    told-given : given t q ≡ record { ok = true; at = standing q }
     unfolding given
     told-given =
-        ap₂ (λ (x l : List ℕ). replayed t (fresh x) l) (told .from)
+        ap₂ (λ (x l : List ℕ). replayed t (atStart x) l) (told .from)
         (ap (λ (k : ℕ). take k (q .log)) (told .tells .len) ∙ told .tells .log)
         ∙ told .given
 
@@ -189,7 +174,8 @@ module _ (t : Tables) (s : List ℕ) (clean : tablesFault t ≡ Clean) (state : 
     is-run =
         let in-start : startIn (t .counts) (t .facts) (q .start) ≡ true =
         ap (startIn (t .counts) (t .facts)) (told .from) ∙ from-inside t s valid state in
-        rw (told-given, le-leb (q .len) mostSteps (omega (arith, told .tells .len, told .tells .few)), in-start) (same-refl q)
+        let unused = unused-zeros (q .log) (q .len) (λ i h. told .tells .log-unused i (omega (arith, told .tells .len))) in
+        rw (told-given, le-leb (q .len) mostSteps (omega (arith, told .tells .len, told .tells .few)), in-start, unused) (alike-refl (standing q))
 
     module _ (x : Offer) where
       abbrev Runs : Type 0
@@ -204,7 +190,7 @@ module _ (t : Tables) (s : List ℕ) (clean : tablesFault t ≡ Clean) (state : 
       pub runs-room : Runs → length done < mostSteps
       runs-room p = ltb-true (length done) mostSteps (runs-tests p .1)
 
-      pub runs-can : Runs → canRun (t .counts) (t .facts) q (x .op) ≡ true
+      pub runs-can : Runs → canRun (t .counts) (t .facts) (q .now) (x .op) ≡ true
       runs-can p = can-is (x .op) ∙ runs-tests p .2
 
       runs-accepted : Runs → answered t q (x .number) (x .op) ≡ Accepted
@@ -212,7 +198,7 @@ module _ (t : Tables) (s : List ℕ) (clean : tablesFault t ≡ Clean) (state : 
           let n = eqb-true (x .number) (length done + 1) (runs-tests p .0) in
           let l = told .tells .len in
           sym
-          (judged-next (t .counts) (t .facts) q (x .number) (x .op) (can-exists (t .counts) (t .facts) q (x .op) (runs-can p))
+          (judged-next (t .counts) (t .facts) q (x .number) (x .op) (can-exists (t .counts) (t .facts) (q .now) (x .op) (runs-can p))
           (λ z. omega arith)
           Accepted
           (omega arith)

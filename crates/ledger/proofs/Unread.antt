@@ -5,7 +5,7 @@ use mathlib.Core.Path.{_≡_, refl, ap, ap₂, sym, _∙_}
 use mathlib.Core.Bool.{Bool, _&&_, _||_, cond}
 use mathlib.Core.List.{List, [], _∷_}
 use lib.Dec.{leb, ltb, eqb}
-use lib.ListN.{getD, take, replicate}
+use lib.ListN.{getD, take, drop, replicate}
 use borrow.Author.Tests.{ltb-true}
 use Rattle.refusals.specs.declared.Refusal.the-variants.{NoSuchOperator, MayNotRun, NotTheNext, RunFull, NotARun}
 use Rattle.meaning.specs.Limits.{mostVars, mostSteps}
@@ -21,10 +21,12 @@ use Rattle.scan.specs.Own.{OwnState}
 use Rattle.scan.proofs.Unread.{unless-same, ReadAlike, input-same}
 use Rattle.sequences.proofs.Passing.{input-clean}
 use Rattle.ledger.specs.declared.Run.{Run}
-use Rattle.ledger.specs.declared.Tried.{Tried}
+use Rattle.ledger.specs.declared.replay.Standing.{Standing}
+use Rattle.ledger.specs.declared.replay.Tried.{Tried}
 use Rattle.ledger.specs.declared.Answer.{Answer}
 use Rattle.ledger.specs.declared.Answer.the-variants.{Accepted, Repeated, Refused}
-use Rattle.ledger.specs.Ledger.{allColumns, bookedAt, booked, fresh, advanced, canRun, replayed, given, startAt, startsAt, startIn, sameRun, isRun}
+use Rattle.ledger.specs.Ledger.{allColumns, bookedAt, booked, atStart, onward, standing, fresh, advanced, canRun, replayed, given, startAt, startsAt}
+use Rattle.ledger.specs.Ledger.{startIn, zeros, alike, isRun}
 use Rattle.ledger.specs.Ledger.{oldStep, nextStep, offerJudged, refusedOr, answered, moved, offered, started, begun}
 use Rattle.ledger.proofs.Runs.{can-exists}
 use Rattle.ledger.proofs.Accepted.{accepted-had}
@@ -38,14 +40,14 @@ module _ (t u : Tables) (E : SameTask (taskOf t) (taskOf u)) where
       ∙ complies-alike (E .sas) (sasOf t .pre o) (sasOf u .pre o) (stateOf s) (stateOf s) (λ v l. E .sas .pre o v lo l) (λ v l. refl)
       ∙ sym (may-run-is u s o)
 
-  can-alike : (r : Run) (o : ℕ) → canRun (t .counts) (t .facts) r o ≡ canRun (u .counts) (u .facts) r o
+  can-alike : (s : List ℕ) (o : ℕ) → canRun (t .counts) (t .facts) s o ≡ canRun (u .counts) (u .facts) s o
   unfolding canRun
-  can-alike r o =
-      let x = mayRun (t .counts) (t .facts) (r .now) o in
-      let y = mayRun (u .counts) (u .facts) (r .now) o in
+  can-alike s o =
+      let x = mayRun (t .counts) (t .facts) s o in
+      let y = mayRun (u .counts) (u .facts) s o in
       by-cases (ltb o (t .counts .ops))
       (λ e.
-      ap (λ (b : Bool). b && x) e ∙ may-alike (r .now) o (ltb-true o (t .counts .ops) e)
+      ap (λ (b : Bool). b && x) e ∙ may-alike s o (ltb-true o (t .counts .ops) e)
       ∙ sym (ap (λ (b : Bool). b && y) (ap (ltb o) (sym (E .sas .ops)) ∙ e)))
       (λ e. ap (λ (b : Bool). b && x) e ∙ sym (ap (λ (b : Bool). b && y) (ap (ltb o) (sym (E .sas .ops)) ∙ e)))
 
@@ -62,19 +64,24 @@ module _ (t u : Tables) (E : SameTask (taskOf t) (taskOf u)) where
       filled-same (bookedAt (taskOf t) columns o) (bookedAt (taskOf u) columns o) columns allColumns
       (λ c l. ap (λ (x : ℕ). getD columns c 0 + x) (gain-alike E c o lo))
 
+  onward-alike : (x : Standing) (o : ℕ) → o < t .counts .ops → onward t x o ≡ onward u x o
+  unfolding onward
+  onward-alike x o lo = rw (stepped-alike (x .now) o lo, booked-alike (x .columns) o lo) refl
+
   advanced-alike : (r : Run) (o : ℕ) → o < t .counts .ops → advanced t r o ≡ advanced u r o
   unfolding advanced
-  advanced-alike r o lo = rw (stepped-alike (r .now) o lo, booked-alike (r .columns) o lo) refl
+  advanced-alike r o lo = rw (onward-alike (standing r) o lo) refl
 
-  replayed-alike : (os : List ℕ) (r : Run) → replayed t r os ≡ replayed u r os
+  replayed-alike : (os : List ℕ) (x : Standing) → replayed t x os ≡ replayed u x os
   unfolding replayed
-  replayed-alike [] r = refl
-  replayed-alike (o ∷ os) r =
-      by-cases (canRun (t .counts) (t .facts) r o)
+  replayed-alike [] x = refl
+  replayed-alike (o ∷ os) x =
+      by-cases (canRun (t .counts) (t .facts) (x .now) o)
       (λ e.
-      rw (← can-alike r o, e)
-      (replayed-alike os (advanced t r o) ∙ ap (λ (q : Run). replayed u q os) (advanced-alike r o (can-exists (t .counts) (t .facts) r o e))))
-      (λ e. rw (← can-alike r o, e) refl)
+      rw (← can-alike (x .now) o, e)
+      (replayed-alike os (onward t x o)
+      ∙ ap (λ (y : Standing). replayed u y os) (onward-alike x o (can-exists (t .counts) (t .facts) (x .now) o e))))
+      (λ e. rw (← can-alike (x .now) o, e) refl)
 
   start-alike : (s : List ℕ) → startIn (t .counts) (t .facts) s ≡ startIn (u .counts) (u .facts) s
   unfolding startIn startAt
@@ -87,8 +94,8 @@ module _ (t u : Tables) (E : SameTask (taskOf t) (taskOf u)) where
   run-alike : (r : Run) → isRun t r ≡ isRun u r
   unfolding isRun given
   run-alike r =
-      ap₂ (λ (b : Bool) (x : Tried). leb (r .len) mostSteps && b && x .ok && sameRun r (x .run)) (start-alike (r .start))
-      (replayed-alike (take (r .len) (r .log)) (fresh (r .start)))
+      ap₂ (λ (b : Bool) (x : Tried). leb (r .len) mostSteps && b && zeros (drop (r .len) (r .log)) && x .ok && alike (standing r) (x .at))
+      (start-alike (r .start)) (replayed-alike (take (r .len) (r .log)) (atStart (r .start)))
 
   judged-alike : (r : Run) (number o : ℕ) → offerJudged (t .counts) (t .facts) r number o ≡ offerJudged (u .counts) (u .facts) r number o
   unfolding offerJudged nextStep
@@ -99,7 +106,7 @@ module _ (t u : Tables) (E : SameTask (taskOf t) (taskOf u)) where
       (cond (eqb number 0 || ltb (r .len + 1) number) (Refused (NotTheNext number))
       (cond (leb number (r .len)) (oldStep r number o)
       (cond (leb mostSteps (r .len)) (Refused (RunFull number)) (cond can Accepted (Refused (MayNotRun number)))))))
-      (E .sas .ops) (can-alike r o)
+      (E .sas .ops) (can-alike (r .now) o)
 
 -- ---- the entries
 

@@ -1,5 +1,5 @@
 -- What the offers alone say was really run, and what a run must tell of it at every moment.
-use Prim.Native.Nat.{ℕ, _+_, _≤_, _<_}
+use Prim.Native.Nat.{ℕ, _+_, _*_, _≤_, _<_}
 use mathlib.Core.Path.{_≡_}
 use mathlib.Core.Bool.{Bool, _&&_, cond}
 use mathlib.Core.List.{List, [], _∷_, _++_}
@@ -7,13 +7,13 @@ use lib.Dec.{ltb, eqb}
 use lib.ListN.{length, getD, take}
 use Rattle.meaning.specs.Sas.{State, Sas, IsState, Runs, end, paid}
 use Rattle.meaning.specs.Views.{complies}
-use Rattle.meaning.specs.Split.{Task}
+use Rattle.meaning.specs.Split.{Task, sum}
 use Rattle.tables.specs.Layout.{Tables}
 use Rattle.tables.specs.Task.{stateOf}
 use Rattle.ledger.specs.declared.Run.{Run}
-use Rattle.meaning.specs.Limits.{mostVars, mostSteps}
+use Rattle.meaning.specs.Limits.{mostVars, mostCost, mostSteps}
 use Rattle.ledger.specs.Ledger.{allColumns, offered, begun}
-use Rattle.meaning.specs.Columns.{gain}
+use Rattle.meaning.specs.Columns.{costColumns, gain}
 
 -- an offer: a step number and an operator
 pub record Offer : Type 0 where
@@ -78,3 +78,10 @@ pub record Sized (r : Run) : Type 0 where
   pub log : length (r .log) ≡ mostSteps
   pub now : length (r .now) ≡ mostVars
   pub columns : length (r .columns) ≡ allColumns
+
+-- A RUN'S COLUMNS ARE WITHIN ITS STEPS: it has no more steps than a run may have; no column has more than the highest cost for each of them, and neither
+-- have those of the cost together
+pub record WithinSteps (r : Run) : Type 0 where
+  pub steps : r .len ≤ mostSteps
+  pub column : (c : ℕ) → c < allColumns → getD (r .columns) c 0 ≤ r .len * mostCost
+  pub together : sum (λ c. getD (r .columns) c 0) costColumns ≤ r .len * mostCost

@@ -1,9 +1,9 @@
--- The run and its ledger: what a step adds to the columns, what a start and a log give, and what an offer is answered and leaves behind.
+-- The run and its ledger: what a step changes, what a start and a log give, and what an offer is answered and leaves behind.
 use Prim.Native.Nat.{ℕ, _+_, _-_}
 use mathlib.Core.Bool.{Bool, true, false, _&&_, _||_, cond}
 use mathlib.Core.List.{List, [], _∷_}
 use lib.Dec.{ltb, leb, eqb}
-use lib.ListN.{getD, set, take, replicate}
+use lib.ListN.{getD, set, take, drop, replicate}
 use Rattle.refusals.specs.declared.Refusal.the-variants.{NoSuchOperator, MayNotRun, NotTheNext, OtherOperator, RunFull, NotARun}
 use Rattle.meaning.specs.Views.{every}
 use Rattle.meaning.specs.Split.{Task}
@@ -17,7 +17,8 @@ use Rattle.tables.specs.Steps.{mayRun, overwritten, stepped, copied}
 use Rattle.scan.specs.Scan.{tablesFault, inputFault}
 use Rattle.meaning.specs.Limits.{mostVars, mostSteps}
 use Rattle.ledger.specs.declared.Run.{Run}
-use Rattle.ledger.specs.declared.Tried.{Tried}
+use Rattle.ledger.specs.declared.replay.Standing.{Standing}
+use Rattle.ledger.specs.declared.replay.Tried.{Tried}
 use Rattle.ledger.specs.declared.Answer.{Answer}
 use Rattle.ledger.specs.declared.Answer.the-variants.{Accepted, Repeated, Refused}
 use Rattle.ledger.specs.declared.Offered.{Offered}
@@ -33,9 +34,21 @@ bookedAt T columns o column = getD columns column 0 + gain T column o
 unfoldable pub booked : Task → List ℕ → ℕ → List ℕ
 booked T columns o = overwritten (bookedAt T columns o) columns allColumns
 
+-- where a run stands, which is what a step changes beside the log: at its start ..
+unfoldable pub atStart : List ℕ → Standing
+atStart s = record { now = s; columns = replicate allColumns 0 }
+
+-- .. and after operator o
+unfoldable pub onward : Tables → Standing → ℕ → Standing
+onward t x o = record { now = stepped (t .counts) (t .facts) (x .now) o; columns = booked (taskOf t) (x .columns) o }
+
+abbrev pub standing : Run → Standing
+standing r = record { now = r .now; columns = r .columns }
+
 -- a fresh run: an empty log, columns of 0 and its start as the state now
 unfoldable pub fresh : List ℕ → Run
-fresh s = record { start = s; log = replicate mostSteps 0; len = 0; now = s; columns = replicate allColumns 0 }
+fresh s =
+    record { start = s; log = replicate mostSteps 0; len = 0; now = atStart s .now; columns = atStart s .columns }
 
 -- the run with operator o run once more
 unfoldable pub advanced : Tables → Run → ℕ → Run
@@ -44,23 +57,23 @@ advanced t r o =
       start = r .start;
       log = set (r .log) (r .len) o;
       len = r .len + 1;
-      now = stepped (t .counts) (t .facts) (r .now) o;
-      columns = booked (taskOf t) (r .columns) o;
+      now = onward t (standing r) o .now;
+      columns = onward t (standing r) o .columns;
     }
 
--- the operator exists and may run now
-unfoldable pub canRun : Counts → List ℕ → Run → ℕ → Bool
-canRun c facts r o = ltb o (c .ops) && mayRun c facts (r .now) o
+-- the operator exists and may run in the state
+unfoldable pub canRun : Counts → List ℕ → List ℕ → ℕ → Bool
+canRun c facts s o = ltb o (c .ops) && mayRun c facts s o
 
--- the run with a list of steps run, as far as each can
-unfoldable pub replayed : Tables → Run → List ℕ → Tried
-replayed t r [] = record { ok = true; run = r }
-replayed t r (o ∷ os) =
-    cond (canRun (t .counts) (t .facts) r o) (replayed t (advanced t r o) os) (record { ok = false; run = r })
+-- where a list of steps leads, as far as each can run
+unfoldable pub replayed : Tables → Standing → List ℕ → Tried
+replayed t x [] = record { ok = true; at = x }
+replayed t x (o ∷ os) =
+    cond (canRun (t .counts) (t .facts) (x .now) o) (replayed t (onward t x o) os) (record { ok = false; at = x })
 
 -- what a run's start and log give
 unfoldable pub given : Tables → Run → Tried
-given t r = replayed t (fresh (r .start)) (take (r .len) (r .log))
+given t r = replayed t (atStart (r .start)) (take (r .len) (r .log))
 
 -- a start: each value x in its variable v, and 0 beyond the variables
 unfoldable pub startAt : Counts → List ℕ → ℕ → ℕ → Bool
@@ -72,22 +85,27 @@ startsAt c facts s v = startAt c facts v (getD s v 0)
 unfoldable pub startIn : Counts → List ℕ → List ℕ → Bool
 startIn c facts s = every (startsAt c facts s) mostVars
 
--- two lists have the same numbers at the first k places; two runs are the same at every place
+-- every number is 0
+unfoldable pub zeros : List ℕ → Bool
+zeros [] = true
+zeros (x ∷ xs) = eqb x 0 && zeros xs
+
+-- two lists have the same numbers at the first k places; two stand alike
 abbrev pub sameAt : List ℕ → List ℕ → ℕ → Bool
 sameAt xs ys i = eqb (getD xs i 0) (getD ys i 0)
 
 unfoldable pub sameTo : ℕ → List ℕ → List ℕ → Bool
 sameTo k xs ys = every (sameAt xs ys) k
 
-unfoldable pub sameRun : Run → Run → Bool
-sameRun r q =
-    sameTo mostVars (r .start) (q .start) && sameTo mostVars (r .now) (q .now) && eqb (r .len) (q .len)
-    && sameTo mostSteps (r .log) (q .log) && sameTo allColumns (r .columns) (q .columns)
+unfoldable pub alike : Standing → Standing → Bool
+alike x y = sameTo mostVars (x .now) (y .now) && sameTo allColumns (x .columns) (y .columns)
 
--- the run is what its start and log give
+-- the run is what its start and log give: the log isn't too long, the start is one, unused places of the log are 0, each step can run, and the run stands
+-- where they lead
 unfoldable pub isRun : Tables → Run → Bool
 isRun t r =
-    leb (r .len) mostSteps && startIn (t .counts) (t .facts) (r .start) && given t r .ok && sameRun r (given t r .run)
+    leb (r .len) mostSteps && startIn (t .counts) (t .facts) (r .start) && zeros (drop (r .len) (r .log)) && given t r .ok
+    && alike (standing r) (given t r .at)
 
 -- an old number: repeated with the logged operator, and 14 with another
 unfoldable pub oldStep : Run → ℕ → ℕ → Answer
@@ -97,7 +115,7 @@ oldStep r number o = cond (eqb (getD (r .log) (number - 1) 0) o) Repeated (Refus
 unfoldable pub nextStep : Counts → List ℕ → Run → ℕ → ℕ → Answer
 nextStep c facts r number o =
     cond (leb mostSteps (r .len)) (Refused (RunFull number))
-    (cond (canRun c facts r o) Accepted (Refused (MayNotRun number)))
+    (cond (canRun c facts (r .now) o) Accepted (Refused (MayNotRun number)))
 
 -- an offer to a run: 10, then 13 at number 0 or beyond the next, then old or next
 unfoldable pub offerJudged : Counts → List ℕ → Run → ℕ → ℕ → Answer

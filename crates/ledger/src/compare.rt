@@ -1,9 +1,9 @@
-// Whether two lists have the same numbers.
+// Whether two lists have the same numbers, and whether a log has none beyond its steps.
 ghost use mathlib.Core.Path.{_≡_};
 ghost use Prim.Native.Nat.{_≤_};
-ghost use lib.ListN.{length};
+ghost use lib.ListN.{length, drop};
 ghost use Rattle.meaning.specs.Limits.{mostVars};
-ghost use Rattle.ledger.specs.Ledger.{sameTo};
+ghost use Rattle.ledger.specs.Ledger.{sameTo, zeros};
 ghost use Rattle.tables.specs.Task.{was};
 
 // Two states, at all their places.
@@ -28,6 +28,20 @@ pub fn same_words(a: &[u32], b: &[u32], k: usize) -> bool
     let mut i: usize = 0;
     while i < k {
         if a[i] != b[i] {
+            return false;
+        }
+        i += 1;
+    }
+    true
+}
+
+// A log is 0 from a place on.
+pub fn zeros_from(log: &[u32], from: usize) -> bool
+    ensures { λ r. ⌜ r ≡ zeros (drop from (was log)) ⌝ }
+{
+    let mut i = from;
+    while i < log.len() {
+        if log[i] != 0 {
             return false;
         }
         i += 1;

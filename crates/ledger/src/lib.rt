@@ -1,20 +1,28 @@
 // The run and its ledger: a run goes in by value and comes back advanced or unchanged, with the answer beside it.
 ghost use mathlib.Core.Path.{_≡_};
 ghost use Prim.Native.Nat.{_≤_, _<_};
-ghost use lib.ListN.{take};
-ghost use Rattle.meaning.specs.Split.{Valid};
-ghost use Rattle.tables.specs.Task.{taskOf, tables, lent, was};
-ghost use Rattle.meaning.specs.Limits.{mostOps, mostSteps};
-ghost use Rattle.ledger.specs.Ledger.{fresh, advanced, canRun, replayed, sameRun, isRun, oldStep, nextStep, offerJudged, answered, offered, begun};
+ghost use lib.ListN.{length};
+ghost use Rattle.meaning.specs.Limits.{mostVars, mostOps, mostSteps};
+ghost use Rattle.tables.specs.Layout.{factsRoom};
+ghost use Rattle.tables.specs.Task.{tables, lent, was};
+ghost use Rattle.scan.specs.declared.Found.the-variants.{Clean};
+ghost use Rattle.scan.specs.Scan.{tablesFault};
+ghost use Rattle.ledger.specs.Ledger.{fresh, advanced, standing, alike, isRun, oldStep, nextStep, offerJudged, answered, offered, begun};
 ghost use Rattle.ledger.specs.Inside.Bounded.{Bounded};
 
 mod columns;
 mod compare;
+mod replay;
 mod starts;
 
-use crate::columns::columns_after;
+use crate::columns::book;
 use crate::compare::same_bytes;
 use crate::compare::same_words;
+use crate::compare::zeros_from;
+use crate::replay::Standing;
+use crate::replay::can_run;
+use crate::replay::replay;
+use crate::replay::step;
 use crate::starts::start_in;
 use meaning::OpNo;
 use meaning::limits::STEPS_MOST;
@@ -24,8 +32,6 @@ use scan::input_fault;
 use scan::tables_fault;
 use sequences::stepping::copy;
 use tables::Counts;
-use tables::steps::may_run;
-use tables::steps::state_after;
 
 // The unshared column, after those of 8 maps.
 pub const UNSHARED: usize = 8;
@@ -58,12 +64,6 @@ pub struct Offered {
     pub answer: Answer,
 }
 
-// A run as far as its log could be run, and whether that is the whole log.
-pub struct Tried {
-    pub ok: bool,
-    pub run: Run,
-}
-
 impl Run {
     // An empty log, columns of 0 and the start as the state now.
     fn fresh(start: [u8; 8]) -> Run
@@ -80,76 +80,34 @@ impl Run {
 
     // The run with the operator run once more.
     fn advance(mut self, c: Counts, facts: &[u8], costs: &[u32], shares: &[u32], op: OpNo) -> Run
-        requires { ⌜ Valid (taskOf (tables c (now facts) (now costs) (now shares))) × (op .0 < c .ops) × (self .len < mostSteps) × Bounded self ⌝ }
+        requires { ⌜ (tablesFault (tables c (now facts) (now costs) (now shares)) ≡ Clean) × (op .0 < c .ops) × (self .len < mostSteps) × Bounded (self .len) (self .columns) ⌝ }
         ensures { λ r. ⌜ r ≡ advanced (lent c facts costs shares) self (op .0) ⌝ }
     {
         let at = self.len as usize;
-        let state = self.now;
-        let columns = self.columns;
+        let mut state = self.now;
+        let mut columns = self.columns;
+        step(c, facts, &mut state, op);
+        book(c, facts, costs, shares, &mut columns, op);
         self.log[at] = op.0;
         self.len = self.len + 1;
-        self.now = state_after(c, facts, state, op);
-        self.columns = columns_after(c, facts, costs, shares, columns, op);
+        self.now = state;
+        self.columns = columns;
         self
     }
 
-    // The operator exists and may run now.
-    fn can_run(self, c: Counts, facts: &[u8], op: OpNo) -> bool
-        requires { ⌜ c .ops ≤ mostOps ⌝ }
-        ensures { λ r. ⌜ r ≡ canRun c (was facts) self (op .0) ⌝ }
+    // The run stands where replaying its log led.
+    fn stands_at(self, at: Standing) -> bool
+        ensures { λ r. ⌜ r ≡ alike (standing self) at ⌝ }
     {
-        if c.ops <= op.0 {
+        if !same_bytes(&self.now, &at.now) {
             return false;
         }
-        may_run(c, facts, &self.now, op)
-    }
-
-    // The two runs are the same at every place, the unused ones too.
-    fn same(self, q: Run) -> bool
-        ensures { λ r. ⌜ r ≡ sameRun self q ⌝ }
-    {
-        if !same_bytes(&self.start, &q.start) {
-            return false;
-        }
-        if !same_bytes(&self.now, &q.now) {
-            return false;
-        }
-        if self.len != q.len {
-            return false;
-        }
-        if !same_words(&self.log, &q.log, STEPS_MOST) {
-            return false;
-        }
-        same_words(&self.columns, &q.columns, COLUMNS)
-    }
-
-    // The first steps of a log run again, from a fresh run and as far as each can.
-    fn replay(
-        c: Counts,
-        facts: &[u8],
-        costs: &[u32],
-        shares: &[u32],
-        start: [u8; 8],
-        log: [u32; STEPS_MOST],
-        len: usize,
-    ) -> Tried
-        requires { ⌜ Valid (taskOf (tables c (now facts) (now costs) (now shares))) × (len ≤ mostSteps) ⌝ }
-        ensures { λ r. ⌜ r ≡ replayed (lent c facts costs shares) (fresh start) (take len log) ⌝ }
-    {
-        let mut run = Run::fresh(start);
-        for i in 0..len {
-            let op = OpNo(log[i]);
-            if !run.can_run(c, facts, op) {
-                return Tried { ok: false, run };
-            }
-            run = run.advance(c, facts, costs, shares, op);
-        }
-        Tried { ok: true, run }
+        same_words(&self.columns, &at.columns, COLUMNS)
     }
 
     // The run is what its start and log give.
     fn is_run(self, c: Counts, facts: &[u8], costs: &[u32], shares: &[u32]) -> bool
-        requires { ⌜ Valid (taskOf (tables c (now facts) (now costs) (now shares))) ⌝ }
+        requires { ⌜ tablesFault (tables c (now facts) (now costs) (now shares)) ≡ Clean ⌝ }
         ensures { λ r. ⌜ r ≡ isRun (lent c facts costs shares) self ⌝ }
     {
         let len = self.len as usize;
@@ -160,13 +118,14 @@ impl Run {
         if !start_in(c, facts, start) {
             return false;
         }
-        let log = self.log;
-        let t = Run::replay(c, facts, costs, shares, start, log, len);
+        if !zeros_from(&self.log, len) {
+            return false;
+        }
+        let t = replay(c, facts, costs, shares, start, &self.log, len);
         if !t.ok {
             return false;
         }
-        let q = t.run;
-        self.same(q)
+        self.stands_at(t.at)
     }
 
     // An old number: repeated with the logged operator, refused with another.
@@ -183,13 +142,13 @@ impl Run {
 
     // The next number: refused if the run is full or the operator may not run, else accepted.
     fn next_step(self, c: Counts, facts: &[u8], number: u32, op: OpNo) -> Answer
-        requires { ⌜ c .ops ≤ mostOps ⌝ }
+        requires { ⌜ (c .vars ≤ mostVars) × (c .ops ≤ mostOps) × (factsRoom ≤ length (now facts)) ⌝ }
         ensures { λ r. ⌜ r ≡ nextStep c (was facts) self number (op .0) ⌝ }
     {
         if STEPS_MOST <= self.len as usize {
             return Answer::Refused(Refusal::RunFull(number));
         }
-        if self.can_run(c, facts, op) {
+        if can_run(c, facts, &self.now, op) {
             return Answer::Accepted;
         }
         Answer::Refused(Refusal::MayNotRun(number))
@@ -197,7 +156,7 @@ impl Run {
 
     // What an offer to a run is answered.
     fn judge(self, c: Counts, facts: &[u8], number: u32, op: OpNo) -> Answer
-        requires { ⌜ (c .ops ≤ mostOps) × (self .len ≤ mostSteps) ⌝ }
+        requires { ⌜ (c .vars ≤ mostVars) × (c .ops ≤ mostOps) × (factsRoom ≤ length (now facts)) × (self .len ≤ mostSteps) ⌝ }
         ensures { λ r. ⌜ r ≡ offerJudged c (was facts) self number (op .0) ⌝ }
     {
         if c.ops <= op.0 {

@@ -2,7 +2,7 @@
 -- they were. So a run that lives in C's memory, from its start through any offers, is the run of the desk's theorems: its history is told there too.
 -- Assumes nothing.
 use Prim.Native.Nat.{ℕ, _+_, _≤_}
-use mathlib.Core.Path.{_≡_, refl, ap, sym, _∙_}
+use mathlib.Core.Path.{_≡_, refl, ap, sym, _∙_, subst}
 use mathlib.Core.List.{List, [], _∷_}
 use mathlib.Core.Logic.{_↔_}
 use native.Mathlib.Omega.{arith}
@@ -20,10 +20,11 @@ use Rattle.ledger.specs.declared.Answer.{Answer}
 use Rattle.ledger.specs.declared.Answer.the-variants.{Accepted, Repeated, Refused}
 use Rattle.ledger.specs.declared.Offered.{Offered}
 use Rattle.ledger.specs.Ledger.{allColumns, begun, offered}
-use Rattle.ledger.specs.History.{Offer, reallyRun, ran, runAfter, Tells, GivenByStartAndLog, Sized}
+use Rattle.ledger.specs.History.{Offer, reallyRun, ran, runAfter, Tells, GivenByStartAndLog, Sized, WithinSteps}
 use Rattle.ledger.proofs.Accepted.{not-refused, offer-stays}
 use Rattle.ledger.proofs.History.{history}
 use Rattle.ledger.proofs.Seventeen.{seventeen-exactly}
+use Rattle.ledger.proofs.Within.{not-seventeen-within}
 use Rattle.words.specs.Words.{refusedWord, answerWord}
 use Rattle.words.proofs.Told.{answer-told}
 use Rattle.lent_runs.specs.Lent.{columnsFrom, part, withPart, runBytes, runWords, runIn, bytesWith, wordsWith}
@@ -237,3 +238,13 @@ module _ (t : Tables) (bytes words : List ℕ) (number o : ℕ) where
   pub memory-seventeen-exactly : (offerHanded t bytes words number o .word ≡ refusedWord NotARun) ↔ Seventeen
   memory-seventeen-exactly =
       (told-so, λ h. offers-carried bytes words (h .0) (h .1) t number o .told ∙ ap answerWord (exactly .1 (h .2, h .3)))
+
+  -- and of what isn't 17 the columns are within the steps, before the offer and after it
+  pub memory-within : runBytes ≤ length bytes → runWords ≤ length words → tablesFault t ≡ Clean
+      → (offerHanded t bytes words number o .word ≡ refusedWord NotARun → ⊥)
+      → WithinSteps (runIn bytes words) × WithinSteps (runLent (offerHanded t bytes words number o))
+  memory-within b w clean other =
+      let within =
+      not-seventeen-within t clean (runIn bytes words) (run-in-lengths bytes words) number o
+      (λ e. other (offers-carried bytes words b w t number o .told ∙ ap answerWord e)) in
+      (within .0, subst WithinSteps (sym (offer-run bytes words b w t number o)) (within .1))

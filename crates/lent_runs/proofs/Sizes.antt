@@ -1,23 +1,22 @@
 -- The lists of a run have their lengths: of a run taken out of lent memory, of a run begun, and of a run after an offer. Assumes nothing.
 use Prim.Native.Nat.{ℕ}
-use mathlib.Core.Path.{_≡_, _∙_}
+use mathlib.Core.Path.{_∙_}
 use mathlib.Core.List.{List}
-use lib.ListN.{length, replicate, length-set, length-replicate}
+use lib.ListN.{replicate, length-replicate}
 use Rattle.scan.specs.declared.Found.{Found}
 use Rattle.scan.specs.declared.Found.the-variants.{Clean, Fault}
 use Rattle.tables.specs.Layout.{Tables}
-use Rattle.tables.specs.Task.{taskOf, stateOf}
+use Rattle.tables.specs.Task.{stateOf}
 use Rattle.scan.specs.Scan.{inputFault}
 use Rattle.tables.proofs.Laws.{length-filled}
-use Rattle.tables.proofs.Meant.{stepped-length}
 use Rattle.meaning.specs.Limits.{mostVars, mostSteps}
 use Rattle.tables.specs.Steps.{copied}
 use Rattle.ledger.specs.declared.Run.{Run}
 use Rattle.ledger.specs.declared.Answer.{Answer}
 use Rattle.ledger.specs.declared.Answer.the-variants.{Accepted, Repeated, Refused}
-use Rattle.ledger.specs.Ledger.{allColumns, fresh, advanced, moved, answered, offered, started, begun}
+use Rattle.ledger.specs.Ledger.{allColumns, fresh, moved, answered, offered, started, begun}
 use Rattle.ledger.specs.History.{Sized}
-use Rattle.ledger.proofs.Gains.{booked-length}
+use Rattle.ledger.proofs.Runs.{fresh-sized, advanced-sized}
 use Rattle.lent_runs.specs.Lent.{columnsFrom, runIn}
 use Rattle.lent_runs.proofs.Parts.{part-length}
 
@@ -33,11 +32,6 @@ run-in-lengths bytes words =
 
 -- ---- a start
 
-fresh-sized : (s : List ℕ) → length s ≡ mostVars → Sized (fresh s)
-unfolding fresh
-fresh-sized s e =
-    record { start = e; log = length-replicate {A = ℕ} mostSteps 0; now = e; columns = length-replicate {A = ℕ} allColumns 0 }
-
 pub begun-sized : (t : Tables) (s : List ℕ) → Sized (begun t s .run)
 unfolding begun started copied
 begun-sized t s =
@@ -52,21 +46,11 @@ begun-sized t s =
 -- ---- an offer
 
 module _ (t : Tables) (r : Run) (sized : Sized r) where
-  advanced-sized : (o : ℕ) → Sized (advanced t r o)
-  unfolding advanced
-  advanced-sized o =
-      record {
-        start = sized .start;
-        log = length-set (r .log) (r .len) o ∙ sized .log;
-        now = stepped-length t (r .now) o ∙ sized .now;
-        columns = booked-length (taskOf t) (r .columns) o ∙ sized .columns;
-      }
-
   pub offered-sized : (number o : ℕ) → Sized (offered t r number o .run)
   unfolding offered
   offered-sized number o = moved-sized (answered t r number o)
     where
       moved-sized : (a : Answer) → Sized (moved t r o a)
-      moved-sized Accepted = advanced-sized o
+      moved-sized Accepted = advanced-sized t r o sized
       moved-sized Repeated = sized
       moved-sized (Refused f) = sized

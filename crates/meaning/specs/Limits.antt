@@ -28,4 +28,4 @@ mostStates = 4096
 
 -- steps of a sequence or a run
 unfoldable pub mostSteps : ℕ
-mostSteps = 256
+mostSteps = 1024

@@ -10,7 +10,7 @@ pub const OPS_MOST: u32 = 64;
 
 pub const MAPS_MOST: u32 = 8;
 
-pub const STEPS_MOST: usize = 256;
+pub const STEPS_MOST: usize = 1024;
 
 // The most that an operator costs, or costs in a map, in seconds.
 pub const COST_MOST: u32 = 1000000;

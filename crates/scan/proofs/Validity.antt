@@ -2,17 +2,20 @@
 -- the task's; any two results that meet a contract of the scan are equal. Assumes nothing.
 use Prim.Native.Nat.{ℕ, _≤_}
 use mathlib.Core.Path.{_≡_, sym, _∙_}
-use mathlib.Core.Bool.{true}
+use mathlib.Core.Bool.{true, _&&_}
 use mathlib.Core.List.{List}
 use mathlib.Core.Logic.{_↔_}
+use lib.Dec.{leb}
 use lib.ListN.{length}
+use borrow.Author.Tests.{leb-true}
 use Rattle.refusals.specs.declared.Refusal.the-variants.{TableTooShort, ValueOutside}
 use Rattle.meaning.specs.Sas.{IsState}
 use Rattle.meaning.specs.Split.{Task, Valid}
+use Rattle.meaning.proofs.Facts.{and-left, and-right}
 use Rattle.tables.specs.declared.Counts.{Counts}
 use Rattle.scan.specs.declared.Found.{Found}
 use Rattle.scan.specs.declared.Found.the-variants.{Clean}
-use Rattle.tables.specs.Layout.{Tables, domAt}
+use Rattle.tables.specs.Layout.{Tables, domAt, factsRoom, costsRoom, sharesRoom}
 use Rattle.tables.specs.Task.{taskOf, sasOf, stateOf}
 use Rattle.scan.specs.Scan.{taskFault, roomy, tablesFault, stateFault}
 use Rattle.scan.proofs.Walks.{rule-is, then-is, walk-is}
@@ -66,6 +69,20 @@ module _ (t : Tables) where
 
   pub clean-valid : tablesFault t ≡ Clean → Valid (taskOf t)
   clean-valid p = accepted .0 p .1
+
+  -- their lengths, for who reads a place as it stands
+  pub clean-room : tablesFault t ≡ Clean → (factsRoom ≤ length (t .facts)) × (costsRoom ≤ length (t .costs)) × (sharesRoom ≤ length (t .shares))
+  unfolding roomy
+  clean-room p =
+      let f = leb factsRoom (length (t .facts)) in
+      let c = leb costsRoom (length (t .costs)) in
+      let s = leb sharesRoom (length (t .shares)) in
+      let r = accepted .0 p .0 in
+      let q = and-left (f && c) s r in (
+        leb-true factsRoom (length (t .facts)) (and-left f c q),
+        leb-true costsRoom (length (t .costs)) (and-right f c q),
+        leb-true sharesRoom (length (t .shares)) (and-right (f && c) s r),
+      )
 
   pub valid-clean : roomy t ≡ true → Valid (taskOf t) → tablesFault t ≡ Clean
   valid-clean r h = accepted .1 (r, h)

@@ -1,7 +1,7 @@
 -- `Run::answer` meets its contract: the tables, then 17, then the offer itself, as the definition has them. Assumes nothing.
 use Rattle.ledger.proofs.Accepted.{answered-fault, answered-judged, answered-not-a-run}
 use Rattle.ledger.proofs.Runs.{run-tested}
-use Rattle.scan.proofs.Validity.{clean-valid}
+use Rattle.scan.proofs.Validity.{clean-valid, clean-room}
 use borrow.Author.Needs.{needs}
 use borrow.Author.Tests.{not-false, not-true}
 use mathlib.Core.Path.{_∙_, sym}
@@ -9,7 +9,7 @@ use Rattle.ledger.proofs.Run.answer.Statement.{statement}
 use Rattle.ledger.proofs.Run.answer.Tie as tie
 
 is-run-requires : tie.Need-is-run-requires
-is-run-requires c κs = clean-valid _ (sym (c .before .before .tables-fault .ensures) ∙ c .enum-told .given .1)
+is-run-requires c κs = sym (c .before .before .tables-fault .ensures) ∙ c .enum-told .given .1
 
 returns : tie.Need-returns
 returns c =
@@ -19,8 +19,12 @@ returns c =
 
 judge-requires : tie.Need-judge-requires
 judge-requires c κs =
-    let x = c .before .before in (
-      clean-valid _ (sym (x .before .before .tables-fault .ensures) ∙ x .enum-told .given .1) .ops,
+    let x = c .before .before in
+    let clean = sym (x .before .before .tables-fault .ensures) ∙ x .enum-told .given .1 in
+    let valid = clean-valid _ clean in (
+      valid .vars .1,
+      valid .ops,
+      clean-room _ clean .0,
       run-tested _ _ (sym (c .before .is-run .ensures) ∙ not-false (c .before .is-run .result) (c .if1 .left)) .len,
     )
 
