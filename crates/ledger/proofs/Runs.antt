@@ -82,6 +82,12 @@ pub record SamePlaces (r q : Run) : Type 0 where
   pub log : (i : ℕ) → i < mostSteps → getD (r .log) i 0 ≡ getD (q .log) i 0
   pub columns : (c : ℕ) → c < allColumns → getD (r .columns) c 0 ≡ getD (q .columns) c 0
 
+-- ---- a step takes a run to where the step leads
+
+pub advanced-stands : (t : Tables) (r : Run) (o : ℕ) → standing (advanced t r o) ≡ onward t (standing r) o
+unfolding advanced
+advanced-stands t r o = refl
+
 -- ---- a run as its type has it: a fresh one, and one with a step more
 
 pub fresh-sized : (s : List ℕ) → length s ≡ mostVars → Sized (fresh s)
@@ -92,11 +98,12 @@ fresh-sized s e =
 pub advanced-sized : (t : Tables) (r : Run) (o : ℕ) → Sized r → Sized (advanced t r o)
 unfolding advanced onward
 advanced-sized t r o sized =
+    let on = advanced-stands t r o in
     record {
       start = sized .start;
       log = length-set (r .log) (r .len) o ∙ sized .log;
-      now = stepped-length t (r .now) o ∙ sized .now;
-      columns = booked-length (taskOf t) (r .columns) o ∙ sized .columns;
+      now = ap (λ (x : Standing). length (x .now)) on ∙ stepped-length t (r .now) o ∙ sized .now;
+      columns = ap (λ (x : Standing). length (x .columns)) on ∙ booked-length (taskOf t) (r .columns) o ∙ sized .columns;
     }
 
 -- ---- unused places of a log
