@@ -148,6 +148,11 @@ impl Task {
         self.counts
     }
 
+    /// Its tables, as the desk is lent them: facts, costs and shares.
+    pub fn tables(&self) -> (&[u8; FACTS], &[u32; COSTS], &[u32; SHARES]) {
+        (&self.facts, &self.costs, &self.shares)
+    }
+
     /// Its initial state: the second row of the facts.
     pub fn initial(&self) -> State {
         State::of(&self.facts[8..8 + self.counts.variables as usize])

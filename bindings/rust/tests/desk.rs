@@ -100,6 +100,16 @@ fn checks_tables_of_any_length() {
 }
 
 #[test]
+fn a_task_tells_its_tables() {
+    let a = task(A);
+    let (facts, costs, shares) = a.tables();
+    assert_eq!((&facts[..4], &facts[16..20]), (&[2, 3, 3, 0][..], &[2, 3, 3, 0][..]));
+    assert_eq!((&costs[..5], &shares[64..69]), (&[1, 1, 1, 1, 0][..], &[0, 1, 1, 0, 0][..]));
+    let same = Task::of_tables(a.counts(), *facts, *costs, *shares).expect("a task");
+    assert_eq!(same.bound(&same.initial()), Ok(Some(Seconds(4))));
+}
+
+#[test]
 fn distances_and_bounds() {
     let a = task(A);
     let mut table = [77; DISTANCES];
