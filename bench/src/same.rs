@@ -1,0 +1,184 @@
+//! That both sides answer the same, before anything is timed: every offer of the shift, offers that are refused, runs that no offers could have left, and faulty tables.
+use crate::plain;
+use crate::shift::sequence;
+use crate::sides::{plainly_refused, refused, Desk, Parts, Plain, Side, Told};
+use mihaedop::{check, Counts, COSTS, FACTS, RUN_BYTES, RUN_WORDS, SHARES, STEPS};
+
+/// How many tables by chance have some places altered at once.
+const BY_CHANCE: usize = 20_000;
+
+/// Both sides, with the number of answers that they gave alike.
+struct Both<'a> {
+    desk: &'a Desk,
+    plain: Plain<'a>,
+    alike: usize,
+}
+
+/// Asks both sides, and tells how many answers they gave alike, or where they differ.
+pub fn compare(desk: &Desk) -> Result<usize, String> {
+    let mut both = Both { desk, plain: Plain::of(&desk.task), alike: 0 };
+    both.shift()?;
+    both.tables()?;
+    Ok(both.alike)
+}
+
+impl Both<'_> {
+    fn count(&mut self, what: &str, desk: Told, plain: Told) -> Result<(), String> {
+        if desk != plain {
+            return Err(format!("{what}: the desk says {desk:?}, plain Rust says {plain:?}"));
+        }
+        self.alike += 1;
+        Ok(())
+    }
+
+    /// An offer to the same run on both sides: the answer and the run that is left.
+    fn offer(&mut self, parts: &Parts, number: u32, op: u32) -> Result<(Told, Parts), String> {
+        let (mut of_desk, mut of_plain) = (Desk::of_parts(parts), Plain::of_parts(parts));
+        let (desk, plain) = (self.desk.offer(&mut of_desk, number, op), self.plain.offer(&mut of_plain, number, op));
+        let what = format!("step {number} operator {op}, offered to a run of {} steps", parts.1[STEPS]);
+        self.count(&what, desk, plain)?;
+        let left = Desk::parts(&of_desk);
+        if left != Plain::parts(&of_plain) {
+            return Err(format!("{what}: the runs differ after it"));
+        }
+        if desk != Told::Accepted && left != *parts {
+            return Err(format!("{what}: the run moved, though it was not accepted"));
+        }
+        Ok((desk, left))
+    }
+
+    /// Every offer of the shift is accepted; at some moments all kinds of offers are made, and to all kinds of damaged runs.
+    fn shift(&mut self) -> Result<(), String> {
+        let sequence = sequence(self.desk.task.counts().operators);
+        let mut run = Desk::parts(&self.desk.begin());
+        if run != Plain::parts(&self.plain.begin()) {
+            return Err("the fresh runs differ".to_string());
+        }
+        for (number, &op) in (1..).zip(&sequence) {
+            if [1, 2, 3, STEPS as u32 / 2, STEPS as u32].contains(&number) {
+                self.around(&run, op)?;
+            }
+            let (told, left) = self.offer(&run, number, op)?;
+            if told != Told::Accepted {
+                return Err(format!("the operators in their order can't go on for {STEPS} steps: step {number} is {told:?}"));
+            }
+            run = left;
+        }
+        self.around(&run, sequence[0])
+    }
+
+    /// Offers of every operator, and of some that don't exist, under old numbers, the next and others; then the step offered to the run with a place altered.
+    fn around(&mut self, run: &Parts, op: u32) -> Result<(), String> {
+        let (operators, next) = (self.desk.task.counts().operators, run.1[STEPS] + 1);
+        for number in [0, 1, 2, next.saturating_sub(2), next - 1, next, next + 1, u32::MAX] {
+            for op in (0..operators + 2).chain([64, u32::MAX]) {
+                self.offer(run, number, op)?;
+            }
+        }
+        for place in 0..RUN_BYTES {
+            let was = run.0[place];
+            for value in [0, was ^ 1, was.wrapping_add(1), 7, 8, u8::MAX] {
+                let mut damaged = *run;
+                damaged.0[place] = value;
+                self.offer(&damaged, next, op)?;
+                // the start and the state now together, which a replay alone would not find
+                damaged.0[(place + RUN_BYTES / 2) % RUN_BYTES] = value;
+                self.offer(&damaged, next, op)?;
+            }
+        }
+        for place in 0..RUN_WORDS {
+            let was = run.1[place];
+            for value in [0, was ^ 1, was.wrapping_add(1), was.wrapping_sub(1), operators, u32::MAX] {
+                let mut damaged = *run;
+                damaged.1[place] = value;
+                self.offer(&damaged, next, op)?;
+            }
+        }
+        Ok(())
+    }
+
+    /// The task's tables with one place altered, each in turn, and by chance with some at once, so that it shows which fault comes first.
+    fn tables(&mut self) -> Result<(), String> {
+        let whole = Tables::of(self.desk);
+        self.check("the task's own tables", &whole, [FACTS, COSTS, SHARES])?;
+        for short in [[FACTS - 1, COSTS, SHARES], [FACTS, COSTS - 1, SHARES], [FACTS, COSTS, SHARES - 1]] {
+            self.check("tables too short", &whole, short)?;
+        }
+        for place in 0..PLACES {
+            for kind in 0..KINDS {
+                let mut altered = whole.clone();
+                altered.alter(place, kind);
+                self.check(&format!("tables with place {place} altered"), &altered, [FACTS, COSTS, SHARES])?;
+            }
+        }
+        let mut chance = Chance(1);
+        for _ in 0..BY_CHANCE {
+            let mut altered = whole.clone();
+            for _ in 0..2 + chance.below(3) {
+                altered.alter(chance.below(PLACES), chance.below(KINDS));
+            }
+            self.check("tables altered by chance", &altered, [FACTS, COSTS, SHARES])?;
+        }
+        Ok(())
+    }
+
+    fn check(&mut self, what: &str, tables: &Tables, [facts, costs, shares]: [usize; 3]) -> Result<(), String> {
+        let [variables, operators, maps] = tables.counts;
+        let (facts, costs, shares) = (&tables.facts[..facts], &tables.costs[..costs], &tables.shares[..shares]);
+        let desk = check(Counts { variables, operators, maps }, facts, costs, shares).map_or_else(refused, |()| Told::Accepted);
+        let plain = plain::Task::of(tables.counts, facts, costs, shares).check().map_or_else(plainly_refused, |()| Told::Accepted);
+        self.count(what, desk, plain)
+    }
+}
+
+/// The places of the counts and the tables, one after another.
+const PLACES: usize = 3 + FACTS + COSTS + SHARES;
+
+/// How a place can be altered.
+const KINDS: usize = 8;
+
+/// A task's counts and tables, to be altered.
+#[derive(Clone)]
+struct Tables {
+    counts: [u32; 3],
+    facts: [u8; FACTS],
+    costs: [u32; COSTS],
+    shares: [u32; SHARES],
+}
+
+impl Tables {
+    fn of(desk: &Desk) -> Tables {
+        let counts = desk.task.counts();
+        let (facts, costs, shares) = desk.task.tables();
+        Tables { counts: [counts.variables, counts.operators, counts.maps], facts: *facts, costs: *costs, shares: *shares }
+    }
+
+    /// Alters a place: to a number near the one that stands there, or near a limit.
+    fn alter(&mut self, place: usize, kind: usize) {
+        let near = |was: u32| [0, 1, was.wrapping_sub(1), was.wrapping_add(1)];
+        if place < 3 {
+            let was = self.counts[place];
+            self.counts[place] = [8, 9, 65, u32::MAX].iter().chain(&near(was)).copied().nth(kind).unwrap_or(was);
+        } else if place < 3 + FACTS {
+            let at = &mut self.facts[place - 3];
+            let was = *at;
+            *at = [0, 1, was.wrapping_sub(1), was.wrapping_add(1), 7, 8, 9, u8::MAX][kind];
+        } else {
+            let place = place - 3 - FACTS;
+            let at = if place < COSTS { &mut self.costs[place] } else { &mut self.shares[place - COSTS] };
+            *at = [1_000_000, 1_000_001, *at / 2, u32::MAX].iter().chain(&near(*at)).copied().nth(kind).unwrap_or(*at);
+        }
+    }
+}
+
+/// Numbers by chance, the same ones each time (xorshift).
+struct Chance(u64);
+
+impl Chance {
+    fn below(&mut self, limit: usize) -> usize {
+        self.0 ^= self.0 << 13;
+        self.0 ^= self.0 >> 7;
+        self.0 ^= self.0 << 17;
+        (self.0 >> 11) as usize % limit
+    }
+}

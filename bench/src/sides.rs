@@ -1,0 +1,127 @@
+//! The two sides by one face: the desk, through the library for C, and the baseline. Both are asked by the same code.
+use crate::plain;
+use mihaedop::{Answer, Operator, Refusal, Run, State, Step, Task, RUN_BYTES, RUN_WORDS, STEPS};
+
+/// What an offer is answered.
+#[derive(Clone, Copy, Debug, PartialEq, Eq)]
+pub enum Told {
+    Accepted,
+    Repeated,
+    Refused { number: u8, place: u32 },
+}
+
+/// A run as the desk is lent it: bytes and words.
+pub type Parts = ([u8; RUN_BYTES], [u32; RUN_WORDS]);
+
+pub trait Side {
+    type Run;
+
+    /// A fresh run from the task's initial state.
+    fn begin(&self) -> Self::Run;
+
+    fn offer(&self, run: &mut Self::Run, number: u32, op: u32) -> Told;
+
+    fn of_parts(parts: &Parts) -> Self::Run;
+
+    fn parts(run: &Self::Run) -> Parts;
+}
+
+/// The desk with a task that it has read.
+pub struct Desk {
+    pub task: Task,
+    start: State,
+}
+
+/// The baseline with the tables of the same task.
+pub struct Plain<'a> {
+    pub task: plain::Task<'a>,
+    start: State,
+}
+
+impl Desk {
+    pub fn of(task: Task) -> Desk {
+        let start = task.initial();
+        Desk { task, start }
+    }
+}
+
+impl<'a> Plain<'a> {
+    pub fn of(task: &'a Task) -> Plain<'a> {
+        let counts = task.counts();
+        let (facts, costs, shares) = task.tables();
+        Plain { task: plain::Task::of([counts.variables, counts.operators, counts.maps], facts, costs, shares), start: task.initial() }
+    }
+}
+
+/// A refusal of the desk.
+pub fn refused(refusal: Refusal) -> Told {
+    Told::Refused { number: refusal.number(), place: refusal.place_number() }
+}
+
+/// A refusal of the baseline.
+pub fn plainly_refused(refusal: plain::Refusal) -> Told {
+    Told::Refused { number: refusal.number, place: refusal.place }
+}
+
+impl Side for Desk {
+    type Run = Run;
+
+    fn begin(&self) -> Run {
+        self.task.begin(&self.start).expect("the initial state is a start")
+    }
+
+    fn offer(&self, run: &mut Run, number: u32, op: u32) -> Told {
+        match run.offer(&self.task, Step(number), Operator(op)) {
+            Ok(Answer::Accepted) => Told::Accepted,
+            Ok(Answer::Repeated) => Told::Repeated,
+            Err(refusal) => refused(refusal),
+        }
+    }
+
+    fn of_parts((bytes, words): &Parts) -> Run {
+        Run::of_parts(*bytes, *words)
+    }
+
+    fn parts(run: &Run) -> Parts {
+        let (bytes, words) = run.parts();
+        (*bytes, *words)
+    }
+}
+
+impl Side for Plain<'_> {
+    type Run = plain::Run;
+
+    fn begin(&self) -> plain::Run {
+        plain::Run::begin(&self.task, self.start.values()).expect("the initial state is a start")
+    }
+
+    fn offer(&self, run: &mut plain::Run, number: u32, op: u32) -> Told {
+        match run.offer(&self.task, number, op) {
+            Ok(plain::Answer::Accepted) => Told::Accepted,
+            Ok(plain::Answer::Repeated) => Told::Repeated,
+            Err(refusal) => plainly_refused(refusal),
+        }
+    }
+
+    fn of_parts((bytes, words): &Parts) -> plain::Run {
+        let mut run = plain::Run::zeros();
+        run.start.copy_from_slice(&bytes[..8]);
+        run.now.state.copy_from_slice(&bytes[8..]);
+        run.log.copy_from_slice(&words[..STEPS]);
+        run.steps = words[STEPS];
+        run.now.paid.copy_from_slice(&words[STEPS + 1..STEPS + 9]);
+        run.now.unshared = words[STEPS + 9];
+        run
+    }
+
+    fn parts(run: &plain::Run) -> Parts {
+        let (mut bytes, mut words) = ([0; RUN_BYTES], [0; RUN_WORDS]);
+        bytes[..8].copy_from_slice(&run.start);
+        bytes[8..].copy_from_slice(&run.now.state);
+        words[..STEPS].copy_from_slice(&run.log);
+        words[STEPS] = run.steps;
+        words[STEPS + 1..STEPS + 9].copy_from_slice(&run.now.paid);
+        words[STEPS + 9] = run.now.unshared;
+        (bytes, words)
+    }
+}
