@@ -35,16 +35,17 @@ pub fn same_words(a: &[u32], b: &[u32], k: usize) -> bool
     true
 }
 
-// A log is 0 from a place on.
+// A log is 0 from a place on. It is looked at to its end whatever stands there, so that several places can be looked at at once.
 pub fn zeros_from(log: &[u32], from: usize) -> bool
     ensures { λ r. ⌜ r ≡ zeros (drop from (was log)) ⌝ }
 {
+    let mut unused = true;
     let mut i = from;
     while i < log.len() {
         if log[i] != 0 {
-            return false;
+            unused = false;
         }
         i += 1;
     }
-    true
+    unused
 }
