@@ -48,7 +48,7 @@ pub const OUT_PLACES: usize = 4200;
 
 pub const STATE_PLACES: usize = 16;
 
-pub const LIST_PLACES: usize = 400;
+pub const LIST_PLACES: usize = 1100;
 
 // The row of records, and the places of a record: its cost, its preconditions and its effects.
 pub const ROW_RECORDS: usize = 80;
@@ -60,7 +60,7 @@ const RECORDS_PLACES: usize = ROW_RECORDS * RECORD;
 // The places of a run's arrays: a state, the log and the columns.
 pub const RUN_STATE: usize = 8;
 
-pub const LOG_PLACES: usize = 256;
+pub const LOG_PLACES: usize = 1024;
 
 pub const COLUMNS: usize = 9;
 
