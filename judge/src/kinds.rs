@@ -9,6 +9,7 @@ use crate::rng::Rng;
 use crate::rows;
 use crate::run::Run;
 use crate::script::*;
+use crate::steps;
 use crate::sums;
 use crate::tables::counts_of;
 use crate::task::{State, Task};
@@ -42,8 +43,9 @@ const KINDS: [Kind; 24] = [
     shares_at_cost,
 ];
 
-/// The kinds over a row of records, over sums of which some terms are none, and over runs watched at every moment.
-const LATER_KINDS: [Kind; 4] = [rows::row_of_a_task, rows::damaged_row, sums::mixed, moments::watched];
+/// The kinds over a row of records, over sums of which some terms are none, over runs watched at every moment, and over lists
+/// and runs of any length.
+const LATER_KINDS: [Kind; 5] = [rows::row_of_a_task, rows::damaged_row, sums::mixed, moments::watched, steps::any_length];
 
 /// The i-th vector by chance: the kinds take turns.
 pub fn by_chance(rng: &mut Rng, i: usize) -> Vector {
@@ -216,7 +218,7 @@ pub fn some_list(rng: &mut Rng, task: &Task, start: &State) -> Vec<u32> {
     list
 }
 
-fn rng_op(task: &Task, any: u32) -> u32 {
+pub fn rng_op(task: &Task, any: u32) -> u32 {
     any % task.ops.len().max(1) as u32
 }
 
@@ -297,7 +299,7 @@ fn honest_run(rng: &mut Rng) -> Vector {
 }
 
 /// One field of the run set to something else.
-fn some_field(rng: &mut Rng, task: &Task, run: &Run) -> (u32, usize, u32, u32) {
+pub fn some_field(rng: &mut Rng, task: &Task, run: &Run) -> (u32, usize, u32, u32) {
     let (v, i, c) = (rng.below(VARS), rng.below(STEPS), rng.below(MAPS + 1));
     let any = rng.word();
     let near = rng.below(4) as u32;

@@ -7,7 +7,7 @@ pub const OPS: usize = 64;
 pub const COST: u64 = 1_000_000;
 pub const MAPS: usize = 8;
 pub const STATES: usize = 4_096;
-pub const STEPS: usize = 256;
+pub const STEPS: usize = 1_024;
 
 /// Stands for none in a distance table.
 pub const NONE: u32 = u32::MAX;

@@ -16,6 +16,7 @@ mod run;
 mod script;
 mod sequence;
 mod space;
+mod steps;
 mod sums;
 mod tables;
 mod task;
@@ -41,8 +42,8 @@ fn input() -> Vec<u8> {
     bytes
 }
 
-/// The cases by name, then vectors by chance, as many as are asked for; then the small texts, the rows of records, the sums, and the
-/// watched runs last.
+/// The cases by name, then vectors by chance, as many as are asked for; then the small texts, the rows of records, the sums, the watched
+/// runs, and the lists and runs of many steps last.
 fn vectors(seed: u64, count: usize) -> Vec<u8> {
     let mut vectors = cases::bench();
     vectors.extend(edges::edges());
@@ -56,6 +57,7 @@ fn vectors(seed: u64, count: usize) -> Vec<u8> {
     vectors.extend(rows::rows(seed));
     vectors.extend(sums::sums(seed));
     vectors.extend(moments::moments(seed));
+    vectors.extend(steps::steps(seed));
     builder::script_of(&vectors)
 }
 

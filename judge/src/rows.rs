@@ -56,7 +56,7 @@ fn case_a() -> Vec<Vector> {
         a("case A as a row: each operator alone, at two states")
             .lines("l 5 1; s 5 0 0; W; s 5 0 1; W; s 5 0 2; W; s 5 0 3; W; s 4 0 1 1 2; s 5 0 0; W; s 5 0 1; W; s 5 0 2; W; s 5 0 3; W"),
         a_whole("case A as a row: a state outside, and one of too few places", "s 4 1 3; W; l 4 2; W; l 4 3; W; s 4 1 0; W"),
-        a("case A as a row: 257 steps are too many").lend(FIRST, &[1; 257]).lines("W; l 5 256; W"),
+        a(&format!("case A as a row: {} steps are too many", STEPS + 1)).lend(FIRST, &[1; STEPS + 1]).lines(&format!("W; l 5 {STEPS}; W")),
         Vector::new("case A as a row and as tables")
             .task(&case())
             .row(&row_of(&case()))

@@ -13,7 +13,7 @@ pub const NUMBERS: usize = 16;
 /// The room of the text buffer.
 pub const BUFFER: usize = 16_500;
 /// The room of a list of steps: more than a sequence may have.
-pub const LIST: usize = 400;
+pub const LIST: usize = 1_100;
 /// So many changed places of an array are printed one by one; a call's further ones make one line.
 pub const SHOWN: usize = 64;
 

@@ -8,6 +8,7 @@ use crate::limits::*;
 use crate::random::{self, Size};
 use crate::rng::Rng;
 use crate::row::Record;
+use crate::run::Offered;
 use crate::script::expect;
 use crate::space::{self, distances, view_by_classes, view_by_states};
 use crate::tables::{counts_of, read_tables, Counts, Lent};
@@ -64,6 +65,48 @@ fn case_a_run() {
     due.extend(columns);
     due.extend(["repeated", "refused 14 1", "refused 13 3"]);
     assert_eq!(answers(A, lines), due);
+}
+
+/// Case A with an operator 0 that may always run, and so may be the whole of a list or a log.
+fn a_without_end() -> String {
+    a_with("op=1;0:0;0:1", "op=1;-;0:1")
+}
+
+#[test]
+fn a_sequence_of_1024_steps_passes_and_1025_are_11() {
+    let judged = |steps: usize| answers(&a_without_end(), &format!("s 5 {} 1 2 3; l 5 {}; J; C", steps - 3, steps));
+    for steps in [255, 256, 257, 1023, 1024] {
+        assert_eq!(judged(steps), [format!("passed {}", steps), format!("first {}", steps)]);
+    }
+    assert_eq!(judged(1025), ["refused 11 0", "neither"]);
+    assert_eq!(judged(1026), ["refused 11 0", "neither"]);
+}
+
+#[test]
+fn step_1024_of_a_run_is_accepted_and_step_1025_is_15() {
+    let run = |steps: u32, lines: &str| answers(&a_without_end(), &format!("G; s 9 0 {}; s 10 0 1; s 11 0 {}; {}", steps, steps, lines));
+    assert_eq!(run(256, "O 257 0; O 257 0"), ["fresh", "accepted", "column 0 257", "repeated"]);
+    let due =
+        ["fresh", "accepted", "column 0 1024", "refused 15 1025", "refused 15 1025", "refused 10 1025", "refused 13 1026", "repeated"];
+    assert_eq!(run(1023, "O 1024 0; O 1025 0; O 1025 2; O 1025 4; O 1026 0; O 1024 0"), due);
+    assert_eq!(run(1025, "O 1 0"), ["fresh", "refused 17 0"]);
+    assert_eq!(
+        run(1024, "s 8 1023 1; O 1 0; s 8 1023 0; O 1 0; p 8 1024; s 9 0 1023; O 1 0"),
+        ["fresh", "refused 17 0", "repeated", "refused 17 0"]
+    );
+    assert_eq!(run(300, "s 8 600 1; O 1 0; s 8 600 0; O 1 0"), ["fresh", "refused 17 0", "repeated"]);
+}
+
+#[test]
+fn a_full_run_at_the_highest_cost() {
+    let task = row_of_ops(&[COST]);
+    let whole = Task { shares: vec![vec![COST]], ..task.clone() };
+    let list = [0; 1024];
+    let (unpaid, paid) = (run_of(&task, &list), run_of(&whole, &list));
+    assert_eq!((unpaid.columns[0], unpaid.columns[MAPS]), (0, 1_024_000_000));
+    assert_eq!((paid.columns[0], paid.columns[MAPS]), (1_024_000_000, 0));
+    assert_eq!(paid.offer(&whole, 1024, 0), (paid.clone(), Offered::Repeated));
+    assert_eq!(paid.offer(&whole, 1025, 0), (paid.clone(), Offered::Refused(fault(15, 1025))));
 }
 
 #[test]
