@@ -52,7 +52,7 @@ extern "C" {
 #define DESK_RUN_WORDS (DESK_STEPS + 1 + DESK_MAPS + 1)
 
 /* The most steps of a list or a run, and the most maps of a task. */
-#define DESK_STEPS 256
+#define DESK_STEPS 1024
 #define DESK_MAPS 8
 
 /* Where the initial state begins in a task's facts, and the state now in a run's bytes. */

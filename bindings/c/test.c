@@ -36,6 +36,9 @@ static uint32_t shares[DESK_SHARES];
 #define TASK COUNTED, TABLES
 static const uint8_t init[3] = {0, 0, 0};
 
+/* Where the facts say what operator 0 asks of variable 0; with 0 there it asks nothing of it, and so may always run. */
+#define OP0_ASKS 24
+
 static void reads(void)
 {
     static uint8_t f[DESK_FACTS + 1];
@@ -203,6 +206,7 @@ static void runs(void)
     EXPECT(desk_offer(TASK, RUN, UINT32_MAX, UINT32_MAX) == word(10, UINT32_MAX) && KEPT);
     EXPECT(desk_offer(TASK, bytes, DESK_RUN_BYTES - 1, words, DESK_RUN_WORDS, 2, 1) == SHORT && KEPT);
     EXPECT(desk_offer(TASK, WILD8, 0, words, DESK_RUN_WORDS, 2, 1) == SHORT && KEPT);
+    EXPECT(desk_offer(TASK, bytes, DESK_RUN_BYTES, words, DESK_RUN_WORDS - 1, 2, 1) == SHORT && KEPT);
     EXPECT(desk_offer(TASK, bytes, DESK_RUN_BYTES, WILD32, 0, 2, 1) == SHORT && KEPT);
     EXPECT(desk_offer(COUNTED, facts, DESK_FACTS, costs, DESK_COSTS, WILD32, 0, RUN, 2, 1) == SHORT && KEPT);
     words[DESK_STEPS + 1]++; /* a column that no offers could have left */
@@ -219,6 +223,87 @@ static void runs(void)
     memcpy(from, bytes + DESK_RUN_NOW, sizeof from);
     EXPECT(desk_begin(TASK, from, 3, RUN) == word(DESK_DONE, 0));
     EXPECT(desk_run_steps(words) == 0 && memcmp(bytes, from, 3) == 0 && memcmp(bytes + DESK_RUN_NOW, from, 3) == 0);
+}
+
+/* The most steps of a list: so many pass, as the first list and as the second, and one more is too many. */
+static void longest_lists(void)
+{
+    static uint32_t list[DESK_STEPS], over[DESK_STEPS + 1];
+    const size_t lengths[4] = {256, 257, DESK_STEPS - 1, DESK_STEPS};
+    const uint32_t rest[3] = {1, 2, 3}; /* after any number of steps by operator 0 these lead to the goal */
+    const uint64_t cost = (DESK_STEPS - 3) * UINT64_C(1000000) + 3;
+    EXPECT(DESK_STEPS == 1024 && DESK_RUN_WORDS == 1034);
+    facts[OP0_ASKS] = 0;
+    costs[0] = shares[0] = 1000000;
+    for (int i = 0; i < 4; i++) {
+        memset(list, 0, sizeof list);
+        memcpy(list + lengths[i] - 3, rest, sizeof rest);
+        EXPECT(desk_judge(TASK, init, 3, list, lengths[i]) == word(DESK_DONE, (lengths[i] - 3) * UINT64_C(1000000) + 3));
+        EXPECT(desk_judge(TASK, init, 3, list, lengths[i] - 1) == word(16, lengths[i] - 1));
+        EXPECT(desk_opening(TASK, init, 3, list, lengths[i], WILD32, 0) == word(DESK_FIRST, lengths[i]));
+    }
+    memcpy(over + DESK_STEPS - 2, rest, sizeof rest);
+    EXPECT(desk_judge(TASK, init, 3, over, DESK_STEPS + 1) == word(11, 0));
+    EXPECT(desk_cheaper(TASK, init, 3, list, DESK_STEPS, over, DESK_STEPS + 1) == word(DESK_FIRST, cost));
+    EXPECT(desk_cheaper(TASK, init, 3, over, DESK_STEPS + 1, list, DESK_STEPS) == word(DESK_SECOND, cost));
+    EXPECT(desk_cheaper(TASK, init, 3, list, DESK_STEPS, list, DESK_STEPS) == word(DESK_FIRST, cost));
+    EXPECT(desk_cheaper(TASK, init, 3, over, DESK_STEPS + 1, over, DESK_STEPS + 1) == word(DESK_NEITHER, 0));
+    EXPECT(desk_opening(TASK, init, 3, list, DESK_STEPS, over, DESK_STEPS + 1) == word(DESK_FIRST, DESK_STEPS));
+    EXPECT(desk_opening(TASK, init, 3, over, DESK_STEPS + 1, list, DESK_STEPS) == word(DESK_SECOND, DESK_STEPS));
+    EXPECT(desk_opening(TASK, init, 3, over, DESK_STEPS + 1, over, DESK_STEPS + 1) == word(DESK_FIRST, 0));
+    EXPECT(desk_read(text, text_len, counts, DESK_COUNTS, TABLES) == word(DESK_DONE, 0));
+}
+
+/* The most steps of a run, at the highest cost: so many offers are accepted, then 15; the memory of a full run holds
+ * what was offered, is left as it was, and is asked for to its last word. */
+static void full_run(void)
+{
+    static uint8_t bytes[DESK_RUN_BYTES + 1], bytes0[DESK_RUN_BYTES + 1];
+    static uint32_t words[DESK_RUN_WORDS + 1], words0[DESK_RUN_WORDS + 1];
+    const uint8_t ahead[3] = {1, 0, 0};
+    facts[OP0_ASKS] = 0;
+    costs[0] = costs[1] = shares[0] = shares[1] = 1000000; /* map 0 pays all of operators 0 and 1 */
+    shares[64 + 1] = 0;
+    memset(bytes, 5, sizeof bytes);
+    memset(words, 5, sizeof words);
+    EXPECT(desk_begin(TASK, init, 3, RUN) == word(DESK_DONE, 0));
+    EXPECT(desk_offer(TASK, RUN, 1, 1) == word(DESK_DONE, 0));
+    for (uint32_t number = 2; number <= DESK_STEPS; number++) {
+        EXPECT(desk_offer(TASK, RUN, number, 0) == word(DESK_DONE, 0));
+        EXPECT(desk_run_steps(words) == number && desk_run_paid(words, 0) == number * 1000000);
+    }
+    EXPECT(words[DESK_STEPS] == DESK_STEPS && desk_run_op(words, 1) == 1);
+    for (uint32_t number = 2; number <= DESK_STEPS; number++)
+        EXPECT(desk_run_op(words, number) == 0);
+    EXPECT(desk_run_paid(words, 0) == 1024000000);
+    EXPECT(desk_run_paid(words, 1) == 0 && desk_run_paid(words, 2) == 0 && desk_run_unshared(words) == 0);
+    EXPECT(memcmp(bytes, init, 3) == 0 && bytes[DESK_RUN_NOW] == 1 && bytes[DESK_RUN_NOW + 1] == 1 && bytes[DESK_RUN_NOW + 2] == 1);
+    EXPECT(bytes[DESK_RUN_BYTES] == 5 && words[DESK_RUN_WORDS] == 0x05050505);
+    KEEP;
+    EXPECT(desk_offer(TASK, RUN, DESK_STEPS + 1, 0) == word(15, DESK_STEPS + 1) && KEPT);
+    EXPECT(desk_offer(TASK, RUN, DESK_STEPS + 1, 1) == word(15, DESK_STEPS + 1) && KEPT); /* it may not run either */
+    EXPECT(desk_offer(TASK, RUN, DESK_STEPS + 1, 4) == word(10, DESK_STEPS + 1) && KEPT);
+    EXPECT(desk_offer(TASK, RUN, DESK_STEPS + 2, 0) == word(13, DESK_STEPS + 2) && KEPT);
+    EXPECT(desk_offer(TASK, RUN, DESK_STEPS, 0) == word(DESK_REPEATED, 0) && KEPT);
+    EXPECT(desk_offer(TASK, RUN, 257, 0) == word(DESK_REPEATED, 0) && KEPT);
+    EXPECT(desk_offer(TASK, RUN, DESK_STEPS, 1) == word(14, DESK_STEPS) && KEPT);
+    EXPECT(desk_offer(TASK, bytes, DESK_RUN_BYTES, words, DESK_RUN_WORDS - 1, DESK_STEPS, 0) == SHORT && KEPT);
+    EXPECT(desk_offer(TASK, bytes, DESK_RUN_BYTES - 1, words, DESK_RUN_WORDS, DESK_STEPS, 0) == SHORT && KEPT);
+    EXPECT(desk_begin(TASK, init, 3, bytes, DESK_RUN_BYTES, words, DESK_RUN_WORDS - 1) == SHORT && KEPT);
+    words[DESK_STEPS - 1] = 1; /* another last step than what was booked */
+    KEEP;
+    EXPECT(desk_offer(TASK, RUN, DESK_STEPS, 1) == word(17, 0) && KEPT);
+    words[DESK_STEPS - 1] = 0;
+    words[DESK_STEPS] = DESK_STEPS + 1; /* more steps than there are places for */
+    KEEP;
+    EXPECT(desk_offer(TASK, RUN, DESK_STEPS, 0) == word(17, 0) && KEPT);
+    words[DESK_STEPS] = DESK_STEPS;
+    EXPECT(desk_offer(TASK, RUN, DESK_STEPS, 0) == word(DESK_REPEATED, 0));
+    EXPECT(desk_begin(TASK, ahead, 3, RUN) == word(DESK_DONE, 0)); /* the full run is written over */
+    for (size_t i = 0; i < DESK_RUN_WORDS; i++)
+        EXPECT(words[i] == 0);
+    EXPECT(words[DESK_RUN_WORDS] == 0x05050505);
+    EXPECT(desk_read(text, text_len, counts, DESK_COUNTS, TABLES) == word(DESK_DONE, 0));
 }
 
 /* A run that is watched, with a retry, a step that may not run and another operator at an old number on its way to the
@@ -342,6 +427,8 @@ int main(int argc, char **argv)
     bounds();
     sequences();
     runs();
+    longest_lists();
+    full_run();
     watched();
     run_helpers();
     short_tables();

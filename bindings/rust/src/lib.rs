@@ -20,7 +20,7 @@ pub const SHARES: usize = 512;
 pub const DISTANCES: usize = 4096;
 
 /// The most steps of a sequence or a run.
-pub const STEPS: usize = 256;
+pub const STEPS: usize = 1024;
 
 /// In a table of distances: none.
 pub const NO_DISTANCE: u32 = u32::MAX;

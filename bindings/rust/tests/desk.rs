@@ -50,6 +50,16 @@ fn refusal<T>(answer: Result<T, Refusal>) -> (u8, u32) {
     }
 }
 
+/// The limit as the refusals write it.
+fn most_steps() -> String {
+    format!("{},{:03}", STEPS / 1000, STEPS % 1000)
+}
+
+/// Case A with an operator 0 that may always run and costs the most, all of which map 0 pays.
+fn without_end() -> Task {
+    task(&A.replace("op=1;0:0;0:1", "op=1000000;-;0:1").replace("share=1,0,0,0", "share=1000000,0,0,0"))
+}
+
 #[test]
 fn reads_and_refuses_texts() {
     let a = task(A);
@@ -81,7 +91,7 @@ fn refusals_say_number_place_and_meaning() {
     assert_eq!(a.judge(&start, &ops(&[0])).err().expect("refused").place(), Place::Length(1));
     assert_eq!(a.bound(&State::of(&[])).err().expect("refused").to_string(), "refused 8 at place 0: a lent table is shorter than needed");
     let long = a.judge(&start, &ops(&[0; STEPS + 1])).err().expect("refused");
-    assert_eq!(long.to_string(), format!("refused 11 at place 0: the sequence has more than {STEPS} steps"));
+    assert_eq!(long.to_string(), format!("refused 11 at place 0: the sequence has more than {} steps", most_steps()));
 }
 
 #[test]
@@ -151,6 +161,27 @@ fn sequences_and_the_cheaper_of_two() {
     assert_eq!((part.as_ptr(), part.len()), (longer.as_ptr(), 4));
     let none = a.opening(&start, &stuck, &[]);
     assert_eq!((none.as_ptr(), none.len()), (stuck.as_ptr(), 0));
+}
+
+#[test]
+fn so_many_steps_pass_and_one_more_is_too_many() {
+    assert_eq!((STEPS, RUN_WORDS), (1024, 1034));
+    let a = without_end();
+    let start = a.initial();
+    let list = |steps: usize| [vec![Operator(0); steps - 3], ops(&[1, 2, 3])].concat();
+    let cost = |steps: usize| Seconds((steps as u64 - 3) * 1_000_000 + 3);
+    for steps in [256, 257, STEPS - 1, STEPS] {
+        assert_eq!(a.judge(&start, &list(steps)), Ok(cost(steps)));
+        assert_eq!(refusal(a.judge(&start, &list(steps)[..steps - 1])), (16, steps as u32 - 1));
+    }
+    let (most, over) = (list(STEPS), list(STEPS + 1));
+    assert_eq!(refusal(a.judge(&start, &over)), (11, 0));
+    assert_eq!(a.cheaper(&start, &most, &over), Ok(Cheaper::First(cost(STEPS))));
+    assert_eq!(a.cheaper(&start, &over, &most), Ok(Cheaper::Second(cost(STEPS))));
+    assert_eq!(a.cheaper(&start, &over, &over), Ok(Cheaper::Neither));
+    let part = a.opening(&start, &over, &most);
+    assert_eq!((part.as_ptr(), part.len()), (most.as_ptr(), STEPS));
+    assert_eq!(a.opening(&start, &over, &over).len(), 0);
 }
 
 #[test]
@@ -243,9 +274,40 @@ fn a_run_is_full_after_its_last_step() {
     }
     assert_eq!((run.paid(Map(0)), run.unshared()), (Seconds(rounds * 3), Seconds(rounds * 5)));
     let full = run.offer(&round, Step(last + 1), Operator(0)).err().expect("refused");
-    assert_eq!(full.to_string(), format!("refused 15 at step {}: the run already has {STEPS} steps", last + 1));
+    assert_eq!(full.to_string(), format!("refused 15 at step {}: the run already has {} steps", last + 1, most_steps()));
     assert_eq!(run.offer(&round, Step(last), Operator(1)), Ok(Answer::Repeated));
     assert_eq!(round.judge(&round.initial(), &run.log()), Ok(Seconds(rounds * 8)));
     let mut next = round.begin(&run.now(&round)).expect("a start");
     assert_eq!(next.offer(&round, Step(1), Operator(0)), Ok(Answer::Accepted));
+}
+
+#[test]
+fn a_full_run_at_the_highest_cost_stays_as_it_is() {
+    let a = without_end();
+    let mut run = a.begin(&a.initial()).expect("a start");
+    let last = STEPS as u32;
+    for step in 1..=last {
+        assert_eq!(run.next(), Step(step));
+        assert_eq!(run.offer(&a, Step(step), Operator(0)), Ok(Answer::Accepted));
+    }
+    assert_eq!((run.paid(Map(0)), run.unshared()), (Seconds(1_024_000_000), Seconds(0)));
+    assert_eq!((run.log(), run.now(&a)), (vec![Operator(0); STEPS], State::of(&[1, 0, 0])));
+    let full = run.clone();
+    assert_eq!(refusal(run.offer(&a, Step(last + 1), Operator(0))), (15, last + 1));
+    assert_eq!(refusal(run.offer(&a, Step(last + 1), Operator(2))), (15, last + 1));
+    assert_eq!(refusal(run.offer(&a, Step(last + 1), Operator(4))), (10, last + 1));
+    assert_eq!(refusal(run.offer(&a, Step(last + 2), Operator(0))), (13, last + 2));
+    assert_eq!(refusal(run.offer(&a, Step(last), Operator(1))), (14, last));
+    assert_eq!(run.offer(&a, Step(last), Operator(0)), Ok(Answer::Repeated));
+    assert_eq!(run.offer(&a, Step(257), Operator(0)), Ok(Answer::Repeated));
+    assert_eq!(run, full);
+    let (bytes, words) = full.parts();
+    for (place, value) in [(STEPS - 1, 1), (STEPS, last - 1), (STEPS, last + 1), (STEPS + 1, 1_024_000_001)] {
+        let mut damaged = *words;
+        damaged[place] = value;
+        let mut damaged = Run::of_parts(*bytes, damaged);
+        let before = damaged.clone();
+        assert_eq!(refusal(damaged.offer(&a, Step(1), Operator(0))), (17, 0));
+        assert_eq!(damaged, before);
+    }
 }
