@@ -1,5 +1,5 @@
-//! Lists and runs of many steps: both sides of the limit in every entry, lengths on the way to it, the columns of a full run,
-//! and the places of a long log.
+//! Lists and runs of many steps: both sides of the limit in every entry, lengths on the way to it (256 was the limit once), the
+//! columns of a full run, and the places of a long log.
 
 use crate::builder::{row_of, Vector};
 use crate::edges::run_of;
