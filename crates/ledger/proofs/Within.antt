@@ -6,7 +6,7 @@ use mathlib.Core.Path.{_≡_, refl, sym}
 use mathlib.Core.Bool.{true}
 use mathlib.Core.List.{List}
 use native.Mathlib.Omega.{arith}
-use lib.ListN.{length, getD}
+use lib.ListN.{getD}
 use Rattle.refusals.specs.declared.Refusal.the-variants.{NotARun}
 use Rattle.meaning.specs.Limits.{mostCost, mostSteps}
 use Rattle.meaning.specs.Sas.{State}

@@ -12,7 +12,7 @@ use Rattle.tables.specs.Layout.{Tables}
 use Rattle.tables.specs.Task.{tables, taskOf}
 use Rattle.scan.proofs.Validity.{clean-valid, clean-room}
 use Rattle.ledger.specs.declared.replay.Standing.{Standing}
-use Rattle.ledger.specs.Ledger.{atStart, canRun, onward, replayed}
+use Rattle.ledger.specs.Ledger.{atStart, canRun, replayed}
 use Rattle.ledger.specs.Inside.Bounded.{Bounded}
 use Rattle.ledger.proofs.Gains.{start-bounded, column-room}
 use Rattle.ledger.proofs.Runs.{bounded-step, can-exists, given-end, given-next, given-stop, stepped-onward}
@@ -65,6 +65,23 @@ loop-holds : tie.Need-loop-holds Inv-loop μ-loop
 unfolding atStart
 loop-holds c = (omega arith, refl, start-bounded (c .before .before .before .before .args .start))
 
+can-run-requires : tie.Need-can-run-requires Inv-loop μ-loop
+can-run-requires c κs =
+    let x = c .before .before .before in
+    (valid x .vars .1, valid x .ops, clean-room (T x) (first x .pre .0) .0)
+
+step-requires : tie.Need-step-requires Inv-loop μ-loop
+step-requires c κs =
+    let x = asked (c .before .before) in
+    (valid x .vars .1, omega (arith, exists (c .before), valid x .ops), clean-room (T x) (first x .pre .0) .0)
+
+book-requires : tie.Need-book-requires Inv-loop μ-loop
+book-requires c κs =
+    let z = c .before .before .before in
+    let x = asked (z .before) in
+    let room = column-room (x .loop .i) (x .loop .columns) (omega (arith, first x .pre .1, z .before .before .before .before .loop-test .taken)) in
+    (first x .pre .0, exists z, room (x .loop .inv .2))
+
 returns : tie.Need-returns Inv-loop μ-loop
 returns c =
     let y = c .before in
@@ -95,10 +112,10 @@ replay-spec =
     loop-holds
     (λ c. search needs)
     (λ c. omega (arith, first (c .before .before) .pre .2, c .before .loop-test .taken))
-    (λ c κs. let x = c .before .before .before in (valid x .vars .1, valid x .ops, clean-room (T x) (first x .pre .0) .0))
+    can-run-requires
     returns
-    (λ c κs. let x = asked (c .before .before) in (valid x .vars .1, omega (arith, exists (c .before), valid x .ops), clean-room (T x) (first x .pre .0) .0))
-    (λ c κs. let x = asked (c .before .before .before .before) in (first x .pre .0, exists (c .before .before .before), column-room (x .loop .i) (x .loop .columns) (omega (arith, first x .pre .1, c .before .before .before .before .before .before .before .loop-test .taken)) (x .loop .inv .2)))
+    step-requires
+    book-requires
     (λ c. search needs)
     (λ c. search needs)
     loop-again
