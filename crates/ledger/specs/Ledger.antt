@@ -34,16 +34,16 @@ bookedAt T columns o column = getD columns column 0 + gain T column o
 unfoldable pub booked : Task → List ℕ → ℕ → List ℕ
 booked T columns o = overwritten (bookedAt T columns o) columns allColumns
 
--- where a run stands, which is what a step changes beside the log: at its start ..
+-- where a run stands: the state now and the columns, which are what a step changes beside the log
+abbrev pub standing : Run → Standing
+standing r = record { now = r .now; columns = r .columns }
+
+-- where it stands at its start, and where after operator o
 unfoldable pub atStart : List ℕ → Standing
 atStart s = record { now = s; columns = replicate allColumns 0 }
 
--- .. and after operator o
 unfoldable pub onward : Tables → Standing → ℕ → Standing
 onward t x o = record { now = stepped (t .counts) (t .facts) (x .now) o; columns = booked (taskOf t) (x .columns) o }
-
-abbrev pub standing : Run → Standing
-standing r = record { now = r .now; columns = r .columns }
 
 -- a fresh run: an empty log, columns of 0 and its start as the state now
 unfoldable pub fresh : List ℕ → Run
