@@ -85,7 +85,7 @@ pub record SamePlaces (r q : Run) : Type 0 where
 -- ---- a step takes a run to where the step leads
 
 pub advanced-stands : (t : Tables) (r : Run) (o : ℕ) → standing (advanced t r o) ≡ onward t (standing r) o
-unfolding advanced
+unfolding advanced onward
 advanced-stands t r o = refl
 
 -- ---- a run as its type has it: a fresh one, and one with a step more

@@ -19,11 +19,12 @@ use Rattle.scan.proofs.Validity.{clean-valid}
 use Rattle.tables.specs.Layout.{Tables, domAt}
 use Rattle.tables.specs.Task.{taskOf, sasOf, stateOf}
 use Rattle.ledger.specs.declared.Run.{Run}
+use Rattle.ledger.specs.declared.replay.Standing.{Standing}
 use Rattle.ledger.specs.declared.replay.Tried.{Tried}
 use Rattle.ledger.specs.Ledger.{allColumns, atStart, standing, fresh, advanced, canRun, replayed, given, startsAt, startIn, alike, isRun}
 use Rattle.ledger.specs.History.{mayFollow, Tells, GivenByStartAndLog, Sized}
 use Rattle.ledger.proofs.Answers.{start-within, start-beyond}
-use Rattle.ledger.proofs.Runs.{SamePlaces, Tested, alike-parts, sameTo-at, zeros-unused, replayed-yes, replayed-no, run-tested}
+use Rattle.ledger.proofs.Runs.{SamePlaces, Tested, advanced-stands, alike-parts, sameTo-at, zeros-unused, replayed-yes, replayed-no, run-tested}
 use Rattle.ledger.proofs.Begun.{startOf, from-at, from-beyond, from-size}
 use Rattle.ledger.proofs.Sequences.{end-append}
 use Rattle.ledger.proofs.Told.{Told, fresh-told, step-told, can-is, is-run}
@@ -85,14 +86,16 @@ module _ (t : Tables) (s : List ℕ) (clean : tablesFault t ≡ Clean) (state : 
     abbrev more : List ℕ
     more = done ++ (o ∷ [])
 
+    -- the steps after one that can run lead on from the run with that step
+    after : canRun (t .counts) (t .facts) (q .now) o ≡ true → replayed t (standing q) (o ∷ os) ≡ replayed t (standing (advanced t q o)) os
+    after p = replayed-yes t (standing q) o os p ∙ ap (λ (x : Standing). replayed t x os) (sym (advanced-stands t q o))
+
     replay-on : canRun (t .counts) (t .facts) (q .now) o ≡ true → TellsAll more os (advanced t q o) ⊎ Stops more os (advanced t q o)
         → TellsAll done (o ∷ os) q ⊎ Stops done (o ∷ os) q
-    unfolding advanced
-    replay-on p (inl (z, k, on)) =
-        inl (z, replayed-yes t (standing q) o os p ∙ k, subst (λ (l : List ℕ). Told t s l z) (append-assoc done (o ∷ []) os) on)
+    replay-on p (inl (z, k, on)) = inl (z, after p ∙ k, subst (λ (l : List ℕ). Told t s l z) (append-assoc done (o ∷ []) os) on)
     replay-on p (inr (k, never)) =
         inr (
-          ap (λ (x : Tried). x .ok) (replayed-yes t (standing q) o os p) ∙ k,
+          ap (λ (x : Tried). x .ok) (after p) ∙ k,
           λ h. never (subst (Runs (sasOf t) os) (sym (end-append (sasOf t) done (o ∷ []) (stateOf s))) (h .2)),
         )
 

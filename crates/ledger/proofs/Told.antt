@@ -32,7 +32,7 @@ use Rattle.ledger.specs.History.{Offer, mayFollow, reallyRuns, Tells, Si
 use Rattle.ledger.proofs.Gains.{zeros-at, booked-at}
 use Rattle.ledger.proofs.Answers.{next-go, judged-next}
 use Rattle.ledger.proofs.Begun.{startOf, from-at, from-beyond, from-size, from-inside}
-use Rattle.ledger.proofs.Runs.{three, fresh-sized, advanced-sized, alike-refl, unused-zeros, replayed-yes, replayed-no, can-exists}
+use Rattle.ledger.proofs.Runs.{three, advanced-stands, fresh-sized, advanced-sized, alike-refl, unused-zeros, replayed-yes, replayed-no, can-exists}
 use Rattle.ledger.proofs.Sequences.{end-append, runs-append, paid-append}
 use Rattle.ledger.proofs.Accepted.{answered-judged, accepted-had, offer-runs, offer-stays}
 
@@ -157,7 +157,9 @@ module _ (t : Tables) (s : List ℕ) (clean : tablesFault t ≡ Clean) (state : 
               tells = tells-more;
               sized = advanced-sized t q o (told .sized);
               from = told .from;
-              given = replayed-snoc t done (atStart (startOf t s)) (standing q) o (told .given) can;
+              given =
+                  replayed-snoc t done (atStart (startOf t s)) (standing q) o (told .given) can
+                  ∙ ap (λ (x : Standing). record { ok = true; at = x }) (sym (advanced-stands t q o));
             }
 
     -- ---- it is a run, and an offer to it is accepted exactly if it is a step really run

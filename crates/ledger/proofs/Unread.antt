@@ -5,7 +5,7 @@ use mathlib.Core.Path.{_≡_, refl, ap, ap₂, sym, _∙_}
 use mathlib.Core.Bool.{Bool, _&&_, _||_, cond}
 use mathlib.Core.List.{List, [], _∷_}
 use lib.Dec.{leb, ltb, eqb}
-use lib.ListN.{getD, take, drop, replicate}
+use lib.ListN.{getD, set, take, drop, replicate}
 use borrow.Author.Tests.{ltb-true}
 use Rattle.refusals.specs.declared.Refusal.the-variants.{NoSuchOperator, MayNotRun, NotTheNext, RunFull, NotARun}
 use Rattle.meaning.specs.Limits.{mostVars, mostSteps}
@@ -28,7 +28,7 @@ use Rattle.ledger.specs.declared.Answer.the-variants.{Accepted, Repeated
 use Rattle.ledger.specs.Ledger.{allColumns, bookedAt, booked, atStart, onward, standing, fresh, advanced, canRun, replayed, given, startAt, startsAt}
 use Rattle.ledger.specs.Ledger.{startIn, zeros, alike, isRun}
 use Rattle.ledger.specs.Ledger.{oldStep, nextStep, offerJudged, refusedOr, answered, moved, offered, started, begun}
-use Rattle.ledger.proofs.Runs.{can-exists}
+use Rattle.ledger.proofs.Runs.{advanced-stands, can-exists}
 use Rattle.ledger.proofs.Accepted.{accepted-had}
 
 -- ---- the steps of a run, over tables that spell the same task
@@ -70,7 +70,11 @@ module _ (t u : Tables) (E : SameTask (taskOf t) (taskOf u)) where
 
   advanced-alike : (r : Run) (o : ℕ) → o < t .counts .ops → advanced t r o ≡ advanced u r o
   unfolding advanced
-  advanced-alike r o lo = rw (onward-alike (standing r) o lo) refl
+  advanced-alike r o lo =
+      ap
+      (λ (x : Standing).
+      record { start = r .start; log = set (r .log) (r .len) o; len = r .len + 1; now = x .now; columns = x .columns })
+      (advanced-stands t r o ∙ onward-alike (standing r) o lo ∙ sym (advanced-stands u r o))
 
   replayed-alike : (os : List ℕ) (x : Standing) → replayed t x os ≡ replayed u x os
   unfolding replayed
