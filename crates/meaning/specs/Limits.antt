@@ -1,4 +1,4 @@
--- The limits of document 01, each said once. `limits` in src/ has the same numbers for the code.
+-- The limits of document 01, and the step limit of document 02, each said once. `limits` in src/ has the same numbers for the code.
 use Prim.Native.Nat.{ℕ}
 
 -- a text, in bytes

@@ -1,4 +1,4 @@
-// The limits of document 01, as specs/Limits.antt has them: the most bytes of a text, variables, values of a variable, operators, maps,
+// The limits, as specs/Limits.antt has them: the most bytes of a text, variables, values of a variable, operators, maps,
 // and steps of a sequence or a run.
 pub const BYTES_MOST: usize = 16384;
 
