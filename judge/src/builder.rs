@@ -139,6 +139,14 @@ impl Vector {
         self
     }
 
+    /// A task set by hand, its counts, operators and costs too.
+    pub fn tables(self, task: &Task) -> Vector {
+        let (counts, ops) = (counts_of(task), task.ops.len());
+        self.lines(&format!("n {} {} {}", counts.vars, counts.ops, counts.maps))
+            .by_hand(task, (0..ROW_PRE + ops).chain(ROW_EFF..ROW_EFF + ops))
+            .set(COSTS, 0, &tables_of(task).costs[..ops])
+    }
+
     /// Something in every place of the tables and of the distance table.
     pub fn dirty(self) -> Vector {
         self.lines("e 0 201; e 1 4000000000; e 2 4000000001; e 3 4000000002")

@@ -96,7 +96,7 @@ fn judged(title: &str, list: &[u32]) -> Vector {
 
 /// The text of 64 operators with one more.
 fn one_op_more(text: &str) -> String {
-    text.replace("ops=64\n", "ops=65\nop=1;-;-\n").replace("share=", "share=0,")
+    text.replace("ops=64\n", "ops=65\nop=1;-;0:1\n").replace("share=", "share=0,")
 }
 
 fn texts_of_the_bench() -> Vec<Vector> {
@@ -105,10 +105,7 @@ fn texts_of_the_bench() -> Vec<Vector> {
     vec![
         read("case A is accepted, and every lent place is written", A),
         read("case C: shares above the cost of operator 1", &c()),
-        read(
-            "an operator without facts is accepted",
-            &a_with("op=1;1:0,2:0;1:1,2:1", "op=0;-;-").replace("share=0,1,1,0", "share=0,0,1,0"),
-        ),
+        read("an operator without facts is idle", &a_with("op=1;1:0,2:0;1:1,2:1", "op=0;-;-").replace("share=0,1,1,0", "share=0,0,1,0")),
         read("64 operators pass", &ops(64)),
         read("ops=65 is out of range", &one_op_more(&ops(64))),
         read("no operators at all", &ops(0)),

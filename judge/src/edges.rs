@@ -36,13 +36,15 @@ pub fn counters(count: usize, among: usize, values: usize) -> Task {
     Task { dom: vec![values; vars], init: vec![0; vars], goal: vec![Some(values - 1); vars], ops, maps, shares }
 }
 
-/// A switch that goes on and off, and a step that changes nothing; a goal is 'on'.
+/// A switch that goes on and off; a goal is 'on'. Beside it is a thing of one value: two steps set it, which changes nothing;
+/// neither asks for that value, so they aren't idle.
 pub fn switch() -> Task {
-    let op = |cost, pre, eff| Op { cost, pre: vec![pre], eff: vec![eff] };
-    let ops = vec![op(COST, Some(0), Some(1)), op(3, Some(1), Some(0)), op(COST, None, None), op(0, Some(1), None)];
-    let maps = vec![vec![vec![0, 1]], vec![vec![0, 0]], vec![vec![1, 0]]];
+    let op = |cost, on, to, beside| Op { cost, pre: vec![on, None], eff: vec![to, beside] };
+    let ops =
+        vec![op(COST, Some(0), Some(1), None), op(3, Some(1), Some(0), None), op(COST, None, None, Some(0)), op(0, Some(1), None, Some(0))];
+    let maps = [[0, 1], [0, 0], [1, 0]].map(|classes| vec![classes.to_vec(), vec![0]]).to_vec();
     let shares = vec![vec![400_000, 1, COST, 0], vec![0, 0, 0, 0], vec![599_999, 2, 0, 0]];
-    Task { dom: vec![2], init: vec![0], goal: vec![Some(1)], ops, maps, shares }
+    Task { dom: vec![2, 1], init: vec![0, 0], goal: vec![Some(1), None], ops, maps, shares }
 }
 
 fn on_off(length: usize) -> Vec<u32> {
@@ -83,7 +85,7 @@ fn map_sizes() -> Vec<Vector> {
 }
 
 fn distances_at_the_edge() -> Vec<Vector> {
-    let one = Task {
+    let mut one = Task {
         dom: vec![1; 8],
         init: vec![0; 8],
         goal: vec![None; 8],
@@ -91,8 +93,9 @@ fn distances_at_the_edge() -> Vec<Vector> {
         maps: vec![vec![vec![0]; 8]; 8],
         shares: vec![vec![0]; 8],
     };
+    (one.ops[0].pre[7], one.ops[0].eff[7]) = (None, Some(0));
     let mut unmet = switch();
-    unmet.goal = vec![Some(0)];
+    unmet.goal = vec![Some(0), None];
     unmet.ops.remove(1);
     for row in &mut unmet.shares {
         row.remove(1);
@@ -120,8 +123,8 @@ fn highest_values() -> Vector {
 
 fn lists_at_the_edge() -> Vec<Vector> {
     let with = |title: &str, list: &[u32]| Vector::new(title).task(&switch()).lend(FIRST, list);
-    let idle = |length: usize| vec![2; length];
-    let late = |length: usize| [idle(length - 1), vec![0]].concat();
+    let still = |length: usize| vec![2; length];
+    let late = |length: usize| [still(length - 1), vec![0]].concat();
     let (less, over) = (STEPS - 1, STEPS + 1);
     vec![
         with(&format!("{STEPS} steps end without goal"), &on_off(STEPS)).lines("J; C; P"),
@@ -153,7 +156,7 @@ fn full_runs() -> Vec<Vector> {
     let task = switch();
     let (less, over, beyond) = (STEPS - 1, STEPS + 1, STEPS + 2);
     let full = run_of(&task, &on_off(STEPS));
-    let idle = run_of(&task, &vec![2; STEPS]);
+    let still = run_of(&task, &vec![2; STEPS]);
     let almost = run_of(&task, &on_off(less));
     let offers = format!("{STEPS} honest offers, and what follows them");
     let honest =
@@ -168,7 +171,7 @@ fn full_runs() -> Vec<Vector> {
         ),
         held("the last step of a full run repeated", &full, format!("O {STEPS} 1; O {STEPS} 0; O 1 0; O 1 1")),
         held(&format!("the {STEPS}th step"), &almost, format!("O {STEPS} 0; O {STEPS} 1; O {STEPS} 1; O {over} 0")),
-        held(&format!("{STEPS} steps at the highest cost"), &idle, format!("O {STEPS} 2; O {over} 2; O {over} 0")),
+        held(&format!("{STEPS} steps at the highest cost"), &still, format!("O {STEPS} 2; O {over} 2; O {over} 0")),
         held("a full run with a length beyond the log", &full, format!("s 9 0 {over}; O {over} 0; s 9 0 4294967295; O 1 0")),
         held("a full run with one step less", &full, format!("s 9 0 {less}; O {STEPS} 1")),
         held(
@@ -196,26 +199,27 @@ fn short_tables() -> Vec<Vector> {
             "e 0 0; e 1 0; e 2 0; l 0 1700; l 1 80; l 2 600; l 3 4200; R; s 0 1630 9; s 1 70 9; s 2 520 9; e 3 9",
         ),
         short("a short table comes before a fault in the tables", "s 0 0 9; l 3 4095"),
-        short("a state longer than needed", "l 4 16; s 4 1 200 200 200 200 200 200 200 200 200 200"),
+        short("a state longer than needed", "l 4 16; s 4 2 200 200 200 200 200 200 200 200 200 200"),
         short("a short distance table comes before a map that isn't there", "l 3 4095; D 9; l 3 4096; D 9"),
     ]
 }
 
 fn counts_at_the_edge() -> Vec<Vector> {
     let with = |title: &str, line: &str| Vector::new(title).task(&switch()).lend(FIRST, &[0]).lines(line).lines(EVERY_ENTRY);
+    let effects: String = (4..OPS).map(|o| format!("s 0 {} 1; ", ROW * (ROW_EFF + o) + 1)).collect();
     vec![
         with("tables without variables", "n 0 4 3"),
         with("tables with nine variables", "n 9 4 3"),
         with("tables with the most variables that a number can say", "n 4294967295 4 3"),
-        with("tables with 65 operators", "n 1 65 3"),
-        with("tables with 64 operators, most of them empty", "n 1 64 3"),
-        with("tables with no operators", "n 1 0 3"),
-        with("tables without maps", "n 1 4 0"),
-        with("tables with nine maps", "n 1 4 9"),
-        with("tables with eight maps, most of them empty", "n 1 4 8"),
-        with("tables with a variable of no values", "n 2 4 3"),
+        with("tables with 65 operators", "n 2 65 3"),
+        with("tables with 64 operators, most of them of one effect alone", &format!("{effects}n 2 64 3")),
+        with("tables with no operators", "n 2 0 3"),
+        with("tables without maps", "n 2 4 0"),
+        with("tables with nine maps", "n 2 4 9"),
+        with("tables with eight maps, most of them empty", "n 2 4 8"),
+        with("tables with a variable of no values", "n 3 4 3"),
         with("the first faulty count decides", "n 9 65 9"),
-        with("a fault in the goal before too many operators", "s 0 16 3; n 1 65 9"),
+        with("a fault in the goal before too many operators", "s 0 16 3; n 2 65 9"),
     ]
 }
 

@@ -204,13 +204,13 @@ pub fn edits() -> Vec<Vector> {
 /// Small texts, whole or cut where something is due: what each is told first. Those that begin with `~` begin with the
 /// first five lines of case A, those with `~~` with its operators too.
 const SMALL: &[&str] = &[
-    "~ops=1\nop=0;-;-\nmaps=1\nmap=0,0/0,0,0/0,0,0\nshare=0\n",
+    "~ops=1\nop=0;-;0:0\nmaps=1\nmap=0,0/0,0,0/0,0,0\nshare=0\n",
     "~ops=0\nmaps=1\nmap=0,0/0,0,0/0,0,0\nshare=-\n",
     "~ops=0\nmaps=1\nmap=0,0/0,0,0/0,0,0\nshare=0\n",
     "~~maps=1\nmap=0,1/0,2,2",
     "~~maps=1\nmap=0,1/0,1,3",
-    "~ops=1\nop=1000000;-;-\nmaps=",
-    "~ops=1\nop=1000001;-;-\nmaps=",
+    "~ops=1\nop=1000000;-;0:0\nmaps=",
+    "~ops=1\nop=1000001;-;0:0\nmaps=",
     "~ops=65",
     "~ops=64",
     "edition=1\nvars=123456789012345678901234567890123456789012345678901234567890",

@@ -1,7 +1,9 @@
 //! Vectors by chance, kind after kind.
 
-use crate::builder::{tables_of, text_of_task, Vector};
+use crate::builder::{text_of_task, Vector};
+use crate::damages::*;
 use crate::edges::run_of;
+use crate::idle;
 use crate::limits::*;
 use crate::moments;
 use crate::random::*;
@@ -11,7 +13,6 @@ use crate::run::Run;
 use crate::script::*;
 use crate::steps;
 use crate::sums;
-use crate::tables::counts_of;
 use crate::task::{State, Task};
 
 type Kind = fn(&mut Rng) -> Vector;
@@ -43,9 +44,9 @@ const KINDS: [Kind; 24] = [
     shares_at_cost,
 ];
 
-/// The kinds over a row of records, over sums of which some terms are none, over runs watched at every moment, and over lists
-/// and runs of any length.
-const LATER_KINDS: [Kind; 5] = [rows::row_of_a_task, rows::damaged_row, sums::mixed, moments::watched, steps::any_length];
+/// The kinds over a row of records, over sums of which some terms are none, over runs watched at every moment, over lists and
+/// runs of any length, and over an idle operator.
+const LATER_KINDS: [Kind; 6] = [rows::row_of_a_task, rows::damaged_row, sums::mixed, moments::watched, steps::any_length, idle::somewhere];
 
 /// The i-th vector by chance: the kinds take turns.
 pub fn by_chance(rng: &mut Rng, i: usize) -> Vector {
@@ -72,68 +73,17 @@ fn valid(rng: &mut Rng, name: &str, size: Size, all_maps: bool) -> Vector {
     vector.state(&task.init).lines("B")
 }
 
-/// One byte deleted, doubled, changed or put in, or the text cut.
-fn damaged(rng: &mut Rng, text: &[u8]) -> Vec<u8> {
-    let i = rng.below(text.len());
-    let likely = b"0123456789,:;/-=\n";
-    match rng.below(6) {
-        0 => [&text[..i], &text[i + 1..]].concat(),
-        1 => [&text[..=i], &text[i..]].concat(),
-        2 => [&text[..i], &[rng.below(256) as u8], &text[i + 1..]].concat(),
-        3 => [&text[..i], &[rng.pick(likely)], &text[i + 1..]].concat(),
-        4 => [&text[..i], &[rng.pick(likely)], &text[i..]].concat(),
-        _ => text[..i].to_vec(),
-    }
-}
-
-/// A digit put in place of a digit, so that a number and not the form is wrong; often a fact's variable.
-fn renumbered(rng: &mut Rng, text: &[u8]) -> Vec<u8> {
-    let digits: Vec<usize> = (0..text.len()).filter(|i| text[*i].is_ascii_digit()).collect();
-    let vars: Vec<usize> = digits.iter().copied().filter(|i| text.get(i + 1) == Some(&b':')).collect();
-    let digits = if vars.is_empty() || rng.chance(1, 2) { digits } else { vars };
-    let mut text = text.to_vec();
-    text[rng.pick(&digits)] = rng.pick(b"0123456789");
-    text
-}
-
 fn damaged_texts(rng: &mut Rng, name: &str, size: Size, copies: usize) -> Vector {
-    let text = text_of_task(&task(rng, size));
+    let task = task(rng, size);
+    let text = text_of_task(&task);
     (0..copies).fold(Vector::new(&format!("damaged texts of a {} task", name)), |vector, _| {
-        let text = if rng.chance(1, 3) { renumbered(rng, &text) } else { damaged(rng, &text) };
+        let text = match rng.below(6) {
+            0 => idle_text(rng, &task),
+            1 | 2 => renumbered(rng, &text),
+            _ => damaged(rng, &text),
+        };
         vector.dirty().text(&text).lines("R; q")
     })
-}
-
-/// A place of the tables, one that is read more often than not, with its value and another one.
-pub fn some_place(rng: &mut Rng, task: &Task) -> (u32, usize, u32, u32) {
-    let tables = tables_of(task);
-    let (vars, ops, maps) = (task.dom.len(), task.ops.len().max(1), task.maps.len());
-    let (v, o, m) = (rng.below(vars), rng.below(ops), rng.below(maps));
-    let row = match rng.below(9) {
-        0 => ROW_DOM,
-        1 => ROW_INIT,
-        2 => ROW_GOAL,
-        3 => ROW_PRE + o,
-        4 => ROW_EFF + o,
-        5 | 6 => {
-            let place = ROW * (ROW_MAP + MAPS * m + v) + rng.below(task.dom[v]);
-            return (FACTS, place, u32::from(tables.facts[place]), rng.below(task.dom[v] + 2) as u32);
-        }
-        7 => {
-            let costly = rng.chance(1, 2);
-            let (k, place, old) = if costly { (COSTS, o, tables.costs[o]) } else { (SHARES, OPS * m + o, tables.shares[OPS * m + o]) };
-            return (k, place, old, some_cost(rng, old));
-        }
-        _ => rng.below(FACTS_ROOM / ROW),
-    };
-    let place = ROW * row + if rng.chance(7, 8) { v } else { rng.below(ROW) };
-    let near = rng.chance(3, 4);
-    (FACTS, place, u32::from(tables.facts[place]), if near { rng.below(10) as u32 } else { rng.below(256) as u32 })
-}
-
-pub fn some_cost(rng: &mut Rng, old: u32) -> u32 {
-    let any = rng.word();
-    rng.pick(&[0, 1, old + 1, old.saturating_sub(1), 1_000_000, 1_000_001, u32::MAX, any])
 }
 
 /// One entry of those that take tables.
@@ -158,9 +108,9 @@ fn damaged_tables(rng: &mut Rng, name: &str, size: Size, times: usize) -> Vector
     let (list, _) = walk(rng, &task, &init, 6);
     let vector = Vector::new(&format!("damaged tables of a {} task", name)).task(&task).state(&init).lend(FIRST, &list);
     (0..times).fold(vector, |vector, _| {
-        let (k, place, old, new) = some_place(rng, &task);
+        let (k, place, old, new) = some_places(rng, &task);
         let entry = some_entry(rng, &task);
-        vector.set(k, place, &[new]).lines("K").lines(&entry).set(k, place, &[old])
+        vector.set(k, place, &new).lines("K").lines(&entry).set(k, place, &old)
     })
 }
 
@@ -168,17 +118,11 @@ fn damaged_tables(rng: &mut Rng, name: &str, size: Size, times: usize) -> Vector
 fn unread_places(rng: &mut Rng) -> Vector {
     let size = rng.pick(&[TINY, SMALL, SMALL, MEDIUM]);
     let task = telling_task(rng, size);
-    let ops = task.ops.len();
-    let counts = counts_of(&task);
-    let vector = Vector::new("places beyond the task's counts aren't read")
-        .dirty()
-        .lines(&format!("n {} {} {}", counts.vars, counts.ops, counts.maps));
-    let rows = (0..ROW_PRE + ops).chain(ROW_EFF..ROW_EFF + ops);
     let (list, _) = walk(rng, &task, &task.init.clone(), 5);
     let first = list.first().copied().unwrap_or(0);
-    vector
-        .by_hand(&task, rows)
-        .set(COSTS, 0, &tables_of(&task).costs[..ops])
+    Vector::new("places beyond the task's counts aren't read")
+        .dirty()
+        .tables(&task)
         .state(&task.init)
         .lend(FIRST, &list)
         .lines("K; D 0; B; J; C; P; G")

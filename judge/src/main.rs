@@ -2,9 +2,12 @@
 
 mod builder;
 mod cases;
+mod damages;
 mod desk;
 mod edges;
 mod edits;
+mod idle;
+mod idle_texts;
 mod kinds;
 mod limits;
 mod moments;
@@ -22,6 +25,8 @@ mod tables;
 mod task;
 #[cfg(test)]
 mod tests;
+#[cfg(test)]
+mod tests_idle;
 #[cfg(test)]
 mod tests_moments;
 mod text;
@@ -43,7 +48,7 @@ fn input() -> Vec<u8> {
 }
 
 /// The cases by name, then vectors by chance, as many as are asked for; then the small texts, the rows of records, the sums, the watched
-/// runs, and the lists and runs of many steps last.
+/// runs, the lists and runs of many steps, and the idle operators last.
 fn vectors(seed: u64, count: usize) -> Vec<u8> {
     let mut vectors = cases::bench();
     vectors.extend(edges::edges());
@@ -58,6 +63,7 @@ fn vectors(seed: u64, count: usize) -> Vec<u8> {
     vectors.extend(sums::sums(seed));
     vectors.extend(moments::moments(seed));
     vectors.extend(steps::steps(seed));
+    vectors.extend(idle::idle(seed));
     builder::script_of(&vectors)
 }
 

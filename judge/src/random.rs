@@ -41,28 +41,52 @@ fn cost(rng: &mut Rng) -> u64 {
 /// An operator of any facts, or one that moves a variable from value to value.
 fn op(rng: &mut Rng, dom: &[usize]) -> Op {
     let places = 2 * dom.len().max(2);
+    let v = rng.below(dom.len());
+    let (from, to) = (rng.below(dom[v]), rng.below(dom[v]));
     if rng.chance(1, 2) {
-        let v = rng.below(dom.len());
-        let (from, to) = (rng.below(dom[v]), rng.below(dom[v]));
         return moving(rng, dom, v, from, to);
     }
     let (pre, eff) = (rng.between(0, 3), rng.between(0, 4));
-    Op { cost: cost(rng), pre: facts(rng, dom, pre, places), eff: facts(rng, dom, eff, places) }
+    let mut op = Op { cost: cost(rng), pre: facts(rng, dom, pre, places), eff: facts(rng, dom, eff, places) };
+    if op.is_idle() {
+        alter(&mut op, dom, v, to);
+    }
+    op
 }
 
 fn moving(rng: &mut Rng, dom: &[usize], v: usize, from: usize, to: usize) -> Op {
     let mut op = Op { cost: cost(rng), pre: facts(rng, dom, 1, 3 * dom.len()), eff: vec![None; dom.len()] };
     op.pre[v] = Some(from);
-    op.eff[v] = Some(to);
+    alter(&mut op, dom, v, to);
     op
+}
+
+/// An effect that isn't among the preconditions: where just this value is asked for it becomes the next one. A variable of one
+/// value has no other, so there nothing is asked for.
+fn alter(op: &mut Op, dom: &[usize], v: usize, to: usize) {
+    let asked = op.pre[v] == Some(to);
+    if asked && dom[v] == 1 {
+        op.pre[v] = None;
+    }
+    op.eff[v] = Some(if asked { (to + 1) % dom[v] } else { to });
 }
 
 /// An operator that moves a variable to a value beside its own, so that goals are far.
 fn short_move(rng: &mut Rng, dom: &[usize]) -> Op {
     let v = rng.below(dom.len());
     let from = rng.below(dom[v]);
-    let to = if rng.chance(3, 4) { from + 1 } else { from.saturating_sub(1) };
-    moving(rng, dom, v, from, to.min(dom[v] - 1))
+    let up = from + 1 < dom[v] && (from == 0 || rng.chance(3, 4));
+    moving(rng, dom, v, from, if up { from + 1 } else { from.saturating_sub(1) })
+}
+
+/// The operator; now and then one of its preconditions is an effect too, beside the one that alters.
+fn repeating_some(rng: &mut Rng, mut op: Op) -> Op {
+    let asked: Vec<usize> = (0..op.pre.len()).filter(|v| op.pre[*v].is_some() && op.eff[*v].is_none()).collect();
+    if !asked.is_empty() && rng.chance(1, 3) {
+        let v = rng.pick(&asked);
+        op.eff[v] = op.pre[v];
+    }
+    op
 }
 
 /// A variable's classes: kept apart, all in one, or thrown together with none missing.
@@ -117,13 +141,17 @@ fn parts(rng: &mut Rng, cost: u64, maps: usize) -> Vec<u64> {
     parts
 }
 
-/// A valid task; its goal is met after some steps, or empty, or anything.
+/// A valid task, with no idle operator; its goal is met after some steps, or empty, or anything.
 pub fn task(rng: &mut Rng, size: Size) -> Task {
     let vars = rng.between(size.vars.0, size.vars.1);
     let dom: Vec<usize> = (0..vars).map(|_| rng.between(size.values.0, size.values.1)).collect();
     let far = rng.chance(1, 2);
     let some_op = if far { short_move } else { op };
-    let ops: Vec<Op> = (0..rng.between(size.ops.0, size.ops.1)).map(|_| some_op(rng, &dom)).collect();
+    let next_op = |rng: &mut Rng| {
+        let op = some_op(rng, &dom);
+        repeating_some(rng, op)
+    };
+    let ops: Vec<Op> = (0..rng.between(size.ops.0, size.ops.1)).map(|_| next_op(rng)).collect();
     let maps: Vec<_> = (0..rng.between(size.maps.0, size.maps.1)).map(|_| map(rng, &dom)).collect();
     let shares = split(rng, &ops, maps.len());
     let init = if far { vec![0; vars] } else { state(rng, &dom) };

@@ -2,7 +2,8 @@
 
 use crate::builder::{row_of, Vector};
 use crate::cases::{row_of_ops, A};
-use crate::kinds::{some_cost, some_list, some_place};
+use crate::damages::{repeating, some_cost, some_places};
+use crate::kinds::some_list;
 use crate::limits::*;
 use crate::random::*;
 use crate::rng::Rng;
@@ -18,7 +19,7 @@ const BY_CHANCE: usize = 24;
 const EMPTY: Record = Record { cost: 0, pre: [0; VARS], eff: [0; VARS] };
 
 /// A task with its operators in the row alone: where they would stand in the tables is rubbish, and the count says none.
-fn row_alone(title: &str, task: &Task) -> Vector {
+pub fn row_alone(title: &str, task: &Task) -> Vector {
     let (vars, maps) = (task.dom.len(), task.maps.len());
     let dirty = Vector::new(title).lines("e 0 201; e 1 4000000000").lines(&format!("n {} 0 {}", vars, maps));
     dirty.by_hand(task, 0..ROW_PRE).row(&row_of(task))
@@ -81,11 +82,16 @@ fn lengths() -> Vec<Vector> {
         a_whole("a row shorter than the count", "n 3 5 3; W; n 3 64 3; W; n 3 65 3; W; n 3 4294967295 3; W"),
         a_whole("a row shorter than the list needs", "l 13 3; W; l 13 2; W; l 13 1; W"),
         a_whole("records beyond the row's end aren't read", "s 13 68 1000001 9 9 9; W; l 13 5; W"),
-        a_whole("shares beyond the row's end aren't read", "s 2 4 1000001; s 2 63 4294967295; W; l 13 5; W"),
+        a_whole("shares beyond the row's end aren't read", "s 13 77 1; s 2 4 1000001; s 2 63 4294967295; W; l 13 5; W"),
     ]
 }
 
 fn tables_beside_the_row() -> Vec<Vector> {
+    // each of the records behind case A's has one effect
+    let filled = |title: &str, lines: &str| {
+        let effects: String = (4..OPS).map(|o| format!("s 13 {} 1; ", RECORD * o + 1 + VARS)).collect();
+        a_whole(title, &(effects + lines))
+    };
     vec![
         a_whole("costs that aren't lent aren't asked for", "l 1 0; W; l 1 63; W; l 1 80; W"),
         a_whole("facts lent too short", "l 0 1623; W; l 0 1048; W; l 0 24; W; l 0 0; W; l 0 1624; W; l 0 1700; W"),
@@ -93,8 +99,8 @@ fn tables_beside_the_row() -> Vec<Vector> {
         a_whole("facts too short come before too many records", "l 13 65; W; l 0 1623; W"),
         a_whole("no variables, nine variables, no maps, nine maps", "n 0 0 3; W; n 9 0 3; W; n 3 0 0; W; n 3 0 9; W; n 9 0 9; W"),
         a_whole("a fault of the goal comes before too many records", "l 13 65; W; s 0 16 4; W; s 0 8 2; W; s 0 0 9; W"),
-        a_whole("the lines of the maps follow the row's length", "s 0 1122 0; W; s 0 1121 2; W; l 13 2; W; l 13 0; W; l 13 64; W"),
-        a_whole("the lines of the shares follow the row's length", "s 2 65 1000001; W; l 13 2; W; l 13 1; W; l 13 64; W"),
+        filled("the lines of the maps follow the row's length", "s 0 1122 0; W; s 0 1121 2; W; l 13 2; W; l 13 0; W; l 13 64; W"),
+        filled("the lines of the shares follow the row's length", "s 2 65 1000001; W; l 13 2; W; l 13 1; W; l 13 64; W"),
     ]
 }
 
@@ -103,7 +109,7 @@ fn records_at_the_edge() -> Vec<Vector> {
         a_changed("a record with a precondition out of range", 1, |record| record.pre[1] = 4),
         a_changed("a record with an effect out of range", 3, |record| record.eff[0] = 3),
         a_changed("a record with a fact of the highest byte", 0, |record| record.eff[2] = 255),
-        a_changed("a record with a fact at the top of its range", 0, |record| record.pre[0] = 2),
+        a_changed("a record with a fact at the top of its range", 0, |record| record.pre[2] = 3),
         a_changed("places of a record beyond the variables aren't read", 2, |record| {
             record.pre[3..].fill(201);
             record.eff[3..].fill(202);
@@ -164,9 +170,11 @@ fn some_record(rng: &mut Rng, task: &Task, row: &[Record]) -> (usize, Record) {
     let v = if rng.chance(7, 8) { rng.below(task.dom.len()) } else { rng.below(VARS) };
     let value = if rng.chance(3, 4) { rng.below(10) as u8 } else { rng.below(256) as u8 };
     let mut record = row[o];
-    match rng.below(5) {
+    let vars = task.dom.len();
+    match rng.below(6) {
         0 | 1 => record.pre[v] = value,
         2 | 3 => record.eff[v] = value,
+        4 => record.eff[..vars].copy_from_slice(&repeating(rng, &record.pre[..vars])),
         _ => record.cost = some_cost(rng, record.cost),
     }
     (o, record)
@@ -187,8 +195,8 @@ pub fn damaged_row(rng: &mut Rng) -> Vector {
                 vector.lines(&format!("l 13 {}; W; l 13 {}", length, row.len()))
             }
             1 => {
-                let (k, place, old, new) = some_place(rng, &task);
-                vector.set(k, place, &[new]).lines("W; J").set(k, place, &[old])
+                let (k, place, old, new) = some_places(rng, &task);
+                vector.set(k, place, &new).lines("W; J").set(k, place, &old)
             }
             _ => {
                 let (o, record) = some_record(rng, &task, &row);

@@ -23,6 +23,13 @@ pub struct Op {
     pub eff: Facts,
 }
 
+impl Op {
+    /// It has no effects, or each of them stands among its preconditions.
+    pub fn is_idle(&self) -> bool {
+        self.eff.iter().zip(&self.pre).all(|(effect, asked)| effect.is_none() || effect == asked)
+    }
+}
+
 #[derive(Clone, Debug, PartialEq, Eq)]
 pub struct Task {
     /// the number of values of each variable

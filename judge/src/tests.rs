@@ -132,7 +132,7 @@ fn case_f_gives_2_in_both_views() {
 
 #[test]
 fn single_lines_of_the_bench() {
-    assert!(read_text(a_with("op=1;1:0,2:0;1:1,2:1", "op=0;-;-").replace("share=0,1,1,0", "share=0,0,1,0").as_bytes()).is_ok());
+    assert_eq!(refused(&a_with("op=1;1:0,2:0;1:1,2:1", "op=0;-;-").replace("share=0,1,1,0", "share=0,0,1,0")), fault(18, 8));
     assert_eq!(refused(&a_with("ops=4", "ops=65")), fault(3, 6));
     assert_eq!(refused(&a_with("/0,1,2/", "/0,2,2/")), fault(5, 13));
     assert!(read_text(a_with("op=1;0:0", "op=1000000;0:0").as_bytes()).is_ok());
@@ -203,7 +203,7 @@ fn kept_apart(task: &Task) -> Task {
 fn the_sum_is_at_most_the_least_cost_and_none_only_where_there_is_no_sequence() {
     let mut rng = Rng::new(4);
     let (mut reached, mut settled) = (0, 0);
-    for task in some_tasks(4, 400, &[random::TINY, random::SMALL]) {
+    for task in some_tasks(4, 500, &[random::TINY, random::SMALL]) {
         let whole = kept_apart(&task);
         for _ in 0..5 {
             let at = random::state(&mut rng, &task.dom);
@@ -229,8 +229,12 @@ fn scanned(counts: Counts, tables: &Tables) -> Result<(), Fault> {
     within((0..vars).all(|v| place(ROW_INIT, v) < place(ROW_DOM, v)), 4)?;
     within(facts_within(ROW_GOAL), 5)?;
     within(ops <= OPS, 6)?;
+    let idle = |o: usize| (0..vars).all(|v| [0, place(ROW_PRE + o, v)].contains(&place(ROW_EFF + o, v)));
     for o in 0..ops {
         within(tables.costs[o] <= 1_000_000 && facts_within(ROW_PRE + o) && facts_within(ROW_EFF + o), 7 + o)?;
+        if idle(o) {
+            return refuse(18, 7 + o);
+        }
     }
     within((1..=MAPS).contains(&maps), 7 + ops)?;
     for m in 0..maps {
@@ -264,26 +268,37 @@ fn scanned_map(class: &dyn Fn(usize, usize) -> usize, values: &dyn Fn(usize) -> 
     Ok(())
 }
 
+/// The operator's effects become what its preconditions are.
+fn repeat_preconditions(tables: &mut Tables, o: usize) {
+    let asked = ROW * (ROW_PRE + o);
+    tables.facts.copy_within(asked..asked + ROW, ROW * (ROW_EFF + o));
+}
+
 #[test]
 fn tables_are_judged_as_their_text_is() {
     let mut rng = Rng::new(4);
+    let mut idle = 0;
     for task in some_tasks(4, 2_000, &[random::TINY, random::SMALL, random::MEDIUM, random::LARGE]) {
         let mut tables = tables_of(&task);
         let mut counts = counts_of(&task);
         for _ in 0..rng.between(0, 3) {
             let (place, o) = (rng.below(FACTS_ROOM), rng.below(SHARES_ROOM));
-            match rng.below(8) {
+            match rng.below(9) {
                 0 => counts.vars = rng.below(10) as u32,
                 1 => counts.ops = rng.below(66) as u32,
                 2 => counts.maps = rng.below(10) as u32,
                 3 => tables.costs[o % OPS] = rng.below(1_000_002) as u32,
                 4 => tables.shares[o] = rng.below(1_000_002) as u32,
+                5 => repeat_preconditions(&mut tables, o % task.ops.len().max(1)),
                 _ => tables.facts[place] = rng.below(9) as u8,
             }
         }
         let lent = Lent { counts, facts: &tables.facts, costs: &tables.costs, shares: &tables.shares };
-        assert_eq!(read_tables(lent).map(|_| ()), scanned(counts, &tables));
+        let scanned = scanned(counts, &tables);
+        assert_eq!(read_tables(lent).map(|_| ()), scanned);
+        idle += usize::from(matches!(scanned, Err(Fault { number: 18, .. })));
     }
+    assert!(idle > 200, "{}", idle);
 }
 
 fn bytes(state: &[usize]) -> Vec<u8> {
@@ -326,14 +341,19 @@ fn a_row_has_the_length_that_it_has() {
 #[test]
 fn a_row_is_judged_as_its_tables_are() {
     let mut rng = Rng::new(7);
+    let mut idle = 0;
     for task in some_tasks(7, 1_000, &[random::TINY, random::SMALL, random::MEDIUM, random::LARGE]) {
         let (mut row, mut tables) = (row_of(&task), tables_of(&task));
         let changes = if row.is_empty() { 0 } else { rng.between(0, 2) };
         for _ in 0..changes {
             let (o, v, value) = (rng.below(row.len()), rng.below(VARS), rng.below(9) as u8);
-            match rng.below(3) {
+            match rng.below(4) {
                 0 => (row[o].pre[v], tables.facts[ROW * (ROW_PRE + o) + v]) = (value, value),
                 1 => (row[o].eff[v], tables.facts[ROW * (ROW_EFF + o) + v]) = (value, value),
+                2 => {
+                    row[o].eff = row[o].pre;
+                    repeat_preconditions(&mut tables, o);
+                }
                 _ => {
                     let cost = rng.below(1_000_002) as u32;
                     (row[o].cost, tables.costs[o]) = (cost, cost);
@@ -342,8 +362,11 @@ fn a_row_is_judged_as_its_tables_are() {
         }
         let (list, _) = random::walk(&mut rng, &task, &task.init, 9);
         let lent = Lent { counts: counts_of(&task), facts: &tables.facts, costs: &tables.costs, shares: &tables.shares };
-        assert_eq!(by_row(&task, &row, &list), desk::judge(lent, &bytes(&task.init), &list));
+        let judged = desk::judge(lent, &bytes(&task.init), &list);
+        assert_eq!(by_row(&task, &row, &list), judged);
+        idle += usize::from(matches!(judged, desk::Answer::Refused(Fault { number: 18, .. })));
     }
+    assert!(idle > 100, "{}", idle);
 }
 
 #[test]

@@ -124,6 +124,7 @@ impl Reader<'_> {
         Ok(())
     }
 
+    /// Number 18 comes once the effects are over, before the line end is read.
     fn op(&mut self, dom: &[usize]) -> Result<Op, Fault> {
         self.expect(b"op=")?;
         let cost = self.number(0, COST)?;
@@ -131,8 +132,12 @@ impl Reader<'_> {
         let pre = self.facts(dom)?;
         self.expect(b";")?;
         let eff = self.facts(dom)?;
+        let op = Op { cost, pre, eff };
+        if op.is_idle() {
+            return refuse(18, self.line);
+        }
         self.expect(b"\n")?;
-        Ok(Op { cost, pre, eff })
+        Ok(op)
     }
 
     /// A variable's classes; number 5 before the next byte is read.

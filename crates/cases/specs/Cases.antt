@@ -1,4 +1,4 @@
--- The starred cases of document 01, from text to answers, with the sum of document 02.
+-- The starred cases of document 01, from text to answers, with the sum of document 02; and its idle operators, where they are told.
 use mathlib.Core.List.{List, [], _∷_}
 use Prim.Native.String.{String, _++_}
 use Rattle.graph.specs.Cost.{none, fin}
@@ -74,4 +74,11 @@ table =
           ∷ boundAt (0 ∷ 0 ∷ []) none
           ∷ [];
     }
+    -- idle operators after case A's head: one without effects; one whose effects stand among its preconditions; the same where the text ends, and where a wrong
+    -- byte stands; but an effect that is no value is told first
+    ∷ record { text = headA ++ "op=1;0:0;0:1\nop=0;-;-\n"; read = no! 18 8; claims = [] }
+    ∷ record { text = headA ++ "op=1;1:0,2:0;1:0,2:0\n"; read = no! 18 7; claims = [] }
+    ∷ record { text = headA ++ "op=1;0:0;0:0"; read = no! 18 7; claims = [] }
+    ∷ record { text = headA ++ "op=1;0:0;0:0;"; read = no! 18 7; claims = [] }
+    ∷ record { text = headA ++ "op=1;0:0;0:2"; read = no! 3 7; claims = [] }
     ∷ []

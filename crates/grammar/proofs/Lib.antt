@@ -7,6 +7,8 @@ pub mod SpellFacts
 pub mod SpellClasses
 pub mod SpellTables
 pub mod SpellOwn
+pub mod SpellOperator
+pub mod Idle
 pub mod SpellMaps
 pub mod SpellLines
 pub mod SpellTask

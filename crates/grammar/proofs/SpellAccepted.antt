@@ -82,14 +82,14 @@ module _ (τ : Task) (s : Small τ) where
         let a = s .vars in
         let b = s .ops in
         spares-maps τ s (prePlace o v) (omega arith) opsIn
-        ∙ ops-pre τ s o v k h (headRows τ w) (long-head τ w ∙ l) (spares-head τ s (prePlace o v) (omega arith) w ∙ z (prePlace o v))
+        ∙ ops-pre τ s o v k h (headRows τ w) (long-head τ w ∙ l) (spares-head τ (s .vars) (prePlace o v) (omega arith) w ∙ z (prePlace o v))
 
     eff-in : (o v : ℕ) → o < τ .sas .ops → v < τ .sas .vars → effAt factsIn o v ≡ τ .sas .eff o v
     eff-in o v k h =
         let a = s .vars in
         let b = s .ops in
         spares-maps τ s (effPlace o v) (omega arith) opsIn
-        ∙ ops-eff τ s o v k h (headRows τ w) (long-head τ w ∙ l) (spares-head τ s (effPlace o v) (omega arith) w ∙ z (effPlace o v))
+        ∙ ops-eff τ s o v k h (headRows τ w) (long-head τ w ∙ l) (spares-head τ (s .vars) (effPlace o v) (omega arith) w ∙ z (effPlace o v))
 
     class-in : (m v x : ℕ) → m < τ .maps → v < τ .sas .vars → x < τ .sas .dom v → classAt factsIn m v x ≡ τ .class m v x
     class-in m v x k h g =

@@ -5,13 +5,13 @@ use native.Mathlib.Omega.{arith}
 use native.Mathlib.Numerals.{add-one}
 use mathlib.Core.Path.{_≡_, refl, sym, ap, _∙_}
 use mathlib.Core.List.{List, [], _∷_, _++_, append-assoc}
-use mathlib.Core.Bool.{Bool}
+use mathlib.Core.Bool.{Bool, not}
 use lib.Dec.{leb}
 use lib.ListN.{set}
 use Rattle.refusals.specs.declared.Refusal.{Refusal}
-use Rattle.refusals.specs.declared.Refusal.the-variants.{ClassMissing, TooManyStates}
+use Rattle.refusals.specs.declared.Refusal.the-variants.{ClassMissing, TooManyStates, IdleOperator}
 use Rattle.meaning.specs.Sas.{Facts}
-use Rattle.meaning.specs.Views.{abstractStates}
+use Rattle.meaning.specs.Views.{abstractStates, idle}
 use Rattle.meaning.specs.Split.{view}
 use Rattle.tables.specs.Task.{sasOf, taskOf}
 use Rattle.tables.specs.Classes.{noneMissing}
@@ -42,9 +42,9 @@ row-back-put least limit place count N l T e t k W h =
     }
 
 -- what is demanded of the tables so far
-asked : (test : Tables → Bool) (r : ℕ → Refusal) (t : List ℕ) (l : ℕ) (T : Tables) (k : Rest) (W : Tables) → ask (λ U. demand (test U) r) t l T k ≡ accepted W → k t l T ≡ accepted W
+asked-back : (test : Tables → Bool) (r : ℕ → Refusal) (t : List ℕ) (l : ℕ) (T : Tables) (k : Rest) (W : Tables) → ask (λ U. demand (test U) r) t l T k ≡ accepted W → k t l T ≡ accepted W
 unfolding ask
-asked test r t l T k W h = demand-back (test T) r t l T k W h .1
+asked-back test r t l T k W h = demand-back (test T) r t l T k W h .1
 
 -- ---- a map
 
@@ -57,7 +57,7 @@ module _ (m N : ℕ) (dom : ℕ → ℕ) where
   unfolding classList _▸_
   classes-back v e l T w t k W h =
       let a = row-back-put 0 (λ x U. domAt (U .facts) v) (classPlace m v) (λ U. domAt (U .facts) v) (dom v) l T (w .doms v e) t _ W h in
-      record { what = a .what; rest = a .rest; says = a .says; then = asked (λ U. noneMissing (classAt (U .facts) m v) (domAt (U .facts) v)) ClassMissing (a .rest) l _ k W (a .then) }
+      record { what = a .what; rest = a .rest; says = a .says; then = asked-back (λ U. noneMissing (classAt (U .facts) m v) (domAt (U .facts) v)) ClassMissing (a .rest) l _ k W (a .then) }
 
   lists-back : (n v : ℕ) → v + n ≡ N → (l : ℕ) (T : Tables) → Knows N dom T
       → BackOf (ℕ → ℕ → ℕ) (classLists m n v) l l T (λ c. joined slash (λ u. numbers (c u) (dom u)) n v) (λ c. on (changed (λ u. classesPut u (c u)) n v) T)
@@ -88,7 +88,7 @@ module _ (m N : ℕ) (dom : ℕ → ℕ) where
         what = a .what;
         rest = a .rest;
         says = a .says;
-        then = asked few TooManyStates (a .rest) l _ k W (a .then);
+        then = asked-back few TooManyStates (a .rest) l _ k W (a .then);
       }
 
 -- ---- an operator
@@ -111,7 +111,7 @@ pieces a b c t u₁ u₂ u₃ u₄ u p q r v w =
     p ∙ ap (λ (x : List ℕ). a ++ x) (q ∙ ap (λ (x : List ℕ). semicolon ∷ x) (r ∙ ap (λ (x : List ℕ). b ++ x) (v ∙ ap (λ (x : List ℕ). semicolon ∷ x) w))) ∙ simp append-assoc
 
 pub operator-back : (N o l : ℕ) (T : Tables) → T .counts .vars ≡ N → BackOf Op (operatorFields o) l l T (opSpelled N) (λ a. opStored N o a T)
-unfolding operatorFields _▸_ keep
+unfolding operatorFields _▸_ nothing keep
 operator-back N o l T e t k W h =
     let a = number-back 0 (mostCost + 1) (λ c. keep (putCost o c)) t l T _ W h in
     let T₁ = putCost o (a .what) T in
@@ -119,14 +119,14 @@ operator-back N o l T e t k W h =
     let c = facts-back (prePlace o) N l T₁ e (b .rest) _ W (b .then) in
     let T₂ = on (factRow (prePlace o) (c .what) N) T₁ in
     let d = lit-back (semicolon ∷ []) l T₂ (c .rest) _ W (c .then) in
-    let f = facts-back (effPlace o) N l T₂ e (d .rest) k W (d .then) in
+    let f = facts-back (effPlace o) N l T₂ e (d .rest) _ W (d .then) in
     record {
       what = record { cost = a .what; pre = c .what; eff = f .what };
       rest = f .rest;
       says =
           pieces (digits (a .what)) (someFacts (c .what) N 0) (someFacts (f .what) N 0) t (a .rest) (b .rest) (c .rest) (d .rest) (f .rest) (a .says) (b .says) (c .says) (d .says)
           (f .says);
-      then = f .then;
+      then = asked-back (λ U. not (idle (sasOf U) o)) IdleOperator (f .rest) l _ k W (f .then);
     }
 
 -- ---- shares

@@ -1,12 +1,12 @@
--- A list of facts on what is spelled: the rule of each variable that is named, and the facts in their places; by induction on the variables still to come.
--- And on any text: a variable that doesn't rise, or is the one before, is told before its colon. Assumes nothing.
+-- A list of facts on what is spelled, before anything with which it doesn't go on: the rule of each variable that is named, and the facts in their places;
+-- by induction on the variables still to come. And on any text: a variable that doesn't rise, or is the one before, is told before its colon. Assumes nothing.
 use Prim.Native.Nat.{ℕ, zero, suc, _+_, _≤_, _<_}
 use native.Mathlib.Omega.{arith}
 use native.Mathlib.Numerals.{add-one}
 use mathlib.Core.Path.{_≡_, refl, sym, ap, _∙_}
 use mathlib.Core.List.{List, [], _∷_, _++_, append-assoc}
 use mathlib.Core.Bool.{Bool, true, false}
-use lib.Dec.{eqb, leb, ltb}
+use lib.Dec.{eqb, leb, ltb, leb·suc-suc}
 use lib.ListN.{set}
 use lib.Seq.{getD-set-other}
 use borrow.Author.Tests.{ne-eqb, le-leb, lt-leb, lt-ltb}
@@ -20,13 +20,17 @@ use Rattle.scan.specs.Scan.{unless, _then_, each}
 use Rattle.grammar.specs.Fields.{isDigit, comma, dash, colon}
 use Rattle.grammar.specs.Grammar.{Verdict, refused, Rest, Part, _▸_, nothing, ask, keep, demand, lit, choice, fits, numeral, putFact, factsFrom, factList}
 use Rattle.grammar.specs.Spelling.{digits, fact, anotherFact, moreFacts, firstFact, someFacts, changed, rowPut, factPut, factRow}
-use Rattle.grammar.proofs.Runs.{Stop, other}
+use Rattle.grammar.proofs.Runs.{Stop, nil, other}
 use Rattle.grammar.proofs.Decimal.{Head, head, digits-head}
 use Rattle.grammar.proofs.SpellParts.{judged, next, Told, demand-told, lit-told, number-told, comma-no-digit}
 
+-- a range from 0 on: below a number, and up to one
 pub within-below : (v n : ℕ) → fits v 0 n ≡ ltb v n
 unfolding fits
 within-below v n = simp (le-leb 0 v (omega arith))
+
+pub within-most : (v most : ℕ) → fits v 0 (suc most) ≡ leb v most
+within-most v most = within-below v (suc most) ∙ leb·suc-suc v most
 
 colon-no-digit : isDigit colon ≡ false
 unfolding isDigit
@@ -106,16 +110,26 @@ module _ {n : ℕ} {dom : ℕ → ℕ} where
   unfolding factRow
   knows-facts place F high k T w = knows-changed (λ v. factPut (F v) (place v)) (λ j U. knows-said U (F j) (place j) (high j)) k 0 T w
 
--- what may follow a list of facts
-pub record Ends (b : ℕ) : Type 0 where
-  pub no-digit : isDigit b ≡ false
-  pub no-comma : eqb b comma ≡ false
+-- where a list of facts is over: the text ends, or goes on with a byte that is neither a digit nor a comma
+pub data Over : List ℕ → Type 0 where
+  at-end : Over []
+  at-byte : {b : ℕ} {t : List ℕ} → isDigit b ≡ false → eqb b comma ≡ false → Over (b ∷ t)
+
+pub over-stop : {u : List ℕ} → Over u → Stop u
+over-stop at-end = nil
+over-stop (at-byte d c) = other d
+
+-- no fact more is read there
+over-told : {u : List ℕ} → Over u → (more : Part) (l : ℕ) (T : Tables) (k : Rest) → choice comma more nothing u l T k ≡ k u l T
+unfolding choice nothing
+over-told at-end more l T k = refl
+over-told (at-byte d c) more l T k = rw c refl
 
 -- the rule of a list of facts
 abbrev pub factRule : (ℕ → ℕ) → Facts → ℕ → ℕ → Found
 factRule dom F l v = unless (leb (F v) (dom v)) (OutOfRange l)
 
-module _ (place : ℕ → ℕ) (high : (v : ℕ) → mostVars ≤ place v) (F : Facts) (dom : ℕ → ℕ) (N : ℕ) (b : ℕ) (t : List ℕ) (e : Ends b) (l : ℕ) where
+module _ (place : ℕ → ℕ) (high : (v : ℕ) → mostVars ≤ place v) (F : Facts) (dom : ℕ → ℕ) (N : ℕ) (rest : List ℕ) (e : Over rest) (l : ℕ) where
   -- one fact
   fact-told : (m least v k : ℕ) (u : List ℕ) (T : Tables) (go : Rest) → Stop u → least ≤ v → v < N → Knows N dom T
       → factsFrom place (suc m) least (fact v k ++ u) l T go
@@ -139,21 +153,21 @@ module _ (place : ℕ → ℕ) (high : (v : ℕ) → mostVars ≤ place v) (F : 
   -- the facts after the first
   abbrev MoreTold : ℕ → ℕ → Type 0
   MoreTold n v = (m least : ℕ) → n ≤ m → least ≤ v → (T : Tables) → Knows N dom T
-      → Told (choice comma (factsFrom place m least) nothing) (moreFacts F n v) (b ∷ t) l T (each (factRule dom F l) n v) (on (changed (λ v. factPut (F v) (place v)) n v) T)
+      → Told (choice comma (factsFrom place m least) nothing) (moreFacts F n v) rest l T (each (factRule dom F l) n v) (on (changed (λ v. factPut (F v) (place v)) n v) T)
 
   stop-another : (x v : ℕ) (u : List ℕ) → Stop u → Stop (anotherFact x v ++ u)
   unfolding anotherFact isDigit
   stop-another zero v u s = s
   stop-another (suc k) v u s = other refl
 
-  stop-more : (n v : ℕ) → Stop (moreFacts F n v ++ b ∷ t)
+  stop-more : (n v : ℕ) → Stop (moreFacts F n v ++ rest)
   unfolding moreFacts
-  stop-more zero v = other (e .no-digit)
-  stop-more (suc n) v = rw (append-assoc (anotherFact (F v) v) (moreFacts F n (suc v)) (b ∷ t)) (stop-another (F v) v _ (stop-more n (suc v)))
+  stop-more zero v = over-stop e
+  stop-more (suc n) v = rw (append-assoc (anotherFact (F v) v) (moreFacts F n (suc v)) rest) (stop-another (F v) v _ (stop-more n (suc v)))
 
   more-next : (n v : ℕ) → MoreTold n (suc v) → v + suc n ≡ N → (x m least : ℕ) → suc n ≤ m → least ≤ v → (T : Tables) → Knows N dom T → (k : Rest)
-      → choice comma (factsFrom place m least) nothing ((anotherFact x v ++ moreFacts F n (suc v)) ++ b ∷ t) l T k
-      ≡ judged (unless (leb x (dom v)) (OutOfRange l) then each (factRule dom F l) n (suc v)) (k (b ∷ t) l (on (changed (λ v. factPut (F v) (place v)) n (suc v)) (on (factPut x (place v)) T)))
+      → choice comma (factsFrom place m least) nothing ((anotherFact x v ++ moreFacts F n (suc v)) ++ rest) l T k
+      ≡ judged (unless (leb x (dom v)) (OutOfRange l) then each (factRule dom F l) n (suc v)) (k rest l (on (changed (λ v. factPut (F v) (place v)) n (suc v)) (on (factPut x (place v)) T)))
   unfolding choice anotherFact factPut
   more-next n v ih r zero m least p q T w k =
       ih m least (omega arith) (omega arith) T w k
@@ -161,13 +175,13 @@ module _ (place : ℕ → ℕ) (high : (v : ℕ) → mostVars ≤ place v) (F : 
   more-next n v ih r (suc x) zero least p q T w k = absurd (let z : ⊥ = omega arith in z)
   more-next n v ih r (suc x) (suc m) least p q T w k =
       next (unless (leb (suc x) (dom v)) (OutOfRange l)) (each (factRule dom F l) n (suc v)) _
-      (ap (λ (xs : List ℕ). factsFrom place (suc m) least xs l T k) (append-assoc (fact v x) (moreFacts F n (suc v)) (b ∷ t))
-      ∙ fact-told m least v x (moreFacts F n (suc v) ++ b ∷ t) T k (stop-more n (suc v)) q (omega arith) w)
+      (ap (λ (xs : List ℕ). factsFrom place (suc m) least xs l T k) (append-assoc (fact v x) (moreFacts F n (suc v)) rest)
+      ∙ fact-told m least v x (moreFacts F n (suc v) ++ rest) T k (stop-more n (suc v)) q (omega arith) w)
       (λ c. ih m (suc v) (omega arith) (omega arith) (on (factPut (suc x) (place v)) T) (knows-said T (suc x) (place v) (high v) w) k)
 
   more-told : (n v : ℕ) → v + n ≡ N → MoreTold n v
-  unfolding choice nothing moreFacts each changed
-  more-told zero v r m least p q T w k = rw (e .no-comma) refl
+  unfolding moreFacts each changed
+  more-told zero v r m least p q T w k = over-told e (factsFrom place m least) l T k
   more-told (suc n) v r m least p q T w k = more-next n v (more-told n (suc v) (omega arith)) r (F v) m least p q T w k
 
   -- a digit is no dash
@@ -181,21 +195,21 @@ module _ (place : ℕ → ℕ) (high : (v : ℕ) → mostVars ≤ place v) (F : 
 
   abbrev SomeTold : ℕ → ℕ → Type 0
   SomeTold n v = (T : Tables) → Knows N dom T
-      → Told (factList place) (someFacts F n v) (b ∷ t) l T (each (factRule dom F l) n v) (on (changed (λ v. factPut (F v) (place v)) n v) T)
+      → Told (factList place) (someFacts F n v) rest l T (each (factRule dom F l) n v) (on (changed (λ v. factPut (F v) (place v)) n v) T)
 
   some-next : (n v : ℕ) → SomeTold n (suc v) → v + suc n ≡ N → (x : ℕ) (T : Tables) → Knows N dom T → (k : Rest)
-      → factList place (firstFact x v (moreFacts F n (suc v)) (someFacts F n (suc v)) ++ b ∷ t) l T k
-      ≡ judged (unless (leb x (dom v)) (OutOfRange l) then each (factRule dom F l) n (suc v)) (k (b ∷ t) l (on (changed (λ v. factPut (F v) (place v)) n (suc v)) (on (factPut x (place v)) T)))
+      → factList place (firstFact x v (moreFacts F n (suc v)) (someFacts F n (suc v)) ++ rest) l T k
+      ≡ judged (unless (leb x (dom v)) (OutOfRange l) then each (factRule dom F l) n (suc v)) (k rest l (on (changed (λ v. factPut (F v) (place v)) n (suc v)) (on (factPut x (place v)) T)))
   unfolding firstFact factPut
   some-next n v ih r zero T w k =
       ih T w k
       ∙ sym (unsaid (OutOfRange l) _ _ (dom v))
   some-next n v ih r (suc x) T w k =
       next (unless (leb (suc x) (dom v)) (OutOfRange l)) (each (factRule dom F l) n (suc v)) _
-      (ap (λ (xs : List ℕ). factList place xs l T k) (append-assoc (fact v x) (moreFacts F n (suc v)) (b ∷ t))
-      ∙ begun v x (moreFacts F n (suc v) ++ b ∷ t) T k
-      ∙ ap (λ (m : ℕ). factsFrom place m 0 (fact v x ++ (moreFacts F n (suc v) ++ b ∷ t)) l T k) (w .vars ∙ size)
-      ∙ fact-told (v + n) 0 v x (moreFacts F n (suc v) ++ b ∷ t) T k (stop-more n (suc v)) (omega arith) (omega arith) w)
+      (ap (λ (xs : List ℕ). factList place xs l T k) (append-assoc (fact v x) (moreFacts F n (suc v)) rest)
+      ∙ begun v x (moreFacts F n (suc v) ++ rest) T k
+      ∙ ap (λ (m : ℕ). factsFrom place m 0 (fact v x ++ (moreFacts F n (suc v) ++ rest)) l T k) (w .vars ∙ size)
+      ∙ fact-told (v + n) 0 v x (moreFacts F n (suc v) ++ rest) T k (stop-more n (suc v)) (omega arith) (omega arith) w)
       (λ c. more-told n (suc v) (omega arith) (v + n) (suc v) (omega arith) (omega arith) (on (factPut (suc x) (place v)) T) (knows-said T (suc x) (place v) (high v) w) k)
     where
       size : N ≡ suc (v + n)
@@ -208,6 +222,6 @@ module _ (place : ℕ → ℕ) (high : (v : ℕ) → mostVars ≤ place v) (F : 
   some-told (suc n) v r T w k = some-next n v (some-told n (suc v) (omega arith)) r (F v) T w k
 
   pub facts-told : (T : Tables) → Knows N dom T
-      → Told (factList place) (someFacts F N 0) (b ∷ t) l T (each (factRule dom F l) N 0) (on (factRow place F N) T)
+      → Told (factList place) (someFacts F N 0) rest l T (each (factRule dom F l) N 0) (on (factRow place F N) T)
   unfolding factRow
   facts-told T w = some-told N 0 (omega arith) T w

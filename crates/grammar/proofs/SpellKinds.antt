@@ -1,4 +1,4 @@
--- The text that spells a task, whatever stands in its tables, gets number 3, 5, 6 or 7 or none: it has the form, and its facts rise. By the scan, which is the
+-- The text that spells a task, whatever stands in its tables, gets number 3, 5, 6, 7 or 18 or none: it has the form, and its facts rise. By the scan, which is the
 -- grammar there. Assumes nothing.
 use Prim.Native.Nat.{ℕ}
 use native.Mathlib.Omega.{arith}

@@ -8,7 +8,6 @@ use mathlib.Core.List.{List, [], _++_}
 use mathlib.Core.Bool.{Bool, false}
 use lib.Dec.{leb, ltb}
 use lib.ListN.{length, set}
-use Rattle.refusals.specs.declared.Refusal.{Refusal}
 use Rattle.refusals.specs.declared.Refusal.the-variants.{OutOfRange, ClassMissing, TooManyStates}
 use Rattle.meaning.specs.Limits.{mostStates}
 use Rattle.meaning.specs.Numbering.{size}
@@ -22,7 +21,7 @@ use Rattle.grammar.specs.Fields.{isDigit, comma, slash}
 use Rattle.grammar.specs.Grammar.{Rest, Part, _▸_, nothing, ask, demand, fits, parted, numberRow, putFact, classList, classLists, mapClasses}
 use Rattle.grammar.specs.Spelling.{digits, gap, joined, numbers, mapText, changed, rowPut, mapRows}
 use Rattle.grammar.proofs.Runs.{Stop, other}
-use Rattle.grammar.proofs.SpellParts.{judged, next, Told, demand-told, parted-told, row-told, joined-none, joined-front}
+use Rattle.grammar.proofs.SpellParts.{judged, next, Told, asked-told, parted-told, row-told, joined-none, joined-front}
 use Rattle.grammar.proofs.SpellFacts.{within-below, on, on-changed, Knows, knows-set, knows-row, knows-changed}
 use Rattle.grammar.proofs.SpellTables.{long-row, writes-row}
 use Rattle.grammar.proofs.SpellOwn.{Small, long-map, map-class}
@@ -37,12 +36,6 @@ stop-slash : (n : ℕ) (xs u : List ℕ) → Stop u → (n ≡ 0 → xs ≡ []) 
 unfolding gap
 stop-slash zero xs u s e = rw (e refl) s
 stop-slash (suc n) xs u s e = other slash-no-digit
-
--- what is demanded of the tables so far, where it says the same of the task
-asked-told : (test : Tables → Bool) (r : ℕ → Refusal) (b : Bool) (t : List ℕ) (l : ℕ) (T : Tables) (k : Rest) → test T ≡ b
-    → ask (λ U. demand (test U) r) t l T k ≡ judged (unless b (r l)) (k t l T)
-unfolding ask
-asked-told test r b t l T k e = demand-told (test T) r t l T k ∙ ap (λ (c : Bool). judged (unless c (r l)) (k t l T)) e
 
 -- A ROW of numbers in their places, as many as the tables so far say
 module _ (least : ℕ) (limit : ℕ → Tables → ℕ) (place f : ℕ → ℕ) (test : ℕ → Bool) (P : Tables → Type 0) (N : ℕ)

@@ -1,5 +1,5 @@
 -- The tables of a small task give back its numbers: at each of the task's own places stands what the task has there.
--- One change writes it, and no other change has that place. Assumes nothing.
+-- One change writes it, and no other change has that place. An operator's rows do so once they are written, whatever the maps are. Assumes nothing.
 use Prim.Native.Nat.{ℕ, _≤_, _<_}
 use native.Mathlib.Omega.{arith}
 use mathlib.Core.Path.{_≡_, refl, _∙_}
@@ -40,16 +40,38 @@ module _ (τ : Task) where
   pub long-shares-of : Long (changed (λ m. rowPut (sharePlace m) (τ .share m) (τ .sas .ops)) (τ .maps) 0)
   long-shares-of = long-changed (λ m. rowPut (sharePlace m) (τ .share m) (τ .sas .ops)) (λ m. long-row (sharePlace m) (τ .share m) (τ .sas .ops)) (τ .maps) 0
 
+-- ---- where only the variables are few: what the head leaves alone, and the rows of one operator that the tables have room for
+
+module _ (τ : Task) where
+  pub spares-op : (o p : ℕ) → ((v : ℕ) → v < τ .sas .vars → p ≡ prePlace o v → ⊥) → ((v : ℕ) → v < τ .sas .vars → p ≡ effPlace o v → ⊥) → Spares (opRows τ o) p
+  unfolding opRows
+  spares-op o p f g w =
+      spares-facts (effPlace o) (τ .sas .eff o) p (τ .sas .vars) g _ ∙ spares-facts (prePlace o) (τ .sas .pre o) p (τ .sas .vars) f w
+
+  module _ (few : τ .sas .vars ≤ mostVars) where
+    pub spares-head : (p : ℕ) → 24 ≤ p → Spares (headRows τ) p
+    unfolding headRows
+    spares-head p h w =
+        spares-facts goalPlace (τ .sas .goal) p (τ .sas .vars) (λ j b e. omega arith) _
+        ∙ spares-row initPlace (τ .sas .init) p (τ .sas .vars) (λ j b e. omega arith) _
+        ∙ spares-row domPlace (τ .sas .dom) p (τ .sas .vars) (λ j b e. omega arith) w
+
+    module _ (o v : ℕ) (k : o < mostOps) (h : v < τ .sas .vars) (x : List ℕ) (m : length x ≡ factsRoom) where
+      pub op-pre : getD x (prePlace o v) 0 ≡ 0 → getD (opRows τ o x) (prePlace o v) 0 ≡ τ .sas .pre o v
+      unfolding opRows
+      op-pre z =
+          spares-facts (effPlace o) (τ .sas .eff o) (prePlace o v) (τ .sas .vars) (λ j i e. omega arith) _
+          ∙ writes-facts (prePlace o) (τ .sas .pre o) (τ .sas .vars) v h (λ i e. omega arith) x (omega arith) z
+
+      pub op-eff : getD x (effPlace o v) 0 ≡ 0 → getD (opRows τ o x) (effPlace o v) 0 ≡ τ .sas .eff o v
+      unfolding opRows
+      op-eff z =
+          writes-facts (effPlace o) (τ .sas .eff o) (τ .sas .vars) v h (λ i e. omega arith) _
+          (omega (arith, long-facts (prePlace o) (τ .sas .pre o) (τ .sas .vars) x))
+          (spares-facts (prePlace o) (τ .sas .pre o) (effPlace o v) (τ .sas .vars) (λ j i e. omega arith) x ∙ z)
+
 module _ (τ : Task) (s : Small τ) where
   -- ---- the head
-
-  pub spares-head : (p : ℕ) → 24 ≤ p → Spares (headRows τ) p
-  unfolding headRows
-  spares-head p h w =
-      let a = s .vars in
-      spares-facts goalPlace (τ .sas .goal) p (τ .sas .vars) (λ j b e. omega arith) _
-      ∙ spares-row initPlace (τ .sas .init) p (τ .sas .vars) (λ j b e. omega arith) _
-      ∙ spares-row domPlace (τ .sas .dom) p (τ .sas .vars) (λ j b e. omega arith) w
 
   module _ (w : List ℕ) (l : length w ≡ factsRoom) (z : (p : ℕ) → getD w p 0 ≡ 0) (v : ℕ) (h : v < τ .sas .vars) where
     pub head-dom : getD (headRows τ w) (domPlace v) 0 ≡ τ .sas .dom v
@@ -79,48 +101,25 @@ module _ (τ : Task) (s : Small τ) where
 
   -- ---- the operators
 
-  spares-op : (o p : ℕ) → ((v : ℕ) → v < τ .sas .vars → p ≡ prePlace o v → ⊥) → ((v : ℕ) → v < τ .sas .vars → p ≡ effPlace o v → ⊥) → Spares (opRows τ o) p
-  unfolding opRows
-  spares-op o p f g w =
-      spares-facts (effPlace o) (τ .sas .eff o) p (τ .sas .vars) g _ ∙ spares-facts (prePlace o) (τ .sas .pre o) p (τ .sas .vars) f w
-
   pub spares-ops-low : (p : ℕ) → p < 24 → Spares (changed (opRows τ) (τ .sas .ops) 0) p
-  spares-ops-low p h = spares-changed (opRows τ) p (τ .sas .ops) 0 (λ o x y. spares-op o p (λ v i e. omega arith) (λ v i e. omega arith))
+  spares-ops-low p h = spares-changed (opRows τ) p (τ .sas .ops) 0 (λ o x y. spares-op τ o p (λ v i e. omega arith) (λ v i e. omega arith))
 
-  module _ (o v : ℕ) (k : o < τ .sas .ops) (h : v < τ .sas .vars) where
-    op-pre : (x : List ℕ) → length x ≡ factsRoom → getD x (prePlace o v) 0 ≡ 0 → getD (opRows τ o x) (prePlace o v) 0 ≡ τ .sas .pre o v
-    unfolding opRows
-    op-pre x m y =
+  module _ (o v : ℕ) (k : o < τ .sas .ops) (h : v < τ .sas .vars) (w : List ℕ) (l : length w ≡ factsRoom) where
+    pub ops-pre : getD w (prePlace o v) 0 ≡ 0 → getD (changed (opRows τ) (τ .sas .ops) 0 w) (prePlace o v) 0 ≡ τ .sas .pre o v
+    ops-pre z =
         let a = s .vars in
         let b = s .ops in
-        spares-facts (effPlace o) (τ .sas .eff o) (prePlace o v) (τ .sas .vars) (λ j i e. omega arith) _
-        ∙ writes-facts (prePlace o) (τ .sas .pre o) (τ .sas .vars) v h (λ i e. omega arith) x (omega arith) y
+        writes-changed (opRows τ) (prePlace o v) (τ .sas .pre o v) o (τ .sas .ops) 0 (long-op τ)
+        (λ i x y d. spares-op τ i (prePlace o v) (λ u q e. d (omega arith)) (λ u q e. omega arith)) factsRoom 0
+        (op-pre τ a o v (omega arith) h) (omega arith) (omega arith) w l z
 
-    op-eff : (x : List ℕ) → length x ≡ factsRoom → getD x (effPlace o v) 0 ≡ 0 → getD (opRows τ o x) (effPlace o v) 0 ≡ τ .sas .eff o v
-    unfolding opRows
-    op-eff x m y =
+    pub ops-eff : getD w (effPlace o v) 0 ≡ 0 → getD (changed (opRows τ) (τ .sas .ops) 0 w) (effPlace o v) 0 ≡ τ .sas .eff o v
+    ops-eff z =
         let a = s .vars in
         let b = s .ops in
-        writes-facts (effPlace o) (τ .sas .eff o) (τ .sas .vars) v h (λ i e. omega arith) _
-        (omega (arith, long-facts (prePlace o) (τ .sas .pre o) (τ .sas .vars) x))
-        (spares-facts (prePlace o) (τ .sas .pre o) (effPlace o v) (τ .sas .vars) (λ j i e. omega arith) x ∙ y)
-
-    module _ (w : List ℕ) (l : length w ≡ factsRoom) where
-      pub ops-pre : getD w (prePlace o v) 0 ≡ 0 → getD (changed (opRows τ) (τ .sas .ops) 0 w) (prePlace o v) 0 ≡ τ .sas .pre o v
-      ops-pre z =
-          let a = s .vars in
-          let b = s .ops in
-          writes-changed (opRows τ) (prePlace o v) (τ .sas .pre o v) o (τ .sas .ops) 0 (long-op τ)
-          (λ i x y d. spares-op i (prePlace o v) (λ u q e. d (omega arith)) (λ u q e. omega arith)) factsRoom 0
-          op-pre (omega arith) (omega arith) w l z
-
-      pub ops-eff : getD w (effPlace o v) 0 ≡ 0 → getD (changed (opRows τ) (τ .sas .ops) 0 w) (effPlace o v) 0 ≡ τ .sas .eff o v
-      ops-eff z =
-          let a = s .vars in
-          let b = s .ops in
-          writes-changed (opRows τ) (effPlace o v) (τ .sas .eff o v) o (τ .sas .ops) 0 (long-op τ)
-          (λ i x y d. spares-op i (effPlace o v) (λ u q e. omega arith) (λ u q e. d (omega arith))) factsRoom 0
-          op-eff (omega arith) (omega arith) w l z
+        writes-changed (opRows τ) (effPlace o v) (τ .sas .eff o v) o (τ .sas .ops) 0 (long-op τ)
+        (λ i x y d. spares-op τ i (effPlace o v) (λ u q e. omega arith) (λ u q e. d (omega arith))) factsRoom 0
+        (op-eff τ a o v (omega arith) h) (omega arith) (omega arith) w l z
 
   -- ---- the maps
 

@@ -15,7 +15,7 @@ use Rattle.scan.specs.declared.Found.the-variants.{Clean, Fault}
 use Rattle.tables.specs.Layout.{Tables}
 use Rattle.scan.specs.Scan.{unless, _then_, each}
 use Rattle.grammar.specs.Fields.{isDigit, bytesOf, lineEnd, comma}
-use Rattle.grammar.specs.Grammar.{Verdict, refused, Rest, Part, _▸_, keep, demand, lit, fits, numeral, parted, numberRow, endOfLine, textLine, textLines}
+use Rattle.grammar.specs.Grammar.{Verdict, refused, Rest, Part, _▸_, ask, keep, demand, lit, fits, numeral, parted, numberRow, endOfLine, textLine, textLines}
 use Rattle.grammar.specs.Spelling.{digits, gap, joined, keyed, stacked, changed}
 use Rattle.grammar.proofs.Runs.{Stop, other}
 use Rattle.grammar.proofs.Decimal.{digits-read}
@@ -50,6 +50,12 @@ pub demand-told : (b : Bool) (r : ℕ → Refusal) (t : List ℕ) (l : ℕ) (T :
 unfolding demand
 demand-told true r t l T k = refl
 demand-told false r t l T k = refl
+
+-- what is demanded of the tables so far, where it says the same of the task
+pub asked-told : (test : Tables → Bool) (r : ℕ → Refusal) (b : Bool) (t : List ℕ) (l : ℕ) (T : Tables) (k : Rest) → test T ≡ b
+    → ask (λ U. demand (test U) r) t l T k ≡ judged (unless b (r l)) (k t l T)
+unfolding ask
+asked-told test r b t l T k e = demand-told (test T) r t l T k ∙ ap (λ (c : Bool). judged (unless c (r l)) (k t l T)) e
 
 pub lit-told : (bs t : List ℕ) (l : ℕ) (T : Tables) (k : Rest) → lit bs (bs ++ t) l T k ≡ k t l T
 unfolding lit _▸_ demand
@@ -123,11 +129,11 @@ line-told key p xs rest l T U f h k =
     ∙ h _
     ∙ ap (judged f) (end-told rest l U k)
 
--- SEVERAL LINES, each with its rule; the i-th stands in line `line i`
-module _ (p : ℕ → Part) (text : ℕ → List ℕ) (rule : ℕ → Found) (change : ℕ → Tables → Tables) (P : Tables → Type 0) (N : ℕ) (line : ℕ → ℕ)
-    (up : (i : ℕ) → line i + 1 ≡ line (suc i)) (keeps : (i : ℕ) (T : Tables) → i < N → P T → P (change i T))
-    (told : (i : ℕ) (T : Tables) (rest : List ℕ) → i < N → P T → ToldLine (p i) (text i) rest (line i) T (rule i) (change i T)) where
-  lines-from : (n i : ℕ) → i + n ≡ N → (rest : List ℕ) (T : Tables) → P T → (k : Rest)
+-- SEVERAL LINES, each with its rule; the i-th stands in line `line i`, and P i is what it needs of the tables before it
+module _ (p : ℕ → Part) (text : ℕ → List ℕ) (rule : ℕ → Found) (change : ℕ → Tables → Tables) (P : ℕ → Tables → Type 0) (N : ℕ) (line : ℕ → ℕ)
+    (up : (i : ℕ) → line i + 1 ≡ line (suc i)) (keeps : (i : ℕ) (T : Tables) → i < N → P i T → P (suc i) (change i T))
+    (told : (i : ℕ) (T : Tables) (rest : List ℕ) → i < N → P i T → ToldLine (p i) (text i) rest (line i) T (rule i) (change i T)) where
+  lines-from : (n i : ℕ) → i + n ≡ N → (rest : List ℕ) (T : Tables) → P i T → (k : Rest)
       → textLines p n i (stacked text n i ++ rest) (line i) T k ≡ judged (each rule n i) (k rest (line N) (changed change n i T))
   unfolding textLines stacked each changed _▸_
   lines-from zero i e rest T pT k = let z : i ≡ N = omega arith in ap (λ (j : ℕ). k rest (line j) T) z
@@ -139,6 +145,6 @@ module _ (p : ℕ → Part) (text : ℕ → List ℕ) (rule : ℕ → Found) (ch
       ap₂ (λ (x l : ℕ). textLines p n x (stacked text n (suc i) ++ rest) l (change i T) k) (add-one i) (up i)
       ∙ lines-from n (suc i) (omega arith) rest (change i T) (keeps i T (omega arith) pT) k)
 
-  pub lines-told : (rest : List ℕ) (T : Tables) → P T → (k : Rest)
+  pub lines-told : (rest : List ℕ) (T : Tables) → P 0 T → (k : Rest)
       → textLines p N 0 (stacked text N 0 ++ rest) (line 0) T k ≡ judged (each rule N 0) (k rest (line N) (changed change N 0 T))
   lines-told = lines-from N 0 (omega arith)

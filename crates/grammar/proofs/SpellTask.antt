@@ -6,7 +6,7 @@ use mathlib.Core.Path.{_≡_, refl, sym, ap, ap₂, _∙_}
 use mathlib.Core.List.{List, [], _++_, append-assoc, append-nil}
 use mathlib.Core.Bool.{true}
 use lib.Dec.{leb, ltb}
-use lib.ListN.{length, set, replicate, length-replicate}
+use lib.ListN.{length, getD, set, replicate, length-replicate}
 use borrow.Author.Tests.{leb-true}
 use Rattle.meaning.specs.Limits.{mostVars, mostValues, mostOps, mostMaps}
 use Rattle.refusals.specs.declared.Refusal.{Refusal}
@@ -20,15 +20,16 @@ use Rattle.scan.specs.Scan.{unless, each, factsFault, operatorFault, mapFault, 
 use Rattle.scan.proofs.Rules.{within-says}
 use Rattle.scan.proofs.Walks.{rule-held, walk-clean}
 use Rattle.grammar.specs.Fields.{edition}
-use Rattle.grammar.specs.Grammar.{accepted, Rest, _▸_, ask, textLine, operatorFields, opLines, mapClasses, mapLines, amounts, shareLines, taskLines, settled, theEnd, noTask, verdict, putCost}
+use Rattle.grammar.specs.Grammar.{accepted, Rest, _▸_, ask, textLine, operatorFields, opLines, mapClasses, mapLines, amounts, shareLines, taskLines, settled, theEnd, noTask, verdict}
 use Rattle.grammar.specs.Spelling.{digits, numbers, someFacts, keyed, stacked, opText, mapText, shareText, spelled, textOf, changed, rowPut, opRows, mapRows, headRows, tablesOf, canon}
 use Rattle.grammar.proofs.SpellParts.{judged, next, lines-told}
-use Rattle.grammar.proofs.SpellFacts.{on, on-changed, Knows, knows-row, knows-facts, knows-changed}
-use Rattle.grammar.proofs.SpellTables.{long-changed, writes-row}
-use Rattle.grammar.proofs.SpellOwn.{Small, long-head, long-op, costs-own, shares-own}
+use Rattle.grammar.proofs.SpellFacts.{on, on-changed, knows-row, knows-facts, knows-changed}
+use Rattle.grammar.proofs.SpellTables.{long-changed, writes-row, zeros}
+use Rattle.grammar.proofs.SpellOwn.{Small, long-head, long-op, spares-head, costs-own, shares-own}
+use Rattle.grammar.proofs.SpellOperator.{Known, opChange, known-rows, Fresh, fresh-later}
 use Rattle.grammar.proofs.SpellClasses.{sum-same, each-same}
 use Rattle.grammar.proofs.SpellMaps.{Ready, ready-map}
-use Rattle.grammar.proofs.SpellLines.{edition-told, vars-told, dom-told, init-told, goal-told, ops-told, opChange, op-told, maps-told, map-told, onShares, shares-changed, share-told}
+use Rattle.grammar.proofs.SpellLines.{edition-told, vars-told, dom-told, init-told, goal-told, ops-told, op-told, maps-told, map-told, onShares, shares-changed, share-told}
 use Rattle.tables.specs.Lines.{lineOfOp, lineOfMaps, lineOfMap, lineOfShares, lineOfVars, lineOfDom, lineOfInit, lineOfGoal, lineOfOps}
 
 -- ---- after all else: shares against costs
@@ -44,9 +45,6 @@ abbrev made : ℕ → ℕ → ℕ → List ℕ → List ℕ → List ℕ → Tab
 made v o m f c h = record { counts = record { vars = v; ops = o; maps = m }; facts = f; costs = c; shares = h }
 
 module _ (τ : Task) where
-  abbrev Known : Tables → Type 0
-  Known = Knows (τ .sas .vars) (τ .sas .dom)
-
   abbrev pub opsText : List ℕ
   opsText = stacked (λ o. keyed "op=" (opText τ o)) (τ .sas .ops) 0
 
@@ -75,22 +73,18 @@ module _ (τ : Task) where
   ops-changed zero i T = refl
   ops-changed (suc n) i T = ops-changed n (suc i) (opChange τ i T)
 
-  knows-rows : (o : ℕ) (T : Tables) → Known T → Known (on (opRows τ o) T)
-  unfolding opRows
-  knows-rows o T w =
-      knows-facts (effPlace o) (τ .sas .eff o) (λ v. omega arith) (τ .sas .vars) _ (knows-facts (prePlace o) (τ .sas .pre o) (λ v. omega arith) (τ .sas .vars) T w)
+  -- operator i and those after it are yet to be read
+  abbrev FreshFrom : ℕ → Tables → Type 0
+  FreshFrom i T = (o : ℕ) → i ≤ o → o < τ .sas .ops → Fresh τ o T
 
-  knows-op : (o : ℕ) (T : Tables) → Known T → Known (opChange τ o T)
-  knows-op o T w = knows-rows o (putCost o (τ .sas .cost o) T) (record { vars = w .vars; few = w .few; doms = w .doms })
-
-  all-ops : (m : ℕ) (f c h rest : List ℕ) (k : Rest) → Known (made (τ .sas .vars) (τ .sas .ops) m f c h)
+  all-ops : (m : ℕ) (f c h rest : List ℕ) (k : Rest) → FreshFrom 0 (made (τ .sas .vars) (τ .sas .ops) m f c h)
       → opLines (opsText ++ rest) (lineOfOp 0) (made (τ .sas .vars) (τ .sas .ops) m f c h) k
       ≡ judged (each (operatorFault τ) (τ .sas .ops) 0) (k rest (lineOfMaps (τ .sas .ops)) (made (τ .sas .vars) (τ .sas .ops) m (opsDone f) (costsDone c) h))
   unfolding opLines ask rowPut
   all-ops m f c h rest k w =
       let T = made (τ .sas .vars) (τ .sas .ops) m f c h in
-      lines-told (λ o. textLine "op=" (operatorFields o)) (λ o. keyed "op=" (opText τ o)) (operatorFault τ) (opChange τ) Known (τ .sas .ops) lineOfOp
-      (λ o. omega arith) (λ o U l. knows-op o U) (λ o U u l v. op-told τ o U v u) rest T w k
+      lines-told (λ o. textLine "op=" (operatorFields o)) (λ o. keyed "op=" (opText τ o)) (operatorFault τ) (opChange τ) FreshFrom (τ .sas .ops) lineOfOp
+      (λ o. omega arith) (λ i U l v o a b. fresh-later τ i o U a (v o (omega arith) b)) (λ o U u l v. op-told τ o U (v o (omega arith) l) u) rest T w k
       ∙ ap (λ (U : Tables). judged (each (operatorFault τ) (τ .sas .ops) 0) (k rest (lineOfMaps (τ .sas .ops)) U)) (ops-changed (τ .sas .ops) 0 T)
 
   all-maps : (f c h rest : List ℕ) (k : Rest) → Small τ → Ready τ (made (τ .sas .vars) (τ .sas .ops) (τ .maps) f c h)
@@ -99,7 +93,7 @@ module _ (τ : Task) where
   unfolding mapLines ask
   all-maps f c h rest k s w =
       let T = made (τ .sas .vars) (τ .sas .ops) (τ .maps) f c h in
-      lines-told (λ m. textLine "map=" (mapClasses m)) (λ m. keyed "map=" (mapText τ m)) (mapFault τ) (λ m. on (mapRows τ m)) (Ready τ) (τ .maps) (lineOfMap (τ .sas .ops))
+      lines-told (λ m. textLine "map=" (mapClasses m)) (λ m. keyed "map=" (mapText τ m)) (mapFault τ) (λ m. on (mapRows τ m)) (λ m. Ready τ) (τ .maps) (lineOfMap (τ .sas .ops))
       (λ m. omega arith) (λ m U l. ready-map τ m U) (λ m U u l v. map-told τ s m l U v u) rest T w k
       ∙ ap (λ (U : Tables). judged (each (mapFault τ) (τ .maps) 0) (k rest (lineOfMap (τ .sas .ops) (τ .maps)) U)) (on-changed (mapRows τ) (τ .maps) 0 T)
 
@@ -112,8 +106,8 @@ module _ (τ : Task) where
   unfolding shareLines ask
   all-shares f c h rest k =
       let T = made (τ .sas .vars) (τ .sas .ops) (τ .maps) f c h in
-      lines-told (λ m. textLine "share=" (amounts m (τ .sas .ops))) (λ m. keyed "share=" (shareText (τ .share m) (τ .sas .ops))) (sharesFault τ) (λ m. onShares (shareRow m)) (λ U. Unit {0}) (τ .maps)
-      (lineOfShares (τ .sas .ops) (τ .maps)) (λ m. omega arith) (λ m U l u. tt) (λ m U u l v. share-told τ m U u) rest T tt k
+      lines-told (λ m. textLine "share=" (amounts m (τ .sas .ops))) (λ m. keyed "share=" (shareText (τ .share m) (τ .sas .ops))) (sharesFault τ) (λ m. onShares (shareRow m))
+      (λ m U. Unit {0}) (τ .maps) (lineOfShares (τ .sas .ops) (τ .maps)) (λ m. omega arith) (λ m U l u. tt) (λ m U u l v. share-told τ m U u) rest T tt k
       ∙ ap (λ (U : Tables). judged (each (sharesFault τ) (τ .maps) 0) (k rest (lineOfShares (τ .sas .ops) (τ .maps) (τ .maps)) U)) (shares-changed shareRow (τ .maps) 0 T)
 
   abbrev pub linesText : List ℕ
@@ -134,8 +128,8 @@ module _ (τ : Task) where
 pub at-most : (least most x : ℕ) (r : Refusal) → unless (scanWithin least most x) r ≡ Clean → x ≤ most
 at-most least most x r q = within-says least most x (rule-held (scanWithin least most x) r q) .1
 
--- from tables of this length, whatever stands in them
-module _ (τ : Task) (f c h : List ℕ) (lf : length f ≡ factsRoom) (lc : length c ≡ costsRoom) (lh : length h ≡ sharesRoom) where
+-- from tables of this length, in which no fact stands yet
+module _ (τ : Task) (f c h : List ℕ) (lf : length f ≡ factsRoom) (none : (p : ℕ) → getD f p 0 ≡ 0) (lc : length c ≡ costsRoom) (lh : length h ≡ sharesRoom) where
   abbrev headDone : List ℕ
   headDone = headRows τ f
 
@@ -154,7 +148,7 @@ module _ (τ : Task) (f c h : List ℕ) (lf : length f ≡ factsRoom) (lc : leng
       settled-judged (each (splitFault (taskOf allDone)) (τ .sas .ops) 0) allDone
       ∙ ap (λ (f : Found). judged f (accepted allDone)) (each-same (splitFault (taskOf allDone)) (splitFault τ) (τ .sas .ops) 0 (λ o a b. split-same o s (omega arith)))
 
-  -- what is known once dom=, init=, goal= and the operators are read
+  -- what is known once dom=, init= and goal= are read, before the operators and after them
   known-doms : (m o : ℕ) → τ .sas .vars ≤ mostVars → Known τ (made (τ .sas .vars) o m (rowPut domPlace (τ .sas .dom) (τ .sas .vars) f) c h)
   known-doms m o a =
       record {
@@ -171,10 +165,20 @@ module _ (τ : Task) (f c h : List ℕ) (lf : length f ≡ factsRoom) (lc : leng
   unfolding headRows
   known-head m o a = knows-facts goalPlace (τ .sas .goal) (λ v. omega arith) (τ .sas .vars) _ (known-init m o a)
 
+  fresh-ops : (m : ℕ) → τ .sas .vars ≤ mostVars → τ .sas .ops ≤ mostOps → FreshFrom τ 0 (made (τ .sas .vars) (τ .sas .ops) m headDone c h)
+  fresh-ops m a b o i l =
+      record {
+        known = known-head m (τ .sas .ops) a;
+        within = omega arith;
+        room = long-head τ f ∙ lf;
+        pre = λ v j. spares-head τ a (prePlace o v) (omega arith) f ∙ none (prePlace o v);
+        eff = λ v j. spares-head τ a (effPlace o v) (omega arith) f ∙ none (effPlace o v);
+      }
+
   ready-maps : τ .sas .vars ≤ mostVars → Ready τ (made (τ .sas .vars) (τ .sas .ops) (τ .maps) (opsDone τ headDone) (costsDone τ c) h)
   ready-maps a =
       let w = known-head (τ .maps) (τ .sas .ops) a in (
-        knows-changed (opRows τ) (knows-rows τ) (τ .sas .ops) 0 (made (τ .sas .vars) (τ .sas .ops) (τ .maps) headDone (costsDone τ c) h) (record { vars = refl; few = a; doms = w .doms }),
+        knows-changed (opRows τ) (known-rows τ) (τ .sas .ops) 0 (made (τ .sas .vars) (τ .sas .ops) (τ .maps) headDone (costsDone τ c) h) (record { vars = refl; few = a; doms = w .doms }),
         long-changed (opRows τ) (long-op τ) (τ .sas .ops) 0 headDone ∙ long-head τ f ∙ lf,
       )
 
@@ -196,12 +200,13 @@ module _ (τ : Task) (f c h : List ℕ) (lf : length f ≡ factsRoom) (lc : leng
       (λ d. next (each inits N 0) _ _ (init-told τ _ lineOfInit _ (known-doms m o a) _)
       (λ i. next (factsFault τ (τ .sas .goal) lineOfGoal) _ _ (goal-told τ _ lineOfGoal _ (known-init m o a) _)
       (λ g. next (unless (leb O mostOps) (OutOfRange lineOfOps)) _ _ (ops-told _ lineOfOps (made N o m headDone c h) O _)
-      (λ p. next (each (operatorFault τ) O 0) _ _ (all-ops τ m headDone c h _ _ (known-head m O a))
+      (λ p. let b = leb-true O mostOps (rule-held (leb O mostOps) (OutOfRange lineOfOps) p) in
+      next (each (operatorFault τ) O 0) _ _ (all-ops τ m headDone c h _ _ (fresh-ops m a b))
       (λ r. next (unless (scanWithin 1 mostMaps M) (OutOfRange (lineOfMaps O))) _ _ (maps-told _ (lineOfMaps O) (made N O m (opsDone τ headDone) (costsDone τ c) h) M _)
       (λ x. let s : Small τ = record {
         vars = a;
         doms = λ u b. at-most 1 mostValues (τ .sas .dom u) (OutOfRange lineOfDom) (walk-clean doms N u d b);
-        ops = leb-true O mostOps (rule-held (leb O mostOps) (OutOfRange lineOfOps) p);
+        ops = b;
         maps = at-most 1 mostMaps M (OutOfRange (lineOfMaps O)) x;
       } in
       rw toMaps (next (each (mapFault τ) M 0) _ _ (all-maps τ (opsDone τ headDone) (costsDone τ c) h _ _ s (ready-maps a))
@@ -213,8 +218,8 @@ pub spelled-judged : (τ : Task) → verdict (spelled edition τ) ≡ judged (ta
 unfolding verdict noTask tablesOf
 spelled-judged τ =
     ap verdict (spelled-lines τ)
-    ∙ lines-judged τ (replicate factsRoom 0) (replicate costsRoom 0) (replicate sharesRoom 0) (length-replicate {A = ℕ} factsRoom 0) (length-replicate {A = ℕ} costsRoom 0)
-    (length-replicate {A = ℕ} sharesRoom 0) 0 0 0
+    ∙ lines-judged τ (replicate factsRoom 0) (replicate costsRoom 0) (replicate sharesRoom 0) (length-replicate {A = ℕ} factsRoom 0) (zeros factsRoom)
+    (length-replicate {A = ℕ} costsRoom 0) (length-replicate {A = ℕ} sharesRoom 0) 0 0 0
 
 -- and for tables with any content: they get the line that the same task's text would have
 pub scan-is-grammar : (t : Tables) → verdict (textOf edition t) ≡ judged (taskFault (taskOf t)) (accepted (canon t))

@@ -2,7 +2,7 @@
 use Prim.Native.Nat.{ℕ, zero, suc, _+_, _-_, _*_}
 use Prim.Native.String.{String}
 use mathlib.Core.List.{List, [], _∷_}
-use mathlib.Core.Bool.{Bool, true, false, cond}
+use mathlib.Core.Bool.{Bool, true, false, not, cond}
 use lib.ListN.{getD, set, take, drop, replicate}
 use lib.Dec.{ltb, leb, eqb}
 use Rattle.refusals.specs.declared.Refusal.{Refusal}
@@ -12,6 +12,7 @@ use Rattle.refusals.specs.declared.Refusal.the-variants.{
   NotRising,
   ClassMissing,
   TooManyStates,
+  IdleOperator,
 }
 use Rattle.tables.specs.Layout.{
   Tables,
@@ -31,7 +32,7 @@ use Rattle.tables.specs.Layout.{
 use Rattle.grammar.specs.declared.Reading.the-variants.{Accepted, Refused}
 use Rattle.grammar.specs.Fields.{edition, zeroDigit, isDigit, bytesOf, lineEnd, comma, dash, slash, colon, semicolon, Outcome, leaves, filled, admitted}
 use Rattle.meaning.specs.Limits.{mostVars, mostValues, mostOps, mostCost, mostMaps, mostStates}
-use Rattle.meaning.specs.Views.{abstractStates}
+use Rattle.meaning.specs.Views.{abstractStates, idle}
 use Rattle.meaning.specs.Split.{view}
 use Rattle.tables.specs.Task.{sasOf, taskOf}
 use Rattle.tables.specs.Classes.{noneMissing}
@@ -184,7 +185,7 @@ factList place = choice dash nothing (ask (λ T. factsFrom place (T .counts .var
 unfoldable pub goalLine : Part
 goalLine = textLine "goal=" (factList goalPlace)
 
--- ops=, and one op=cost;preconditions;effects for each
+-- ops=, and one op=cost;preconditions;effects for each, which at its end isn't idle
 unfoldable pub opsLine : Part
 opsLine = textLine "ops=" (numeral 0 (mostOps + 1) (λ n. keep (λ T. withCounts (T .counts .vars) n (T .counts .maps) T)))
 
@@ -195,6 +196,7 @@ operatorFields o =
     ▸ factList (prePlace o)
     ▸ lit (semicolon ∷ [])
     ▸ factList (effPlace o)
+    ▸ ask (λ T. demand (not (idle (sasOf T) o)) IdleOperator)
 
 unfoldable pub opLines : Part
 opLines = ask (λ T. textLines (λ o. textLine "op=" (operatorFields o)) (T .counts .ops) 0)

@@ -57,12 +57,13 @@ module _ (t : Tables) (r : Run) (number o : ℕ) where
       (either (leb number (r .len)) (oldStep r number o) (nextStep (t .counts) (t .facts) r number o) old-other next-other))
 
   -- nor are the tables
-  tables-other : (f : Refusal) → OfTables f → numberOf f ≤ 8
-  tables-other f (inl e) = omega arith
-  tables-other f (inr (inl e)) = omega arith
-  tables-other f (inr (inr (inl e))) = omega arith
-  tables-other f (inr (inr (inr (inl e)))) = omega arith
-  tables-other f (inr (inr (inr (inr e)))) = omega arith
+  tables-other : (f : Refusal) → OfTables f → numberOf f ≡ 17 → ⊥
+  tables-other f (inl e) q = omega arith
+  tables-other f (inr (inl e)) q = omega arith
+  tables-other f (inr (inr (inl e))) q = omega arith
+  tables-other f (inr (inr (inr (inl e)))) q = omega arith
+  tables-other f (inr (inr (inr (inr (inl e))))) q = omega arith
+  tables-other f (inr (inr (inr (inr (inr e))))) q = omega arith
 
   -- so 17 comes from its own test
   seventeen-so : answered t r number o ≡ Refused NotARun → (tablesFault t ≡ Clean) × (isRun t r ≡ false)
@@ -74,7 +75,7 @@ module _ (t : Tables) (r : Run) (number o : ℕ) where
           (λ p. absurd (let q = ap told (answered-judged t r number o c p ∙ e) in let n : ⊥ = omega (arith, judged-other) in n))
           (λ p. (c, p))
       at (Fault f) c =
-          absurd (let q = ap told (answered-fault t r number o f c ∙ e) in let n : ⊥ = omega (arith, tables-other f (tables-refused t f c)) in n)
+          absurd (tables-other f (tables-refused t f c) (ap told (answered-fault t r number o f c ∙ e)))
 
   pub seventeen-exactly : Sized r
       → (offered t r number o .answer ≡ Refused NotARun) ↔ ((tablesFault t ≡ Clean) × (GivenByStartAndLog (taskOf t) r → ⊥))

@@ -64,6 +64,15 @@ pub true-every : (f : ℕ → Bool) (k : ℕ) → ((v : ℕ) → v < k → f v �
 true-every f zero h = refl
 true-every f (suc k) h = rw (true-every f k (λ v l. h v (omega arith)), h k (le-refl (suc k)))
 
+-- a test that fails, fails somewhere
+pub some-false : (f : ℕ → Bool) (k : ℕ) → every f k ≡ false → (v : ℕ) × (v < k) × (f v ≡ false)
+some-false f zero h = absurd (false≢true (sym h))
+some-false f (suc k) h =
+    by-cases (every f k) (λ e. (k, omega arith, rw e at h))
+    (λ e.
+    let w = some-false f k e in
+    (w .0, omega (arith, w .1), w .2))
+
 pub every-same : (f g : ℕ → Bool) (k : ℕ) → ((v : ℕ) → v < k → f v ≡ g v) → every f k ≡ every g k
 every-same f g zero h = refl
 every-same f g (suc k) h = ap₂ _&&_ (every-same f g k (λ v l. h v (omega arith))) (h k (le-refl (suc k)))

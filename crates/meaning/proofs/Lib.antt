@@ -1,6 +1,7 @@
 pub mod Numbers
 pub mod Facts
 pub mod Space
+pub mod Idle
 pub mod Induced
 pub mod Distances
 pub mod Rounds

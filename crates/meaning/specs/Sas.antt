@@ -1,6 +1,7 @@
 -- SAS+ planning tasks, their states and the state space that they induce, as source document 001 has them; and sequences of operators.
 use mathlib.Core.Path.{_≡_}
 use mathlib.Core.List.{List, [], _∷_}
+use mathlib.Core.Logic.{_⊎_}
 use Prim.Native.Nat.{ℕ, zero, suc, _+_, _≤_, _<_}
 
 -- a total assignment: the value of each variable
@@ -59,6 +60,14 @@ put (suc k) x = k
 
 abbrev pub after : Sas → ℕ → State → State
 after S o s = λ v. put (S .eff o v) (s v)
+
+-- an operator is idle if it has no effects, or if each of them stands among its preconditions
+abbrev pub Idle : Sas → ℕ → Type 0
+Idle S o = (v : ℕ) → v < S .vars → (S .eff o v ≡ 0) ⊎ (S .eff o v ≡ S .pre o v)
+
+-- some state is taken into another one by the operator
+abbrev pub Alters : Sas → ℕ → Type 0
+Alters S o = (s : State) × (t : State) × Transition S s o t × ((v : ℕ) × (v < S .vars) × (t v ≡ s v → ⊥))
 
 -- the operators of the sequence exist, and may run one after the other from s
 abbrev pub Runs : Sas → List ℕ → State → Type 0

@@ -2,7 +2,7 @@
 use mathlib.Core.Path.{_≡_}
 use Prim.Native.Nat.{ℕ, zero, suc, _+_, _≤_, _<_, max}
 use Rattle.meaning.specs.Limits.{mostVars, mostValues, mostOps, mostCost, mostMaps, mostStates}
-use Rattle.meaning.specs.Sas.{Sas, Proper}
+use Rattle.meaning.specs.Sas.{Sas, Idle, Proper}
 use Rattle.meaning.specs.Views.{View, abstractStates}
 
 -- the task, its maps (the class of each value of each variable) and its shares (what an operator costs in each map)
@@ -30,13 +30,14 @@ view T m = record { classes = λ v. countOf (T .class m v) (T .sas .dom v); clas
 abbrev pub SplitPasses : Task → Type 0
 SplitPasses T = (o : ℕ) → o < T .sas .ops → sum (λ m. T .share m o) (T .maps) ≤ T .sas .cost o
 
--- the rules and ranges of document 01
+-- the rules and ranges of document 01, and that no operator is idle
 pub record Valid (T : Task) : Type 0 where
   pub vars : (1 ≤ T .sas .vars) × (T .sas .vars ≤ mostVars)
   pub values : (v : ℕ) → v < T .sas .vars → T .sas .dom v ≤ mostValues
   pub proper : Proper (T .sas)
   pub ops : T .sas .ops ≤ mostOps
   pub costs : (o : ℕ) → o < T .sas .ops → T .sas .cost o ≤ mostCost
+  pub none-idle : (o : ℕ) → o < T .sas .ops → Idle (T .sas) o → ⊥
   pub maps : (1 ≤ T .maps) × (T .maps ≤ mostMaps)
   pub classes : (m v x : ℕ) → m < T .maps → v < T .sas .vars → x < T .sas .dom v → T .class m v x < T .sas .dom v
   pub none-missing : (m v c : ℕ) → m < T .maps → v < T .sas .vars → c < view T m .classes v

@@ -1,6 +1,6 @@
 -- Simplified views: the abstraction that 001 has a view induce, straight from its definition; and beside it the task of classes, from which it can be computed.
 use mathlib.Core.Path.{_≡_}
-use mathlib.Core.Bool.{Bool, true, false, _&&_}
+use mathlib.Core.Bool.{Bool, true, false, _&&_, _||_}
 use mathlib.Core.List.{List, [], _∷_}
 use Prim.Native.Nat.{ℕ, zero, suc, _-_, _≤_, _<_}
 use lib.Dec.{eqb}
@@ -87,7 +87,8 @@ classTask S W =
       eff = λ o v. seen (W .class v) (S .eff o v);
     }
 
--- tests that compute: what is said holds of x; at every number below k; a partial assignment complies
+-- tests that compute: what is said holds of x; at every number below k; a partial assignment complies; an effect is none or stands among the preconditions,
+-- and an operator is idle
 abbrev pub holds : ℕ → ℕ → Bool
 holds zero x = true
 holds (suc k) x = eqb x k
@@ -98,6 +99,12 @@ every f (suc k) = every f k && f k
 
 abbrev pub complies : Sas → Facts → State → Bool
 complies S F s = every (λ v. holds (F v) (s v)) (S .vars)
+
+abbrev pub asked : ℕ → ℕ → Bool
+asked pre eff = eqb eff 0 || eqb eff pre
+
+abbrev pub idle : Sas → ℕ → Bool
+idle S o = every (λ v. asked (S .pre o v) (S .eff o v)) (S .vars)
 
 abbrev pub toIf : Bool → ℕ → Next
 toIf true b = to b

@@ -19,6 +19,7 @@ use Rattle.refusals.specs.declared.Refusal.the-variants.{
   RunFull,
   NoGoal,
   NotARun,
+  IdleOperator,
 }
 
 -- the number, given exactly if ..
@@ -40,6 +41,7 @@ numberOf (OtherOperator step) = 14
 numberOf (RunFull step) = 15
 numberOf (NoGoal steps) = 16
 numberOf NotARun = 17
+numberOf (IdleOperator line) = 18
 
 -- the place: a line, a variable, a step, a length, or 0
 abbrev pub placeOf : Refusal → ℕ
@@ -60,3 +62,4 @@ placeOf (OtherOperator step) = step
 placeOf (RunFull step) = step
 placeOf (NoGoal steps) = steps
 placeOf NotARun = 0
+placeOf (IdleOperator line) = line

@@ -21,6 +21,7 @@ pub enum Refusal {
     RunFull(u32),
     NoGoal(u32),
     NotARun,
+    IdleOperator(u32),
 }
 
 // The refusal's number on the paper's list.
@@ -45,6 +46,7 @@ pub fn number(r: Refusal) -> u32
         Refusal::RunFull(_) => 15,
         Refusal::NoGoal(_) => 16,
         Refusal::NotARun => 17,
+        Refusal::IdleOperator(_) => 18,
     }
 }
 
@@ -70,5 +72,6 @@ pub fn place(r: Refusal) -> u32
         Refusal::RunFull(step) => step,
         Refusal::NoGoal(steps) => steps,
         Refusal::NotARun => 0,
+        Refusal::IdleOperator(line) => line,
     }
 }

@@ -1,35 +1,51 @@
 -- The first fault of an operator's line, and of the lines of operators and maps: which part decides. Assumes nothing.
 use Prim.Native.Nat.{ℕ, _≤_, _<_}
-use mathlib.Core.Path.{_≡_, sym, _∙_}
-use mathlib.Core.Bool.{true, false, _&&_}
+use mathlib.Core.Path.{_≡_, refl, sym, ap, _∙_}
+use mathlib.Core.Bool.{Bool, true, false, _&&_, not}
 use lib.Dec.{leb}
 use borrow.Author.Tests.{lt-leb, le-leb}
 use Rattle.refusals.specs.declared.Refusal.{Refusal}
-use Rattle.refusals.specs.declared.Refusal.the-variants.{OutOfRange, TooManyStates}
+use Rattle.refusals.specs.declared.Refusal.the-variants.{OutOfRange, TooManyStates, IdleOperator}
 use Rattle.meaning.specs.Limits.{mostCost, mostMaps, mostStates}
-use Rattle.meaning.specs.Views.{abstractStates}
+use Rattle.meaning.specs.Views.{abstractStates, idle}
 use Rattle.meaning.specs.Split.{Task, view}
 use Rattle.scan.specs.declared.Found.{Found}
 use Rattle.scan.specs.declared.Found.the-variants.{Clean, Fault}
-use Rattle.scan.specs.Scan.{unless, each, within, factsFault, operatorFault, classesFault, mapFault}
+use Rattle.scan.specs.Scan.{unless, _then_, each, within, factsFault, operatorFault, classesFault, mapFault}
 use Rattle.scan.specs.Inside.Parts.{linesFault}
-use Rattle.scan.proofs.Walks.{tests, one-walk, walk-here}
+use Rattle.scan.proofs.Walks.{then-then, tests, one-walk, walk-here}
 use Rattle.tables.specs.Lines.{lineOfOp, lineOfMaps, lineOfMap}
 
 module _ (T : Task) where
-  -- ---- an operator's line: its cost, then its facts
+  -- ---- an operator's line: its cost, then its facts, then whether it is idle
 
   pub cost-decides : (o : ℕ) → mostCost < T .sas .cost o → operatorFault T o ≡ Fault (OutOfRange (lineOfOp o))
   unfolding operatorFault
   cost-decides o h = rw (lt-leb (T .sas .cost o) mostCost h)
 
-  pub facts-decide : (o : ℕ) (r : Found) → T .sas .cost o ≤ mostCost
-      → each (tests (λ v. leb (T .sas .pre o v) (T .sas .dom v) && leb (T .sas .eff o v) (T .sas .dom v)) (λ v. OutOfRange (lineOfOp o))) (T .sas .vars) 0 ≡ r
-      → operatorFault T o ≡ r
+  -- its facts in one walk, and then whether it is idle
+  in-one-walk : (o : ℕ) → T .sas .cost o ≤ mostCost
+      → operatorFault T o
+      ≡ each (tests (λ v. leb (T .sas .pre o v) (T .sas .dom v) && leb (T .sas .eff o v) (T .sas .dom v)) (λ v. OutOfRange (lineOfOp o))) (T .sas .vars) 0
+      then unless (not (idle (T .sas) o)) (IdleOperator (lineOfOp o))
   unfolding operatorFault factsFault
-  facts-decide o r h p =
+  in-one-walk o h =
+      let end = unless (not (idle (T .sas) o)) (IdleOperator (lineOfOp o)) in
       rw (le-leb (T .sas .cost o) mostCost h)
-      (one-walk (λ v. leb (T .sas .pre o v) (T .sas .dom v)) (λ v. leb (T .sas .eff o v) (T .sas .dom v)) (OutOfRange (lineOfOp o)) (T .sas .vars) ∙ p)
+      (sym (then-then (factsFault T (T .sas .pre o) (lineOfOp o)) (factsFault T (T .sas .eff o) (lineOfOp o)) end)
+      ∙ ap (λ (f : Found). f then end)
+      (one-walk (λ v. leb (T .sas .pre o v) (T .sas .dom v)) (λ v. leb (T .sas .eff o v) (T .sas .dom v)) (OutOfRange (lineOfOp o)) (T .sas .vars)))
+
+  module _ (o : ℕ) (h : T .sas .cost o ≤ mostCost) where
+    pub fact-decides : (r : Refusal)
+        → each (tests (λ v. leb (T .sas .pre o v) (T .sas .dom v) && leb (T .sas .eff o v) (T .sas .dom v)) (λ v. OutOfRange (lineOfOp o))) (T .sas .vars) 0 ≡ Fault r
+        → operatorFault T o ≡ Fault r
+    fact-decides r p = in-one-walk o h ∙ rw p refl
+
+    pub idle-decides : {b : Bool}
+        → each (tests (λ v. leb (T .sas .pre o v) (T .sas .dom v) && leb (T .sas .eff o v) (T .sas .dom v)) (λ v. OutOfRange (lineOfOp o))) (T .sas .vars) 0 ≡ Clean
+        → b ≡ idle (T .sas) o → operatorFault T o ≡ unless (not b) (IdleOperator (lineOfOp o))
+    idle-decides p q = in-one-walk o h ∙ rw (p, ← q) refl
 
   -- ---- a map's line: its variables, then how many abstract states
 

@@ -1,16 +1,16 @@
--- Tables get number 3, 5, 6, 7 or 8, and no other: each rule of the scan has one of these numbers, and the first fault is that of a rule. Assumes nothing.
+-- Tables get number 3, 5, 6, 7, 8 or 18, and no other: each rule of the scan has one of these numbers, and the first fault is that of a rule. Assumes nothing.
 use Prim.Native.Nat.{ℕ, zero, suc}
 use mathlib.Core.Path.{_≡_, refl, subst}
-use mathlib.Core.Bool.{Bool, true, false}
+use mathlib.Core.Bool.{Bool, true, false, not}
 use mathlib.Core.Logic.{_⊎_, inl, inr}
 use native.Mathlib.Omega.{arith}
 use lib.Dec.{leb, ltb}
 use Rattle.meaning.specs.Limits.{mostVars, mostValues, mostOps, mostCost, mostMaps, mostStates}
 use Rattle.refusals.specs.declared.Refusal.{Refusal}
-use Rattle.refusals.specs.declared.Refusal.the-variants.{OutOfRange, ClassMissing, SharesAboveCost, TooManyStates, TableTooShort}
+use Rattle.refusals.specs.declared.Refusal.the-variants.{OutOfRange, ClassMissing, SharesAboveCost, TooManyStates, TableTooShort, IdleOperator}
 use Rattle.refusals.specs.Listed.{numberOf}
 use Rattle.meaning.specs.Sas.{Facts}
-use Rattle.meaning.specs.Views.{abstractStates}
+use Rattle.meaning.specs.Views.{abstractStates, idle}
 use Rattle.meaning.specs.Split.{Task, sum, view}
 use Rattle.tables.specs.Layout.{Tables}
 use Rattle.tables.specs.Task.{taskOf}
@@ -20,13 +20,13 @@ use Rattle.scan.specs.declared.Found.{Found}
 use Rattle.scan.specs.declared.Found.the-variants.{Clean, Fault}
 use Rattle.scan.specs.Scan.{unless, _then_, each, within, factsFault, operatorFault, classesFault, mapFault, sharesFault, splitFault, taskFault, roomy, tablesFault}
 
--- a refusal of a task: 3, 5, 6 or 7
+-- a refusal of a task: 3, 5, 6, 7 or 18
 abbrev pub OfTask : Refusal → Type 0
-OfTask r = (numberOf r ≡ 3) ⊎ (numberOf r ≡ 5) ⊎ (numberOf r ≡ 6) ⊎ (numberOf r ≡ 7)
+OfTask r = (numberOf r ≡ 3) ⊎ (numberOf r ≡ 5) ⊎ (numberOf r ≡ 6) ⊎ (numberOf r ≡ 7) ⊎ (numberOf r ≡ 18)
 
--- of the lent tables: 3, 5, 6, 7 or 8
+-- of the lent tables: 8, or that of a task
 abbrev pub OfTables : Refusal → Type 0
-OfTables r = (numberOf r ≡ 3) ⊎ (numberOf r ≡ 5) ⊎ (numberOf r ≡ 6) ⊎ (numberOf r ≡ 7) ⊎ (numberOf r ≡ 8)
+OfTables r = (numberOf r ≡ 8) ⊎ OfTask r
 
 data Kind : Found → Type 0 where
   clean : Kind Clean
@@ -60,7 +60,8 @@ module _ (T : Task) where
   unfolding operatorFault
   of-operator o =
       both _ _ (range (leb (T .sas .cost o) mostCost) (lineOfOp o))
-      (both _ _ (of-facts (T .sas .pre o) (lineOfOp o)) (of-facts (T .sas .eff o) (lineOfOp o)))
+      (both _ _ (of-facts (T .sas .pre o) (lineOfOp o))
+      (both _ _ (of-facts (T .sas .eff o) (lineOfOp o)) (rule (not (idle (T .sas) o)) (IdleOperator (lineOfOp o)) (inr (inr (inr (inr refl)))))))
 
   of-classes : (m l v : ℕ) → Kind (classesFault T m l v)
   unfolding classesFault
@@ -74,7 +75,7 @@ module _ (T : Task) where
       let l = lineOfMap (T .sas .ops) m in
       let few = leb (abstractStates (T .sas) (view T m)) mostStates in
       both _ _ (walk (classesFault T m l) (of-classes m l) (T .sas .vars) 0)
-      (rule few (TooManyStates l) (inr (inr (inr refl))))
+      (rule few (TooManyStates l) (inr (inr (inr (inl refl)))))
 
   of-shares : (m : ℕ) → Kind (sharesFault T m)
   unfolding sharesFault
@@ -106,16 +107,10 @@ fault-of (Fault q) r (fault k) e = let z : q ≡ r = cc in subst OfTask z k
 pub task-refused : (T : Task) (r : Refusal) → taskFault T ≡ Fault r → OfTask r
 task-refused T r e = fault-of (taskFault T) r (of-task T) e
 
-wider : (r : Refusal) → OfTask r → OfTables r
-wider r (inl e) = inl e
-wider r (inr (inl e)) = inr (inl e)
-wider r (inr (inr (inl e))) = inr (inr (inl e))
-wider r (inr (inr (inr e))) = inr (inr (inr (inl e)))
-
 pub tables-refused : (t : Tables) (r : Refusal) → tablesFault t ≡ Fault r → OfTables r
 unfolding tablesFault
 tables-refused t r e = at (roomy t) e
   where
     at : (b : Bool) → unless b TableTooShort then taskFault (taskOf t) ≡ Fault r → OfTables r
-    at true e = wider r (task-refused (taskOf t) r e)
-    at false e = let z : TableTooShort ≡ r = cc in subst OfTables z (inr (inr (inr (inr refl))))
+    at true e = inr (task-refused (taskOf t) r e)
+    at false e = let z : TableTooShort ≡ r = cc in subst OfTables z (inl refl)

@@ -7,12 +7,13 @@ use mathlib.Core.Logic.{_↔_}
 use native.Mathlib.Omega.{arith}
 use lib.Dec.{leb, ltb}
 use borrow.Author.Tests.{leb-true, le-leb, ltb-true, ltb-false, lt-ltb, eqb-true, eq-eqb}
-use Rattle.refusals.specs.declared.Refusal.the-variants.{OutOfRange, ClassMissing, SharesAboveCost, TooManyStates}
-use Rattle.meaning.specs.Sas.{Facts, IsState}
+use Rattle.refusals.specs.declared.Refusal.the-variants.{OutOfRange, ClassMissing, SharesAboveCost, TooManyStates, IdleOperator}
+use Rattle.meaning.specs.Sas.{Facts, IsState, Idle}
 use Rattle.meaning.specs.Limits.{mostVars, mostValues, mostOps, mostCost, mostMaps, mostStates}
 use Rattle.meaning.specs.Views.{abstractStates}
 use Rattle.meaning.specs.Split.{Task, countOf, sum, view}
 use Rattle.meaning.proofs.Facts.{and-left, and-right, every-true, true-every, by-cases}
+use Rattle.meaning.proofs.Idle.{not-idle-is}
 use Rattle.scan.specs.declared.Found.the-variants.{Clean}
 use Rattle.scan.specs.Scan.{_then_, within, factsFault, operatorFault, classesFault, mapFault, sharesFault, splitFault, taskFault}
 use Rattle.scan.specs.Inside.Parts.{headFault, linesFault, chargesFault, bodyFault}
@@ -67,7 +68,7 @@ module _ (T : Task) where
   FactsOk F = (v : ℕ) → v < T .sas .vars → F v ≤ T .sas .dom v
 
   abbrev pub OperatorOk : ℕ → Type 0
-  OperatorOk o = (T .sas .cost o ≤ mostCost) × (FactsOk (T .sas .pre o) × FactsOk (T .sas .eff o))
+  OperatorOk o = (T .sas .cost o ≤ mostCost) × (FactsOk (T .sas .pre o) × (FactsOk (T .sas .eff o) × (Idle (T .sas) o → ⊥)))
 
   abbrev pub ClassesOk : ℕ → ℕ → Type 0
   ClassesOk m v =
@@ -103,7 +104,8 @@ module _ (T : Task) where
   unfolding operatorFault
   operator-is o =
       let line = lineOfOp o in
-      then-is (rule-is (OutOfRange line) (le-is (T .sas .cost o) mostCost)) (then-is (facts-is (T .sas .pre o) line) (facts-is (T .sas .eff o) line))
+      then-is (rule-is (OutOfRange line) (le-is (T .sas .cost o) mostCost))
+      (then-is (facts-is (T .sas .pre o) line) (then-is (facts-is (T .sas .eff o) line) (rule-is (IdleOperator line) (not-idle-is (T .sas) o))))
 
   classes-is : (m line v : ℕ) → (classesFault T m line v ≡ Clean) ↔ ClassesOk m v
   unfolding classesFault

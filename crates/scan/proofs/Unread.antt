@@ -2,18 +2,19 @@
 -- Rule by rule, in the scan's order; that tables agree may be shown with what the rules before have let pass. Assumes nothing.
 use Prim.Native.Nat.{ℕ, zero, suc, _+_, _≤_, _<_}
 use mathlib.Core.Path.{_≡_, refl, sym, ap, ap₂, _∙_, fun-ext, subst}
-use mathlib.Core.Bool.{Bool, true, _||_}
+use mathlib.Core.Bool.{Bool, true, _||_, not}
 use mathlib.Core.List.{List}
 use native.Mathlib.Omega.{arith}
 use lib.Dec.{leb, ltb, eqb}
 use lib.ListN.{length}
 use borrow.Author.Tests.{leb-true}
 use Rattle.refusals.specs.declared.Refusal.{Refusal}
-use Rattle.refusals.specs.declared.Refusal.the-variants.{OutOfRange, ClassMissing, SharesAboveCost, TooManyStates, TableTooShort, ValueOutside}
+use Rattle.refusals.specs.declared.Refusal.the-variants.{OutOfRange, ClassMissing, SharesAboveCost, TooManyStates, TableTooShort, ValueOutside, IdleOperator}
 use Rattle.meaning.specs.Limits.{mostVars, mostValues, mostOps, mostCost, mostMaps, mostStates}
 use Rattle.meaning.specs.Sas.{Facts}
-use Rattle.meaning.specs.Views.{every}
+use Rattle.meaning.specs.Views.{every, asked, idle}
 use Rattle.meaning.specs.Split.{Task, countOf, Valid}
+use Rattle.meaning.proofs.Facts.{every-same}
 use Rattle.meaning.proofs.Columns.{sum-same}
 use Rattle.meaning.proofs.Unread.{size-alike, count-alike, SameTask, task-back}
 use Rattle.tables.specs.declared.Counts.{Counts}
@@ -100,12 +101,18 @@ module _ (c : Counts) (f f′ k k′ s s′ : List ℕ) (A : Agree c f f′ k k�
       walk-same (λ v. unless (leb (F v) (T .sas .dom v)) (OutOfRange line)) (λ v. unless (leb (F′ v) (T′ .sas .dom v)) (OutOfRange line)) (c .vars)
       (λ v l. ap₂ (λ (x d : ℕ). unless (leb x d) (OutOfRange line)) (h v l) (A .dom v l))
 
+  idle-same : (o : ℕ) → o < c .ops → o < mostOps → idle (T .sas) o ≡ idle (T′ .sas) o
+  idle-same o l few =
+      every-same (λ v. asked (T .sas .pre o v) (T .sas .eff o v)) (λ v. asked (T′ .sas .pre o v) (T′ .sas .eff o v)) (c .vars)
+      (λ v g. ap₂ asked (A .pre o v l few g) (A .eff o v l few g))
+
   operator-same : (o : ℕ) → o < c .ops → o < mostOps → operatorFault T o ≡ operatorFault T′ o
   unfolding operatorFault
   operator-same o l few =
       ap₂ _then_ (ap (λ (x : ℕ). unless (leb x mostCost) (OutOfRange (lineOfOp o))) (A .cost o l few))
       (ap₂ _then_ (facts-same (T .sas .pre o) (T′ .sas .pre o) (lineOfOp o) (λ v g. A .pre o v l few g))
-      (facts-same (T .sas .eff o) (T′ .sas .eff o) (lineOfOp o) (λ v g. A .eff o v l few g)))
+      (ap₂ _then_ (facts-same (T .sas .eff o) (T′ .sas .eff o) (lineOfOp o) (λ v g. A .eff o v l few g))
+      (ap (λ (b : Bool). unless (not b) (IdleOperator (lineOfOp o))) (idle-same o l few))))
 
   -- the rules of a variable's classes, by its number of values
   abbrev rules : (ℕ → ℕ) → ℕ → ℕ → Found

@@ -36,10 +36,11 @@ task-valid T = (
               init = head .1 .1 .0;
               goal = head .1 .1 .1 .0;
               pre = λ o v i. lines .0 o i .1 .0 v;
-              eff = λ o v i. lines .0 o i .1 .1 v;
+              eff = λ o v i. lines .0 o i .1 .1 .0 v;
             };
         ops = head .1 .1 .1 .1;
         costs = λ o i. lines .0 o i .0;
+        none-idle = λ o i. lines .0 o i .1 .1 .1;
         maps = lines .1 .0;
         classes = λ m v x i j. lines .1 .1 m i .0 v j .0 x;
         none-missing = λ m v c i j. lines .1 .1 m i .0 v j .1 c;
@@ -53,7 +54,7 @@ task-valid T = (
         (h .vars, (λ v i. (p .values v i, h .values v i), (p .init, (p .goal, h .ops)))),
         (
           (
-            λ o i. (h .costs o i, (λ v. p .pre o v i, λ v. p .eff o v i)),
+            λ o i. (h .costs o i, (λ v. p .pre o v i, (λ v. p .eff o v i, h .none-idle o i))),
             (h .maps, λ m i. (λ v j. (λ x. h .classes m v x i j, λ c. h .none-missing m v c i j), h .few-states m i)),
           ),
           (λ m i o. h .shares m o i, h .split),

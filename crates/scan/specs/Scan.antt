@@ -1,14 +1,14 @@
 -- The first fault of handed-in tables, by the text's rules and in the text's order: the lines one after another, each from left to right.
 -- A line is the one that the same task's text would have.
-use mathlib.Core.Bool.{Bool, true, false, _&&_}
+use mathlib.Core.Bool.{Bool, true, false, _&&_, not}
 use mathlib.Core.List.{List}
 use Prim.Native.Nat.{ℕ, zero, suc}
 use lib.Dec.{leb, ltb}
 use lib.ListN.{length}
 use Rattle.refusals.specs.declared.Refusal.{Refusal}
-use Rattle.refusals.specs.declared.Refusal.the-variants.{OutOfRange, ClassMissing, SharesAboveCost, TooManyStates, TableTooShort, ValueOutside}
+use Rattle.refusals.specs.declared.Refusal.the-variants.{OutOfRange, ClassMissing, SharesAboveCost, TooManyStates, TableTooShort, ValueOutside, IdleOperator}
 use Rattle.meaning.specs.Sas.{Facts}
-use Rattle.meaning.specs.Views.{abstractStates}
+use Rattle.meaning.specs.Views.{abstractStates, idle}
 use Rattle.meaning.specs.Limits.{mostVars, mostValues, mostOps, mostCost, mostMaps, mostStates}
 use Rattle.meaning.specs.Split.{Task, sum, view}
 use Rattle.tables.specs.declared.Counts.{Counts}
@@ -43,12 +43,13 @@ within lo hi x = leb lo x && leb x hi
 unfoldable pub factsFault : Task → Facts → ℕ → Found
 factsFault T F line = each (λ v. unless (leb (F v) (T .sas .dom v)) (OutOfRange line)) (T .sas .vars) 0
 
--- the line of operator o: the operator's cost, its preconditions, its effects
+-- the line of operator o: the operator's cost, its preconditions, its effects; at its end it isn't idle
 unfoldable pub operatorFault : Task → ℕ → Found
 operatorFault T o =
     unless (leb (T .sas .cost o) mostCost) (OutOfRange (lineOfOp o))
     then factsFault T (T .sas .pre o) (lineOfOp o)
     then factsFault T (T .sas .eff o) (lineOfOp o)
+    then unless (not (idle (T .sas) o)) (IdleOperator (lineOfOp o))
 
 -- a variable's classes: each below its number of values; at their end none missing
 unfoldable pub classesFault : Task → ℕ → ℕ → ℕ → Found

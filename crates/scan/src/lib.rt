@@ -47,6 +47,7 @@ use tables::readers::eff_row;
 use tables::readers::pre_row;
 use tables::readers::row_at;
 use tables::readers::share_at;
+use tables::steps::is_idle;
 
 // What a scan finds: nothing, or the first fault.
 pub enum Found {
@@ -208,6 +209,9 @@ fn lines_fault(c: Counts, facts: &[u8], costs: &[u32]) -> Found
                 if !facts_fit(facts, OpNo(o), v) {
                     break 'scan Found::Fault(Refusal::OutOfRange(line));
                 }
+            }
+            if is_idle(vars, facts, OpNo(o)) {
+                break 'scan Found::Fault(Refusal::IdleOperator(line));
             }
         }
         if !lies_within(1, MAPS_MOST, maps) {

@@ -103,6 +103,7 @@ valid-unpriced t ok =
       proper = record { values = P .values; init = P .init; goal = P .goal; pre = P .pre; eff = P .eff };
       ops = ok .ops;
       costs = λ o l. zero-le;
+      none-idle = ok .none-idle;
       maps = ok .maps;
       classes = ok .classes;
       none-missing = ok .none-missing;

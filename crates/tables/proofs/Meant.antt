@@ -5,10 +5,10 @@ use mathlib.Core.List.{List}
 use native.Mathlib.Omega.{arith}
 use lib.ListN.{length, getD}
 use Rattle.meaning.specs.Sas.{after}
-use Rattle.meaning.specs.Views.{complies}
+use Rattle.meaning.specs.Views.{complies, idle}
 use Rattle.tables.specs.Layout.{Tables, effRow}
 use Rattle.tables.specs.Task.{sasOf, stateOf}
-use Rattle.tables.specs.Steps.{rowHolds, mayRun, meetsGoal, valueAfter, stepped}
+use Rattle.tables.specs.Steps.{rowHolds, mayRun, meetsGoal, valueAfter, stepped, isIdle}
 use Rattle.tables.proofs.Laws.{filled-at, filled-later, length-filled}
 
 module _ (t : Tables) (s : List ℕ) where
@@ -35,3 +35,8 @@ module _ (t : Tables) (s : List ℕ) where
   pub stepped-length : (o : ℕ) → length (stepped (t .counts) (t .facts) s o) ≡ length s
   unfolding stepped
   stepped-length o = length-filled (valueAfter (t .facts) (effRow o) s) s (t .counts .vars)
+
+-- an operator is idle by its rows exactly if it is in the task
+pub is-idle-is : (t : Tables) (o : ℕ) → isIdle (t .counts .vars) (t .facts) o ≡ idle (sasOf t) o
+unfolding isIdle
+is-idle-is t o = refl

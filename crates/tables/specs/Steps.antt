@@ -1,14 +1,14 @@
--- Steps over the lent tables: may run, meets the goal, and the state after, as lists. `proofs/Meant.antt` shows that they are those of the task.
+-- Steps over the lent tables: may run, meets the goal, the state after, as lists; and which operators alter nothing. `proofs/Meant.antt` shows that they are those of the task.
 use mathlib.Core.Bool.{Bool}
 use mathlib.Core.List.{List}
 use Prim.Native.Nat.{ℕ, zero, suc}
 use lib.ListN.{getD, set, replicate}
 use Rattle.meaning.specs.Limits.{mostVars}
 use Rattle.meaning.specs.Sas.{put}
-use Rattle.meaning.specs.Views.{holds, every}
+use Rattle.meaning.specs.Views.{holds, every, asked}
 use Rattle.tables.specs.declared.Counts.{Counts}
 use Rattle.tables.specs.Task.{stateOf}
-use Rattle.tables.specs.Layout.{rowAt, goalRow, preRow, effRow}
+use Rattle.tables.specs.Layout.{rowAt, preAt, effAt, goalRow, preRow, effRow}
 
 -- what a row of facts says of variable v holds in the state; of the first n variables
 abbrev pub saysOf : List ℕ → ℕ → List ℕ → ℕ → Bool
@@ -37,6 +37,10 @@ valueAfter facts row s v = put (rowAt facts row v) (getD s v 0)
 -- the state after operator o: each effect holds and all else stays
 unfoldable pub stepped : Counts → List ℕ → List ℕ → ℕ → List ℕ
 stepped c facts s o = overwritten (valueAfter facts (effRow o) s) s (c .vars)
+
+-- operator o is idle: each place of its effects' row is 0, or equals that of its preconditions' row
+unfoldable pub isIdle : ℕ → List ℕ → ℕ → Bool
+isIdle n facts o = every (λ v. asked (preAt facts o v) (effAt facts o v)) n
 
 -- the lent state by value: a place for each variable, those beyond the task's 0
 unfoldable pub copied : List ℕ → ℕ → List ℕ

@@ -1,18 +1,21 @@
-// Whether an operator may run in a state, whether a state meets the goal, and the state after a step.
+// Whether an operator may run in a state, whether a state meets the goal, the state after a step, and whether an operator is idle.
 ghost use mathlib.Core.Path.{_≡_};
 ghost use Prim.Native.Nat.{_≤_, _<_};
 ghost use Rattle.meaning.specs.Limits.{mostVars, mostOps};
 ghost use Rattle.meaning.specs.Sas.{put};
-ghost use Rattle.meaning.specs.Views.{holds};
-ghost use Rattle.tables.specs.Steps.{rowHolds, mayRun, meetsGoal, stepped};
+ghost use Rattle.meaning.specs.Views.{holds, asked};
+ghost use Rattle.tables.specs.Steps.{rowHolds, mayRun, meetsGoal, stepped, isIdle};
 ghost use Rattle.tables.specs.Task.{was};
 use crate::Counts;
+use crate::readers::EFF_ROWS;
 use crate::readers::GOAL_ROW;
+use crate::readers::PRE_ROWS;
 use crate::readers::byte_at;
 use crate::readers::eff_row;
 use crate::readers::pre_row;
 use crate::readers::row_at;
 use meaning::OpNo;
+use meaning::op_index;
 
 // What is said of a variable holds of the value x.
 pub fn fact_holds(fact: u8, x: u8) -> bool
@@ -71,4 +74,30 @@ pub fn state_after(c: Counts, facts: &[u8], s: [u8; 8], o: OpNo) -> [u8; 8]
         v += 1;
     }
     t
+}
+
+// An effect that is none, or stands among the preconditions.
+pub fn is_asked(pre: u8, eff: u8) -> bool
+    ensures { λ r. ⌜ r ≡ asked pre eff ⌝ }
+{
+    if eff == 0 { true } else { eff == pre }
+}
+
+// The operator is idle: each of its effects stands among its preconditions.
+pub fn is_idle(vars: u32, facts: &[u8], o: OpNo) -> bool
+    ensures { λ r. ⌜ r ≡ isIdle vars (was facts) (o .0) ⌝ }
+{
+    let pre = (PRE_ROWS as usize + op_index(o)) * 8;
+    let eff = (EFF_ROWS as usize + op_index(o)) * 8;
+    let mut v = 0;
+    while v < vars {
+        if !is_asked(
+            byte_at(facts, pre + v as usize),
+            byte_at(facts, eff + v as usize),
+        ) {
+            return false;
+        }
+        v += 1;
+    }
+    true
 }

@@ -1,4 +1,5 @@
--- The work area against the grammar's tables: a fact, a cost and a share stored in the area are stored in the tables that it stands for. Assumes nothing.
+-- The work area against the grammar's tables: a fact, a cost and a share stored in the area are stored in the tables that it stands for, and what the machine asks
+-- of the area is what the grammar asks of them. Assumes nothing.
 use Prim.Native.Nat.{ℕ, zero, suc, _+_, _*_, _/_, _%_, _≤_, _<_, min}
 use native.Mathlib.Omega.{arith}
 use mathlib.Core.Path.{_≡_, refl, sym, ap, ap₂, _∙_}
@@ -7,12 +8,15 @@ use mathlib.Core.List.{List}
 use lib.ListN.{length, getD, set, take, length-set}
 use lib.Seq.{getD-set-same, getD-set-other, take-set-le, take-set-lt, getD-take}
 use Rattle.tables.specs.declared.Counts.{Counts}
-use Rattle.tables.specs.Layout.{factsRoom, costsRoom, sharesRoom, sharePlace, domAt}
+use Rattle.tables.specs.Layout.{factsRoom, costsRoom, sharesRoom, prePlace, effPlace, sharePlace, domAt}
 use Rattle.text.specs.declared.Ctrl.{Ctrl}
 use Rattle.refusals.specs.declared.Refusal.the-variants.{SharesAboveCost}
 use Rattle.meaning.specs.Limits.{mostOps, mostMaps}
+use Rattle.meaning.specs.Views.{asked, idle}
+use Rattle.meaning.proofs.Facts.{every-same}
 use Rattle.tables.specs.Lines.{lineOfOp}
-use Rattle.tables.specs.Task.{taskOf}
+use Rattle.tables.specs.Steps.{isIdle}
+use Rattle.tables.specs.Task.{sasOf, taskOf}
 use Rattle.scan.specs.Scan.{unless, each, splitFault}
 use Rattle.grammar.proofs.SpellClasses.{sum-same, each-same}
 use lib.Dec.{leb}
@@ -141,6 +145,13 @@ module _ (n : Counts) (w : List ℕ) (long : length w ≡ areaRoom) where
 pub dom-of : (n : Counts) (w : List ℕ) (v : ℕ) → v < factsRoom → domAt (tablesOf n w .facts) v ≡ domIn w v
 unfolding tablesOf
 dom-of n w v h = ap (λ (i : ℕ). getD (take factsRoom w) i 0) (zero-add v) ∙ getD-take factsRoom w v 0 h
+
+-- an operator is idle by the area's rows exactly if it is by those of the tables
+pub idle-of : (n : Counts) (w : List ℕ) (o : ℕ) → n .vars ≤ 8 → o < 64 → isIdle (n .vars) w o ≡ idle (sasOf (tablesOf n w)) o
+unfolding isIdle tablesOf
+idle-of n w o few h =
+    every-same _ _ (n .vars)
+    (λ v l. sym (ap₂ asked (getD-take factsRoom w (prePlace o v) 0 (omega arith)) (getD-take factsRoom w (effPlace o v) 0 (omega arith))))
 
 -- shares above costs, in the area and in its tables
 pub over-of : (c : Ctrl) (w : List ℕ) (n : Counts) → c .counts ≡ n → n .ops ≤ mostOps → n .maps ≤ mostMaps

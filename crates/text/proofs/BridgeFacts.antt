@@ -1,4 +1,5 @@
--- Lists of facts, and the dash that stands for an empty one, read as the grammar says. Assumes nothing.
+-- Lists of facts, and the dash that stands for an empty one, read as the grammar says. What a list's end does is its user's to say, once for a value and a dash:
+-- `over` is the machine's control there, and `ends` what the grammar has follow. Assumes nothing.
 use Prim.Native.Nat.{ℕ, zero, suc, _+_, _≤_, _<_, zero-le}
 use native.Mathlib.Omega.{arith}
 use mathlib.Core.Path.{_≡_, refl, sym, ap, _∙_}
@@ -13,16 +14,16 @@ use Rattle.tables.specs.Layout.{Tables, domAt}
 use Rattle.text.specs.declared.Ctrl.{Ctrl}
 use Rattle.text.specs.declared.Halt.the-variants.{Going, Order}
 use Rattle.grammar.specs.Fields.{isDigit, comma, dash, colon}
-use Rattle.grammar.specs.Grammar.{Verdict, refused, Rest, Part, _▸_, nothing, ask, keep, demand, lit, choice, fits, numeral, putFact, factsFrom, factList}
+use Rattle.grammar.specs.Grammar.{refused, Rest, Part, _▸_, nothing, ask, keep, demand, lit, choice, fits, numeral, putFact, factsFrom, factList}
 use Rattle.text.specs.Inside.Area.{putByte, domIn}
-use Rattle.text.specs.Inside.Control.{mk, up, partBegun, withDigit, dashed, fieldClass, fieldEnd}
-use Rattle.text.specs.Inside.Fields.{leasts, limit, countsWith, seenWith, noted, fault, stored}
-use Rattle.text.specs.Inside.Steps.{mark, listEnd, afterNumber, dashHere, atNumber, live, byteRead, valueCap}
-use Rattle.text.proofs.BridgeReading.{tablesOf, reading, Bytes, byte, cut-short, moves, marked}
-use Rattle.grammar.proofs.Runs.{within-both, Stop, nil, other}
-use Rattle.text.proofs.BridgeNumbers.{beginsDash, pick-same, faulty, sound-end, sound-byte, number-ok}
+use Rattle.text.specs.Inside.Control.{mk, going, up, partBegun, withDigit, dashed, fieldClass, fieldEnd}
+use Rattle.text.specs.Inside.Fields.{leasts, limit, noted, fault, stored}
+use Rattle.text.specs.Inside.Steps.{mark, listEnd, afterNumber, dashHere, atNumber, live, byteRead, noByte, valueCap}
+use Rattle.text.proofs.BridgeReading.{tablesOf, reading, Bytes, bytes-drop, next, behind, pick-same, goes-on, by-mark}
+use Rattle.grammar.proofs.Runs.{clash, within-both, Stop}
+use Rattle.text.proofs.BridgeNumbers.{beginsDash, faulty, sound, number-ok}
 use Rattle.text.proofs.BridgeArea.{fact-kept, dom-of}
-use Rattle.text.proofs.BridgeRows.{num, then-mark, fault-plain, no-fault, Fits, Known, known-put, ofVar, fromVar}
+use Rattle.text.proofs.BridgeRows.{then-mark, fault-plain, no-fault, Fits, Known, known-put, ofVar, fromVar}
 
 -- a number, with its range named
 module _ (c : Ctrl) (w : List ℕ) (lo lim : ℕ) (e : getD leasts (c .spot .field) 0 ≡ lo) (q : limit c w ≡ lim) (h : c .spot .field ≡ fieldEnd → ⊥) (low : lo ≤ valueCap) (cap : lim ≤ valueCap)
@@ -38,11 +39,10 @@ module _ (c : Ctrl) (w : List ℕ) (lo lim : ℕ) (e : getD leasts (c .spot .fie
 -- after a first fact no dash can stand
 bare-least : (c : Ctrl) (t : List ℕ) → (c .turn .least ≡ 0 → ⊥) → beginsDash c t ≡ false
 unfolding dashHere withDigit
-bare-least c [] h = refl
-bare-least c (b ∷ t) h = simp (ne-eqb (c .turn .least) 0 h, pick-same)
+bare-least c t h = simp (ne-eqb (c .turn .least) 0 h, pick-same)
 
--- what the machine does with the numbers of a list: variables in field f, values in field g, kept at their places; the mark x ends it, and then d is the control
-pub record FactList (l f g r : ℕ) (n : Counts) (place : ℕ → ℕ) (x : ℕ) (d : Ctrl) : Type 0 where
+-- what the machine does with the numbers of a list: variables in field f, values in field g, kept at their places; where it ends, the byte is judged by `over`
+pub record FactList (l f g r : ℕ) (n : Counts) (place : ℕ → ℕ) (over : Ctrl → List ℕ → ℕ → Ctrl) : Type 0 where
   pub var-goes : f ≡ fieldEnd → ⊥
   pub var-plain : f ≡ fieldClass → ⊥
   pub val-goes : g ≡ fieldEnd → ⊥
@@ -57,18 +57,15 @@ pub record FactList (l f g r : ℕ) (n : Counts) (place : ℕ → ℕ) (x : ℕ)
       → afterNumber (noted (withDigit (fromVar l f m r n) z v)) w b ≡ mark (noted (withDigit (fromVar l f m r n) z v)) b colon (ofVar l g v r n)
   pub val-after : (v z y b : ℕ) (w : List ℕ)
       → afterNumber (noted (withDigit (ofVar l g v r n) z y)) w b
-      ≡ cond (eqb b comma) (fromVar l f (up v) r n) (mark (noted (withDigit (ofVar l g v r n) z y)) b x d)
+      ≡ cond (eqb b comma) (fromVar l f (up v) r n) (over (noted (withDigit (ofVar l g v r n) z y)) w b)
   pub val-bare : (v : ℕ) (t : List ℕ) → beginsDash (ofVar l g v r n) t ≡ false
   pub var-dash : (b : ℕ) → dashHere (withDigit (fromVar l f 0 r n) 0 0) b ≡ eqb b dash
-  pub dash-ends : (b : ℕ) → listEnd (dashed (fromVar l f 0 r n)) b ≡ mark (dashed (fromVar l f 0 r n)) b x d
+  pub dash-after : (b : ℕ) (w : List ℕ) → listEnd (dashed (fromVar l f 0 r n)) w b ≡ over (dashed (fromVar l f 0 r n)) w b
+  pub over-stops : (c : Ctrl) (w : List ℕ) → going (over c w noByte .halt) ≡ false
   pub room : (v : ℕ) → v < 8 → (8 ≤ place v) × (place v < 1624)
 
-module _ (l f g r : ℕ) (n : Counts) (place : ℕ → ℕ) (x : ℕ) (d : Ctrl) (L : FactList l f g r n place x d) (sized : Fits n) (k : Rest)
-    (ok : (w : List ℕ) → Known (n .vars) w → (t : List ℕ) → Bytes t → reading d w t ≡ k t l (tablesOf n w)) where
-  -- what follows the list
-  ends : Rest
-  ends u m U = lit (x ∷ []) u m U k
-
+module _ (l f g r : ℕ) (n : Counts) (place : ℕ → ℕ) (over : Ctrl → List ℕ → ℕ → Ctrl) (L : FactList l f g r n place over) (sized : Fits n) (ends : Rest)
+    (ok : (c : Ctrl) → c .line ≡ l → (w : List ℕ) → Known (n .vars) w → (t : List ℕ) → Bytes t → reading (over c w (next t)) w (behind t) ≡ ends t l (tablesOf n w)) where
   rising : (m z v : ℕ) (w t : List ℕ) → (z ≡ 0 → ⊥) → Stop t → fits v (getD leasts f 0) (limit (fromVar l f m r n) w) ≡ true → v < m
       → reading (withDigit (fromVar l f m r n) z v) w t ≡ refused (NotRising l)
   rising m z v w t y o s h =
@@ -79,30 +76,34 @@ module _ (l f g r : ℕ) (n : Counts) (place : ℕ → ℕ) (x : ℕ) (d : Ctrl)
     -- after a value: a comma means one more fact, anything else ends the list
     more-or-end : (z y : ℕ) (w u : List ℕ) → Known (n .vars) w → (z ≡ 0 → ⊥) → Stop u → Bytes u → y < 8 → fault (withDigit (ofVar l g v r n) z y) w ≡ Going
         → reading (withDigit (ofVar l g v r n) z y) w u ≡ choice comma (factsFrom place N (v + 1)) nothing u l (tablesOf n (putByte w (place v) (up y))) ends
-    unfolding choice nothing lit ends noted withDigit seenWith countsWith
-    more-or-end z y w u p q nil a h e = sound-end (ofVar l g v r n) w z y (L .val-goes) e
-    more-or-end z y w u p q (other {b = b} {t = t} o) (byte b₁ a) h e = move ∙ split (eqb b comma) refl
+    unfolding nothing noted withDigit
+    more-or-end z y w u p q o a h e = move ∙ split (eqb (next u) comma) refl ∙ sym (by-mark comma (factsFrom place N (v + 1)) nothing u l (tablesOf n w₁) ends refl)
       where
+        c : Ctrl
+        c = noted (withDigit (ofVar l g v r n) z y)
+
         w₁ : List ℕ
         w₁ = putByte w (place v) (up y)
 
         known : Known (n .vars) w₁
         known = let j = sized .high in let i = L .room v (omega arith) in known-put p (place v) (up y) (omega arith)
 
-        move : reading (withDigit (ofVar l g v r n) z y) w (b ∷ t)
-            ≡ reading (cond (eqb b comma) (fromVar l f (up v) r n) (mark (noted (withDigit (ofVar l g v r n) z y)) b x d)) w₁ t
+        move : reading (withDigit (ofVar l g v r n) z y) w u ≡ reading (cond (eqb (next u) comma) (fromVar l f (up v) r n) (over c w₁ (next u))) w₁ (behind u)
         move =
-            sound-byte (ofVar l g v r n) w z y b t q o e
-            ∙ ap (λ (c : Ctrl). reading c (stored (withDigit (ofVar l g v r n) z y) w) t) (L .val-after v z y b w)
-            ∙ ap (λ (u₁ : List ℕ). reading (cond (eqb b comma) (fromVar l f (up v) r n) (mark (noted (withDigit (ofVar l g v r n) z y)) b x d)) u₁ t) (L .val-kept v z y w)
+            goes-on _ _ w w₁ u (L .val-goes)
+            (sound (ofVar l g v r n) w z y q o e
+            ∙ ap (λ (x : List ℕ). mk (afterNumber c x (next u)) x) (L .val-kept v z y w)
+            ∙ ap (λ (x : Ctrl). mk x w₁) (L .val-after v z y (next u) w₁))
+            (λ i. rw i (L .over-stops c w₁))
 
-        split : (s : Bool) → eqb b comma ≡ s
-            → reading (cond (eqb b comma) (fromVar l f (up v) r n) (mark (noted (withDigit (ofVar l g v r n) z y)) b x d)) w₁ t
-            ≡ cond {A = List ℕ → Verdict} (eqb b comma) (λ u₁. factsFrom place N (v + 1) u₁ l (tablesOf n w₁) ends) (λ u₁. lit (x ∷ []) (b ∷ u₁) l (tablesOf n w₁) k) t
+        split : (s : Bool) → eqb (next u) comma ≡ s
+            → reading (cond (eqb (next u) comma) (fromVar l f (up v) r n) (over c w₁ (next u))) w₁ (behind u)
+            ≡ cond (eqb (next u) comma) (factsFrom place N (v + 1) (behind u) l (tablesOf n w₁) ends) (ends u l (tablesOf n w₁))
         split true j =
             rw j
-            (ap (λ (m : ℕ). reading (fromVar l f m r n) w₁ t) (let i = sized .high in let e₁ : up v ≡ v + 1 = omega arith in e₁) ∙ rest w₁ known t a)
-        split false j = rw j (marked (noted (withDigit (ofVar l g v r n) z y)) d w₁ b x [] t (tablesOf n w₁) k (λ i. ok w₁ known t a))
+            (ap (λ (m : ℕ). reading (fromVar l f m r n) w₁ (behind u)) (let i = sized .high in let e₁ : up v ≡ v + 1 = omega arith in e₁)
+            ∙ rest w₁ known (behind u) (bytes-drop 1 a))
+        split false j = rw j (ok c refl w₁ known u a)
 
     value-ok : (w : List ℕ) → Known (n .vars) w → (t : List ℕ) → Bytes t
         → reading (ofVar l g v r n) w t
@@ -133,8 +134,8 @@ module _ (l f g r : ℕ) (n : Counts) (place : ℕ → ℕ) (x : ℕ) (d : Ctrl)
   unfolding demand
   variable-ok N m w p again z v u y o b s i true j =
       rw j
-      (then-mark (fromVar l f m r n) w z v colon (ofVar l g v r n) (tablesOf n w) _ (L .var-goes) y (no-fault (fromVar l f m r n) w z v y (L .var-plain) s (leb-true m v j))
-      (λ x₁. L .var-after m z v x₁ w)
+      (then-mark (fromVar l f m r n) w z v colon (ofVar l g v r n) (tablesOf n w) _ refl (L .var-goes) y (no-fault (fromVar l f m r n) w z v y (L .var-plain) s (leb-true m v j))
+      (λ x. L .var-after m z v x _)
       (λ u₁ b₁. rw (L .var-kept m z v w) (value-ok N v i (again v (leb-true m v j)) w p u₁ b₁)) o b)
   variable-ok N m w p again z v u y o b s i false j = rw j (rising m z v w u y o s (leb-false m v j))
 
@@ -157,21 +158,19 @@ module _ (l f g r : ℕ) (n : Counts) (place : ℕ → ℕ) (x : ℕ) (d : Ctrl)
   dash-step w = rw (L .var-dash dash)
 
   dash-ok : (w t : List ℕ) → Known (n .vars) w → Bytes t → reading (dashed (fromVar l f 0 r n)) w t ≡ ends t l (tablesOf n w)
-  unfolding ends lit dashed partBegun byteRead live
-  dash-ok w [] p a = cut-short (dashed (fromVar l f 0 r n)) w refl (L .var-goes) refl
-  dash-ok w (b ∷ t) p (byte h a) =
-      moves (dashed (fromVar l f 0 r n)) _ w w b t (ap (λ (c : Ctrl). mk c w) (L .dash-ends b))
-      ∙ marked (dashed (fromVar l f 0 r n)) d w b x [] t (tablesOf n w) k (λ q. ok w p t a)
+  unfolding dashed partBegun byteRead live
+  dash-ok w t p a =
+      goes-on (dashed (fromVar l f 0 r n)) _ w w t (L .var-goes) (ap (λ (c : Ctrl). mk c w) (L .dash-after (next t) w)) (λ i. rw i (L .over-stops (dashed (fromVar l f 0 r n)) w))
+      ∙ ok (dashed (fromVar l f 0 r n)) refl w p t a
 
-  pub list-ok : (w : List ℕ) → Known (n .vars) w → (t : List ℕ) → Bytes t
-      → reading (fromVar l f 0 r n) w t ≡ factList place t l (tablesOf n w) (λ u m U. lit (x ∷ []) u m U k)
-  unfolding factList choice ask nothing ends tablesOf
-  list-ok w p [] a = facts-ok (n .vars) 0 (omega arith) w p [] a refl
-  list-ok w p (b ∷ t) (byte h a) = split (eqb b dash) refl
+  pub list-ok : (w : List ℕ) → Known (n .vars) w → (t : List ℕ) → Bytes t → reading (fromVar l f 0 r n) w t ≡ factList place t l (tablesOf n w) ends
+  unfolding factList ask nothing tablesOf
+  list-ok w p t a = split (eqb (next t) dash) refl ∙ sym (by-mark dash nothing (ask (λ T. factsFrom place (T .counts .vars) 0)) t l (tablesOf n w) ends refl)
     where
-      split : (q : Bool) → eqb b dash ≡ q
-          → reading (fromVar l f 0 r n) w (b ∷ t)
-          ≡ cond {A = List ℕ → Verdict} (eqb b dash) (λ u. ends u l (tablesOf n w)) (λ u. factsFrom place (n .vars) 0 (b ∷ u) l (tablesOf n w) ends) t
+      split : (q : Bool) → eqb (next t) dash ≡ q
+          → reading (fromVar l f 0 r n) w t ≡ cond (eqb (next t) dash) (ends (behind t) l (tablesOf n w)) (factsFrom place (n .vars) 0 t l (tablesOf n w) ends)
       split true q =
-          rw (eqb-true b dash q) (moves (fromVar l f 0 r n) (dashed (fromVar l f 0 r n)) w w dash t (dash-step w) ∙ dash-ok w t p a)
-      split false q = rw q (facts-ok (n .vars) 0 (omega arith) w p (b ∷ t) (byte h a) (L .var-dash b ∙ q))
+          rw q
+          (goes-on (fromVar l f 0 r n) (dashed (fromVar l f 0 r n)) w w t (L .var-goes) (rw (eqb-true (next t) dash q) (dash-step w)) (λ i. clash q (rw i))
+          ∙ dash-ok w (behind t) p (bytes-drop 1 a))
+      split false q = rw q (facts-ok (n .vars) 0 (omega arith) w p t a (L .var-dash (next t) ∙ q))

@@ -34,7 +34,7 @@ use Rattle.text.proofs.BridgeReading.{tablesOf, reading, Bytes}
 use Rattle.text.proofs.BridgeNumbers.{run-of, faulty}
 use Rattle.grammar.proofs.Runs.{within-both, Stop}
 use Rattle.text.proofs.BridgeArea.{fact-kept, dom-of, put-getD}
-use Rattle.text.proofs.BridgeRows.{num, then-mark, judged-in, Fits, Known, known-put, aClass}
+use Rattle.text.proofs.BridgeRows.{then-mark, judged-in, Fits, Known, known-put, aClass}
 use Rattle.text.proofs.BridgeLines.{eol, bare}
 use Rattle.text.proofs.BridgeFacts.{number-at}
 use Rattle.text.proofs.BridgeOps.{afterRow}
@@ -223,14 +223,14 @@ module _ (l r v : ℕ) (n : Counts) (sized : Fits n) (hr : r < 8) (hv : v < n .v
       (λ z x u y o b s s₁.
       let j = within-both x 0 (domIn w v) s in
       let w₁ = putByte w (classPlace r v i) x in
+      let f : domIn w₁ v ≡ domIn w v = dom-same n sized r v i x p hr hv w g (omega arith) (j .1) in
       let rest : Rest = λ u₁ m₁ U. numberRow 0 (λ x₁ U₁. domAt (U₁ .facts) v) (λ x₁ c. putFact (classPlace r v x₁) c) (suc m) (i + 1) u₁ m₁ U K in
-      then-mark (aClass l v i r (maskOf (cls n w r v) i) p n) w z x comma (aClass l v (i + 1) r (maskOf (cls n w₁ r v) (i + 1)) p n) (tablesOf n w₁) rest (λ f. omega arith) y
+      then-mark (aClass l v i r (maskOf (cls n w r v) i) p n) w z x comma (aClass l v (i + 1) r (maskOf (cls n w₁ r v) (i + 1)) p n) (tablesOf n w₁) rest refl (λ f. omega arith) y
       (none-yet l v i r (maskOf (cls n w r v) i) p n z x w y s (omega arith) (omega arith))
-      (λ c. class-more l v i r (maskOf (cls n w r v) i) p n z x c w (omega arith) (omega arith)
+      (λ c. class-more l v i r (maskOf (cls n w r v) i) p n z x c w₁ (omega arith) (omega arith)
       ∙ ap (λ (c₁ : ℕ). mark (noted (withDigit (aClass l v i r (maskOf (cls n w r v) i) p n) z x)) c comma (aClass l v (i + 1) r c₁ p n))
       (mask-goes n sized r v i x p hr hv w g (omega arith) (j .1)))
-      (classes-ok m (i + 1) w₁ (next-at n sized r v i x p hr hv w g (omega arith) (j .1))
-      (let f : domIn w₁ v ≡ domIn w v = dom-same n sized r v i x p hr hv w g (omega arith) (j .1) in omega arith)) o b
+      (classes-ok m (i + 1) w₁ (next-at n sized r v i x p hr hv w g (omega arith) (j .1)) (omega arith)) o b
       ∙ ap (λ (T : Tables). lit (comma ∷ []) u l T rest) (fact-kept n w (g .known .long) (classPlace r v i) x (omega arith) (omega arith)))
       t a (bare (aClass l v i r (maskOf (cls n w r v) i) p n) t refl)
 
@@ -263,16 +263,12 @@ module _ (l r : ℕ) (n : Counts) (sized : Fits n) (hr : r < 8) (k : Rest)
     unfolding w₁
     next = next-at n sized r v i x p hr hv w g hi hx
 
-    dom₁ : domIn w₁ v ≡ domIn w v
+    dom₁ : i + 1 ≡ domIn w₁ v
     unfolding w₁
-    dom₁ = dom-same n sized r v i x p hr hv w g hi hx
+    dom₁ = e ∙ sym (dom-same n sized r v i x p hr hv w g hi hx)
 
     dom-now : i + 1 ≡ domAt (tablesOf n w₁ .facts) v
-    dom-now =
-        let h = small in
-        let d : domAt (tablesOf n w₁ .facts) v ≡ domIn w₁ v = dom-of n w₁ v (omega arith) in
-        let f = dom₁ in
-        omega arith
+    dom-now = let h = small in dom₁ ∙ sym (dom-of n w₁ v (omega arith))
 
     below-now : (j : ℕ) → j < domAt (tablesOf n w₁ .facts) v → cls n w₁ r v j < domAt (tablesOf n w₁ .facts) v
     below-now j h =
@@ -320,9 +316,9 @@ module _ (l r : ℕ) (n : Counts) (sized : Fits n) (hr : r < 8) (k : Rest)
     last-end h f true j =
         let d : up v ≡ n .vars = let m = small in omega arith in
         rw j
-        (then-mark c w z x lineEnd (afterRow l fieldClass fieldShare r (n .maps) n) (tablesOf n w₁) (λ u₁ m₁ U. k u₁ (m₁ + 1) U) (λ m. omega arith) y
+        (then-mark c w z x lineEnd (afterRow l fieldClass fieldShare r (n .maps) n) (tablesOf n w₁) (λ u₁ m₁ U. k u₁ (m₁ + 1) U) refl (λ m. omega arith) y
         (fault-is ∙ rw (f, eq-eqb (up v) (n .vars) d, le-ltb mostStates (min states statesOver) (omega (arith, leb-true states mostStates j))))
-        (λ m. class-end l v i r (maskOf (cls n w r v) i) p n z x m w e (let s = small in omega arith) h (small .0)) (ok _ (next .known)) o b)
+        (λ m. class-end l v i r (maskOf (cls n w r v) i) p n z x m w₁ dom₁ (let s = small in omega arith) h (small .0)) (ok _ (next .known)) o b)
     last-end h f false j =
         let d : up v ≡ n .vars = let m = small in omega arith in
         rw j
@@ -336,9 +332,9 @@ module _ (l r : ℕ) (n : Counts) (sized : Fits n) (hr : r < 8) (k : Rest)
     unfolding c w₁ stored withDigit
     last-slash h f go again =
         let d : up v ≡ n .vars → ⊥ = λ m. let j = small in omega arith in
-        then-mark c w z x slash (aClass l (v + 1) 0 r 0 (min states statesOver) n) (tablesOf n w₁) go (λ m. omega arith) y
+        then-mark c w z x slash (aClass l (v + 1) 0 r 0 (min states statesOver) n) (tablesOf n w₁) go refl (λ m. omega arith) y
         (fault-is ∙ rw (f, ne-eqb (up v) (n .vars) d))
-        (λ m. class-slash l v i r (maskOf (cls n w r v) i) p n z x m w e (let s = small in omega arith) h (small .0)
+        (λ m. class-slash l v i r (maskOf (cls n w r v) i) p n z x m w₁ dom₁ (let s = small in omega arith) h (small .0)
         ∙ ap (λ (j : ℕ). mark (noted (withDigit c z x)) m slash (aClass l (v + 1) 0 r 0 j n)) product)
         again o b
 

@@ -1,9 +1,9 @@
--- Every number of the text, whatever its field: the machine reads it as the grammar's `number` does. Assumes nothing.
+-- Every number of the text, whatever its field: the machine reads it as the grammar's `number` does. The end of the text ends a run as a byte does. Assumes nothing.
 use Prim.Native.Nat.{ℕ, suc, _+_, _-_, _*_, _≤_, _<_, min}
 use native.Mathlib.Omega.{arith}
 use mathlib.Core.Path.{_≡_, refl, sym, ap, _∙_}
 use mathlib.Core.List.{List, [], _∷_}
-use mathlib.Core.Bool.{Bool, true, false, cond}
+use mathlib.Core.Bool.{Bool, true, false}
 use lib.ListN.{getD, take, drop}
 use lib.Dec.{ltb, leb, eqb}
 use borrow.Author.Tests.{eq-eqb, ne-eqb, eqb-true, eqb-false, le-leb, lt-leb, lt-ltb, le-ltb, leb-true, leb-false, ltb-true, ltb-false}
@@ -15,11 +15,11 @@ use Rattle.text.specs.declared.Halt.{Halt}
 use Rattle.text.specs.declared.Halt.the-variants.{Going, Form, Range}
 use Rattle.scan.specs.declared.Found.the-variants.{Fault}
 use Rattle.grammar.specs.Fields.{isDigit}
-use Rattle.grammar.specs.Grammar.{Verdict, refused, settled, Rest, Part, _▸_, demand, runLen, decimal, formed, fits, numeral}
+use Rattle.grammar.specs.Grammar.{Verdict, refused, Rest, Part, _▸_, demand, runLen, decimal, formed, fits, numeral}
 use Rattle.text.specs.Inside.Control.{mk, runZero, runOn, going, stopped, withDigit, fieldEnd}
 use Rattle.text.specs.Inside.Fields.{leasts, limit, inRange, numberFault, noted, fault, stored}
-use Rattle.text.specs.Inside.Steps.{more, runWith, digitRead, afterNumber, closed, dashHere, atNumber, live, byteRead, feed, valueCap}
-use Rattle.text.specs.Inside.End.{ended, refusalOf, endFault, lastFault}
+use Rattle.text.specs.Inside.Steps.{more, runWith, digitRead, afterNumber, closed, dashHere, atNumber, live, byteRead, valueCap}
+use Rattle.text.specs.Inside.End.{refusalOf}
 use Rattle.grammar.proofs.Runs.{
   within-both,
   digit-both,
@@ -36,7 +36,7 @@ use Rattle.grammar.proofs.Runs.{
   formed-lead,
   formed-other,
 }
-use Rattle.text.proofs.BridgeReading.{told, reading, Bytes, byte, bytes-drop, stops, off-form, moves, cut-short}
+use Rattle.text.proofs.BridgeReading.{reading, Bytes, byte, bytes-drop, next, pick-same, off-form, moves, stops-at}
 
 -- ---- a run's value, capped
 value-min : (t : List ℕ) (v : ℕ) → min (decimal (min v valueCap) t) valueCap ≡ min (decimal v t) valueCap
@@ -118,12 +118,12 @@ module _ (lo lim : ℕ) (p : ℕ → Part) (l : ℕ) (T : Tables) (k : Rest) whe
 
 -- ---- the machine at a number; c says which number it is
 abbrev pub beginsDash : Ctrl → List ℕ → Bool
-beginsDash c [] = false
-beginsDash c (b ∷ t) = dashHere (withDigit c 0 0) b
+beginsDash c t = dashHere (withDigit c 0 0) (next t)
 
-pub pick-same : (q b : Bool) → cond q b b ≡ b
-pick-same true b = refl
-pick-same false b = refl
+stop-next : {t : List ℕ} → Stop t → isDigit (next t) ≡ false
+unfolding isDigit
+stop-next nil = refl
+stop-next (other e) = e
 
 pub run-of : (c : Ctrl) (r v : ℕ) → withDigit c r v .digits .run ≡ r
 unfolding withDigit
@@ -167,20 +167,15 @@ module _ (c : Ctrl) (w : List ℕ) where
   -- a run with a fault of its own
   pub faulty : (r v : ℕ) (k : Halt) (f : Refusal) {t : List ℕ} → (c .spot .field ≡ fieldEnd → ⊥) → (r ≡ 0 → ⊥) → Stop t → fault (withDigit c r v) w ≡ k → going k ≡ false
       → refusalOf k (c .line) ≡ Fault f → reading (withDigit c r v) w t ≡ refused f
-  unfolding reading told feed lastFault endFault ended settled withDigit closed
-  faulty r v k f h z nil e n q = simp (ne-eqb (c .spot .field) fieldEnd h, e, n, q)
-  faulty r v k f h z (other {b = b} {t = t} o) e n q =
-      moves (withDigit c r v) (stopped (withDigit c r v) k) w w b t (closes r v b z o ∙ simp (e, n)) ∙ stops (withDigit c r v) k f w t n q
+  unfolding withDigit closed
+  faulty r v k f {t} h z o e n q =
+      stops-at (withDigit c r v) (withDigit c r v) w w t k f h (closes r v (next t) z (stop-next o) ∙ simp (e, n)) n q
 
-  -- a run without a fault: the text must go on, and the byte is judged by `after`
-  pub sound-end : (r v : ℕ) → (c .spot .field ≡ fieldEnd → ⊥) → fault (withDigit c r v) w ≡ Going → reading (withDigit c r v) w [] ≡ refused (OffForm (c .line))
-  unfolding reading told feed lastFault endFault ended settled withDigit
-  sound-end r v h e = simp (ne-eqb (c .spot .field) fieldEnd h, e)
-
-  pub sound-byte : (r v b : ℕ) (t : List ℕ) → (r ≡ 0 → ⊥) → isDigit b ≡ false → fault (withDigit c r v) w ≡ Going
-      → reading (withDigit c r v) w (b ∷ t) ≡ reading (afterNumber (noted (withDigit c r v)) w b) (stored (withDigit c r v) w) t
+  -- a run without a fault: the number is kept, and then the byte judged
+  pub sound : (r v : ℕ) {t : List ℕ} → (r ≡ 0 → ⊥) → Stop t → fault (withDigit c r v) w ≡ Going
+      → byteRead (mk (withDigit c r v) w) (next t) ≡ mk (afterNumber (noted (withDigit c r v)) (stored (withDigit c r v) w) (next t)) (stored (withDigit c r v) w)
   unfolding closed
-  sound-byte r v b t z o e = moves (withDigit c r v) _ w _ b t (closes r v b z o ∙ simp e)
+  sound r v {t} z o e = closes r v (next t) z (stop-next o) ∙ simp e
 
   -- a run out of its range
   pub in-range : (r v : ℕ) → inRange (withDigit c r v) w ≡ fits v (getD leasts (c .spot .field) 0) (limit c w)
@@ -191,9 +186,10 @@ module _ (c : Ctrl) (w : List ℕ) where
   unfolding fault numberFault
   fault-range r v z e = rw (in-range r v ∙ e) (simp (run-of c r v, ne-eqb r 0 z))
 
-  empty-byte : (b : ℕ) (t : List ℕ) → isDigit b ≡ false → dashHere (withDigit c 0 0) b ≡ false → reading (withDigit c 0 0) w (b ∷ t) ≡ refused (OffForm (c .line))
+  -- no digit at all
+  empty : (t : List ℕ) → (c .spot .field ≡ fieldEnd → ⊥) → Stop t → beginsDash c t ≡ false → reading (withDigit c 0 0) w t ≡ refused (OffForm (c .line))
   unfolding byteRead live atNumber closed fault withDigit
-  empty-byte b t o d = moves (withDigit c 0 0) (stopped (withDigit c 0 0) Form) w w b t (simp (o, d)) ∙ off-form (withDigit c 0 0) w t
+  empty t h o d = stops-at (withDigit c 0 0) (withDigit c 0 0) w w t Form (OffForm (c .line)) h (simp (stop-next o, d)) refl refl
 
 module _ (c : Ctrl) (w : List ℕ) (h : c .spot .field ≡ fieldEnd → ⊥) (low : getD leasts (c .spot .field) 0 ≤ valueCap) (cap : limit c w ≤ valueCap)
     (p : ℕ → Part) (T : Tables) (k : Rest)
@@ -228,7 +224,7 @@ module _ (c : Ctrl) (w : List ℕ) (h : c .spot .field ≡ fieldEnd → ⊥) (lo
 
   pub number-ok : (t : List ℕ) → Bytes t → beginsDash c t ≡ false → reading (withDigit c 0 0) w t ≡ numeral (getD leasts (c .spot .field) 0) (limit c w) p t (c .line) T k
   unfolding lo withDigit
-  number-ok [] a d = cut-short (withDigit c 0 0) w refl h refl ∙ sym (number-off lo (limit c w) p (c .line) T k [] formed-nil)
+  number-ok [] a d = empty c w [] h nil d ∙ sym (number-off lo (limit c w) p (c .line) T k [] formed-nil)
   number-ok (b ∷ t) (byte y a) d = split (isDigit b) refl
     where
       state : (q : isDigit b ≡ true) → reading (withDigit c 0 0) w (b ∷ t) ≡ reading (withDigit c (runWith 0 (b - 48)) (more 0 (b - 48))) w t
@@ -254,4 +250,4 @@ module _ (c : Ctrl) (w : List ℕ) (h : c .spot .field ≡ fieldEnd → ⊥) (lo
 
       split : (q : Bool) → isDigit b ≡ q → reading (withDigit c 0 0) w (b ∷ t) ≡ numeral lo (limit c w) p (b ∷ t) (c .line) T k
       split true q = lead (eqb b 48) refl q
-      split false q = empty-byte c w b t q d ∙ sym (number-off lo (limit c w) p (c .line) T k (b ∷ t) (formed-off b t q))
+      split false q = empty c w (b ∷ t) h (other q) d ∙ sym (number-off lo (limit c w) p (c .line) T k (b ∷ t) (formed-off b t q))

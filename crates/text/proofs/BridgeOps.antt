@@ -1,14 +1,21 @@
--- The goal, the operators and lines of the same kind, read as the grammar says. Assumes nothing.
+-- The goal, the operators and lines of the same kind, read as the grammar says. A list of facts is ended by a mark; before that of an operator's effects the machine
+-- asks its area, and the grammar its tables, whether the operator is idle. Assumes nothing.
 use Prim.Native.Nat.{ℕ, zero, suc, _+_, _≤_, _<_, zero-le}
 use native.Mathlib.Omega.{arith}
 use mathlib.Core.Path.{_≡_, refl, sym, ap, _∙_}
 use mathlib.Core.List.{List, [], _∷_}
-use mathlib.Core.Bool.{Bool, true, false, cond}
+use mathlib.Core.Bool.{Bool, true, false, not, cond}
 use lib.Dec.{ltb, eqb}
 use borrow.Author.Tests.{eq-eqb, ne-eqb, lt-ltb, le-ltb}
+use Rattle.refusals.specs.declared.Refusal.the-variants.{IdleOperator}
 use Rattle.tables.specs.declared.Counts.{Counts}
 use Rattle.tables.specs.Layout.{Tables, goalPlace, prePlace, effPlace}
+use Rattle.tables.specs.Steps.{isIdle}
+use Rattle.tables.specs.Task.{sasOf}
+use Rattle.meaning.specs.Views.{idle}
+use Rattle.scan.specs.declared.Found.the-variants.{Fault}
 use Rattle.text.specs.declared.Ctrl.{Ctrl}
+use Rattle.text.specs.declared.Halt.the-variants.{Idle}
 use Rattle.grammar.specs.Fields.{lineEnd, semicolon, bytesOf, dash}
 use Rattle.grammar.specs.Grammar.{
   Rest,
@@ -16,6 +23,7 @@ use Rattle.grammar.specs.Grammar.{
   _▸_,
   ask,
   keep,
+  demand,
   lit,
   endOfLine,
   textLine,
@@ -28,14 +36,14 @@ use Rattle.grammar.specs.Grammar.{
   opLines,
 }
 use Rattle.text.specs.Inside.Area.{putWord, costByte}
-use Rattle.text.specs.Inside.Control.{up, partBegun, due, opened, withDigit, dashed, toLine, rowOr, nextLine, countCap}
+use Rattle.text.specs.Inside.Control.{going, up, stopped, partBegun, due, opened, withDigit, dashed, toLine, rowOr, nextLine, countCap}
 use Rattle.text.specs.Inside.Control.{fieldGoalVar, fieldGoalVal, fieldOps, fieldCost, fieldPreVar, fieldPreVal, fieldEffVar, fieldEffVal, fieldMaps}
 use Rattle.text.specs.Inside.Fields.{keyByte, limit, countsWith, seenWith, noted, stored, kind}
-use Rattle.text.specs.Inside.Steps.{listEnd, afterValue, afterNumber, dashHere}
-use Rattle.text.proofs.BridgeReading.{tablesOf, reading, Bytes, kw, spelled, key-ok}
+use Rattle.text.specs.Inside.Steps.{mark, idleHere, listEnd, afterValue, afterNumber, dashHere, noByte}
+use Rattle.text.proofs.BridgeReading.{tablesOf, reading, Bytes, bytes-drop, next, behind, stops, at-mark, kw, spelled, key-ok}
 use Rattle.grammar.proofs.Runs.{within-both}
-use Rattle.text.proofs.BridgeArea.{cost-kept}
-use Rattle.text.proofs.BridgeRows.{num, then-mark, no-fault, Fits, Known, known-put3, ofVar, ofRow, fromVar}
+use Rattle.text.proofs.BridgeArea.{cost-kept, idle-of}
+use Rattle.text.proofs.BridgeRows.{then-mark, no-fault, Fits, Known, known-put3, ofVar, ofRow, fromVar}
 use Rattle.text.proofs.BridgeLines.{eol, bare, single-ok}
 use Rattle.text.proofs.BridgeFacts.{number-at, FactList, list-ok}
 use Rattle.tables.specs.Lines.{lineOfGoal, lineOfOps, lineOfOp, lineOfMaps}
@@ -45,9 +53,48 @@ pick-self : (q : Bool) → cond q true false ≡ q
 pick-self true = refl
 pick-self false = refl
 
+-- the line after a row's: another of the same field f while rows are left, else field g
+abbrev pub afterRow : ℕ → ℕ → ℕ → ℕ → ℕ → Counts → Ctrl
+afterRow l f g r N n = cond (ltb (up r) N) (kw (up l) f (up r) n 0) (kw (up l) g 0 n 0)
+
+-- ---- where a list of facts is over: the mark x, and then d is the control
+abbrev byMark : ℕ → Ctrl → Ctrl → List ℕ → ℕ → Ctrl
+byMark x d c w b = mark c b x d
+
+mark-ends : (n : Counts) (x : ℕ) (d : Ctrl) (l : ℕ) (k : Rest) → eqb noByte x ≡ false
+    → ((w : List ℕ) → Known (n .vars) w → (t : List ℕ) → Bytes t → reading d w t ≡ k t l (tablesOf n w))
+    → (c : Ctrl) → c .line ≡ l → (w : List ℕ) → Known (n .vars) w → (t : List ℕ) → Bytes t → reading (byMark x d c w (next t)) w (behind t) ≡ lit (x ∷ []) t l (tablesOf n w) k
+unfolding lit
+mark-ends n x d l k q ok c e w p t a = at-mark c d w l x [] t (tablesOf n w) k e q (λ z. ok w p (behind t) (bytes-drop 1 a))
+
+-- an operator's effects: before their mark it is told that the operator is idle
+abbrev unlessIdle : ℕ → ℕ → Counts → Ctrl → List ℕ → ℕ → Ctrl
+unlessIdle l r n c w b = cond (isIdle (n .vars) w r) (stopped c Idle) (mark c b lineEnd (afterRow l fieldCost fieldMaps r (n .ops) n))
+
+effects-stop : (l r : ℕ) (n : Counts) (c : Ctrl) (w : List ℕ) → going (unlessIdle l r n c w noByte .halt) ≡ false
+unfolding mark stopped
+effects-stop l r n c w = split (isIdle (n .vars) w r)
+  where
+    split : (q : Bool) → going (cond q (stopped c Idle) (mark c noByte lineEnd (afterRow l fieldCost fieldMaps r (n .ops) n)) .halt) ≡ false
+    split true = refl
+    split false = refl
+
+effects-end : (l r : ℕ) (n : Counts) → Fits n → r < 64 → (k : Rest)
+    → ((w : List ℕ) → Known (n .vars) w → (t : List ℕ) → Bytes t → reading (afterRow l fieldCost fieldMaps r (n .ops) n) w t ≡ k t (l + 1) (tablesOf n w))
+    → (c : Ctrl) → c .line ≡ l → (w : List ℕ) → Known (n .vars) w → (t : List ℕ) → Bytes t
+    → reading (unlessIdle l r n c w (next t)) w (behind t) ≡ demand (not (idle (sasOf (tablesOf n w)) r)) IdleOperator t l (tablesOf n w) (eol k)
+unfolding demand
+effects-end l r n sized h k ok c e w p t a =
+    split (isIdle (n .vars) w r) ∙ ap (λ (q : Bool). demand (not q) IdleOperator t l (tablesOf n w) (eol k)) (idle-of n w r (sized .high) h)
+  where
+    split : (q : Bool) → reading (cond q (stopped c Idle) (mark c (next t) lineEnd (afterRow l fieldCost fieldMaps r (n .ops) n))) w (behind t)
+        ≡ demand (not q) IdleOperator t l (tablesOf n w) (eol k)
+    split true = stops c Idle (IdleOperator l) w (behind t) refl (ap (λ (m : ℕ). Fault (IdleOperator m)) e)
+    split false = mark-ends n lineEnd (afterRow l fieldCost fieldMaps r (n .ops) n) l (λ u m U. k u (m + 1) U) refl ok c e w p t a
+
 -- ---- the three lists of facts: the goal's, and an operator's preconditions and effects
-goal-list : (n : Counts) → FactList lineOfGoal fieldGoalVar fieldGoalVal 0 n goalPlace lineEnd (kw lineOfOps fieldOps 0 n 0)
-unfolding limit stored withDigit noted afterNumber kind afterValue listEnd nextLine toLine due dashHere dashed partBegun seenWith countsWith
+goal-list : (n : Counts) → FactList lineOfGoal fieldGoalVar fieldGoalVal 0 n goalPlace (byMark lineEnd (kw lineOfOps fieldOps 0 n 0))
+unfolding limit stored withDigit noted afterNumber kind afterValue listEnd idleHere mark stopped nextLine toLine due dashHere dashed partBegun seenWith countsWith
 goal-list n =
     record {
       var-goes = λ z. omega arith;
@@ -64,12 +111,13 @@ goal-list n =
       val-after = λ v z y b w. refl;
       val-bare = λ v t. bare (ofVar lineOfGoal fieldGoalVal v 0 n) t refl;
       var-dash = λ b. pick-self (eqb b dash);
-      dash-ends = λ b. refl;
+      dash-after = λ b w. refl;
+      over-stops = λ c w. refl;
       room = λ v q. (omega arith, omega arith);
     }
 
-pre-list : (l r : ℕ) (n : Counts) → r < 64 → FactList l fieldPreVar fieldPreVal r n (prePlace r) semicolon (fromVar l fieldEffVar 0 r n)
-unfolding limit stored withDigit noted afterNumber kind afterValue listEnd due dashHere dashed partBegun seenWith countsWith
+pre-list : (l r : ℕ) (n : Counts) → r < 64 → FactList l fieldPreVar fieldPreVal r n (prePlace r) (byMark semicolon (fromVar l fieldEffVar 0 r n))
+unfolding limit stored withDigit noted afterNumber kind afterValue listEnd mark stopped due dashHere dashed partBegun seenWith countsWith
 pre-list l r n h =
     record {
       var-goes = λ z. omega arith;
@@ -86,16 +134,13 @@ pre-list l r n h =
       val-after = λ v z y b w. refl;
       val-bare = λ v t. bare (ofVar l fieldPreVal v r n) t refl;
       var-dash = λ b. pick-self (eqb b dash);
-      dash-ends = λ b. refl;
+      dash-after = λ b w. refl;
+      over-stops = λ c w. refl;
       room = λ v q. (omega arith, omega arith);
     }
 
--- the line after a row's: another of the same field f while rows are left, else field g
-abbrev pub afterRow : ℕ → ℕ → ℕ → ℕ → ℕ → Counts → Ctrl
-afterRow l f g r N n = cond (ltb (up r) N) (kw (up l) f (up r) n 0) (kw (up l) g 0 n 0)
-
-eff-list : (l r : ℕ) (n : Counts) → r < 64 → FactList l fieldEffVar fieldEffVal r n (effPlace r) lineEnd (afterRow l fieldCost fieldMaps r (n .ops) n)
-unfolding limit stored withDigit noted afterNumber kind afterValue listEnd nextLine toLine rowOr due dashHere dashed partBegun seenWith countsWith
+eff-list : (l r : ℕ) (n : Counts) → r < 64 → FactList l fieldEffVar fieldEffVal r n (effPlace r) (unlessIdle l r n)
+unfolding limit stored withDigit noted afterNumber kind afterValue listEnd idleHere nextLine toLine rowOr due dashHere dashed partBegun seenWith countsWith
 eff-list l r n h =
     record {
       var-goes = λ z. omega arith;
@@ -112,7 +157,8 @@ eff-list l r n h =
       val-after = λ v z y b w. refl;
       val-bare = λ v t. bare (ofVar l fieldEffVal v r n) t refl;
       var-dash = λ b. pick-self (eqb b dash);
-      dash-ends = λ b. refl;
+      dash-after = λ b w. refl;
+      over-stops = effects-stop l r n;
       room = λ v q. (omega arith, omega arith);
     }
 
@@ -123,7 +169,7 @@ pub goal-ok : (n : Counts) → Fits n → (w : List ℕ) → Known (n .vars) w �
 unfolding goalLine textLine endOfLine _▸_ opened partBegun spelled keyByte
 goal-ok n sized w p k ok =
     key-ok lineOfGoal fieldGoalVar 0 n w (λ z. omega arith) (tablesOf n w) _
-    (list-ok lineOfGoal fieldGoalVar fieldGoalVal 0 n goalPlace lineEnd (kw lineOfOps fieldOps 0 n 0) (goal-list n) sized (λ u m U. k u (m + 1) U) ok w p)
+    (list-ok lineOfGoal fieldGoalVar fieldGoalVal 0 n goalPlace _ (goal-list n) sized (eol k) (mark-ends n lineEnd _ lineOfGoal (λ u m U. k u (m + 1) U) refl ok) w p)
     0 (bytesOf "goal=") refl
 
 -- ops=
@@ -137,7 +183,7 @@ unfolding opsLine textLine endOfLine _▸_ keep opened partBegun limit stored wi
 ops-ok n w k ok =
     key-ok lineOfOps fieldOps 0 n w (λ z. omega arith) (tablesOf n w) _
     (single-ok lineOfOps fieldOps n w (λ z. omega arith) (λ z. omega arith) (omega arith) (omega arith) refl
-    (λ v T. withCounts (T .counts .vars) v (T .counts .maps) T) k (λ v. kw (lineOfOp 0) (cond (eqb v 0) fieldMaps fieldCost) 0 (withOps v n) 0) (λ z v. refl) (λ z v b. refl)
+    (λ v T. withCounts (T .counts .vars) v (T .counts .maps) T) k (λ v. kw (lineOfOp 0) (cond (eqb v 0) fieldMaps fieldCost) 0 (withOps v n) 0) (λ z v. refl) (λ z v b u. refl)
     (λ v q. let g = within-both v 0 65 q in ok v (omega arith)))
     0 (bytesOf "ops=") refl
 
@@ -145,24 +191,34 @@ ops-ok n w k ok =
 operator-ok : (l r : ℕ) (n : Counts) → Fits n → r < 64 → (w : List ℕ) → Known (n .vars) w → (k : Rest)
     → ((u : List ℕ) → Known (n .vars) u → (t : List ℕ) → Bytes t → reading (afterRow l fieldCost fieldMaps r (n .ops) n) u t ≡ k t (l + 1) (tablesOf n u))
     → (t : List ℕ) → Bytes t → reading (kw l fieldCost r n 0) w t ≡ textLine "op=" (operatorFields r) t l (tablesOf n w) k
-unfolding textLine operatorFields endOfLine _▸_ keep opened partBegun limit stored withDigit noted afterNumber kind due spelled keyByte seenWith countsWith
+unfolding textLine operatorFields endOfLine _▸_ ask keep opened partBegun limit stored withDigit noted afterNumber kind due spelled keyByte seenWith countsWith
 operator-ok l r n sized h w p k ok =
     key-ok l fieldCost r n w (λ z. omega arith) (tablesOf n w) _
     (λ t a.
     number-at (ofRow l fieldCost r n) w 0 (mostCost + 1) refl refl (λ z. omega arith) (omega arith) (omega arith) _ (tablesOf n w) _
     (λ z v u y o b s q.
     let x = sized .high in
-    then-mark (ofRow l fieldCost r n) w z v semicolon (fromVar l fieldPreVar 0 r n) _ _ (λ i. omega arith) y
+    then-mark (ofRow l fieldCost r n) w z v semicolon (fromVar l fieldPreVar 0 r n) (tablesOf n (putWord w (costByte r) v)) pres refl (λ i. omega arith) y
     (no-fault (ofRow l fieldCost r n) w z v y (λ i. omega arith) s zero-le)
     (λ i. refl)
-    (list-ok l fieldPreVar fieldPreVal r n (prePlace r) semicolon (fromVar l fieldEffVar 0 r n) (pre-list l r n h) sized (λ u₁ m₁ U. factList (effPlace r) u₁ m₁ U (eol k))
-    (list-ok l fieldEffVar fieldEffVal r n (effPlace r) lineEnd (afterRow l fieldCost fieldMaps r (n .ops) n) (eff-list l r n h) sized (λ u₁ m₁ U. k u₁ (m₁ + 1) U) ok)
-    (putWord w (costByte r) v) (known-put3 p (costByte r) v (omega arith)))
+    (pres-ok (putWord w (costByte r) v) (known-put3 p (costByte r) v (omega arith)))
     o b
-    ∙ ap (λ (T : Tables). lit (semicolon ∷ []) u l T (λ u₁ m₁ U. factList (prePlace r) u₁ m₁ U (λ u₂ m₂ U₂. lit (semicolon ∷ []) u₂ m₂ U₂ (λ u₃ m₃ U₃. factList (effPlace r) u₃ m₃ U₃ (eol k)))))
-    (cost-kept n w (p .long) r v h (omega (arith, within-both v 0 (mostCost + 1) q))))
+    ∙ ap (λ (T : Tables). lit (semicolon ∷ []) u l T pres) (cost-kept n w (p .long) r v h (omega (arith, within-both v 0 (mostCost + 1) q))))
     t a (bare (ofRow l fieldCost r n) t refl))
     0 (bytesOf "op=") refl
+  where
+    -- what stands from the effects on, and from the preconditions on
+    effs : Rest
+    effs u m U = factList (effPlace r) u m U (λ u₁ m₁ U₁. demand (not (idle (sasOf U₁) r)) IdleOperator u₁ m₁ U₁ (eol k))
+
+    pres : Rest
+    pres u m U = factList (prePlace r) u m U (λ u₁ m₁ U₁. lit (semicolon ∷ []) u₁ m₁ U₁ effs)
+
+    effs-ok : (u : List ℕ) → Known (n .vars) u → (t : List ℕ) → Bytes t → reading (fromVar l fieldEffVar 0 r n) u t ≡ effs t l (tablesOf n u)
+    effs-ok = list-ok l fieldEffVar fieldEffVal r n (effPlace r) _ (eff-list l r n h) sized _ (effects-end l r n sized h k ok)
+
+    pres-ok : (u : List ℕ) → Known (n .vars) u → (t : List ℕ) → Bytes t → reading (fromVar l fieldPreVar 0 r n) u t ≡ pres t l (tablesOf n u)
+    pres-ok = list-ok l fieldPreVar fieldPreVal r n (prePlace r) _ (pre-list l r n h) sized _ (mark-ends n semicolon _ l effs refl effs-ok)
 
 -- ---- lines of one kind: N rows of field f, each read by `one`, up to line E, where field g follows
 module _ (f g N E : ℕ) (n : Counts) (j : ℕ) (p : ℕ → Part) (k : Rest) (few : N ≤ 64) (low : E < countCap)

@@ -14,12 +14,12 @@ use Rattle.text.specs.declared.Halt.the-variants.{Going, Order}
 use Rattle.grammar.specs.Fields.{comma}
 use Rattle.grammar.specs.Grammar.{Rest, _▸_, keep, lit, fits, numeral, parted, numberRow}
 use Rattle.text.specs.Inside.Area.{areaRoom, putByte, putWord, domIn}
-use Rattle.text.specs.Inside.Control.{partNumber, going, spotAt, noDigits, turnOf, seenOf, withDigit, fieldClass, fieldShare, fieldEnd, noneSeen}
+use Rattle.text.specs.Inside.Control.{mk, partNumber, going, spotAt, noDigits, turnOf, seenOf, withDigit, fieldClass, fieldShare, fieldEnd, noneSeen}
 use Rattle.text.specs.Inside.Fields.{leasts, limit, numberFault, countsWith, seenWith, noted, lastClass, before, fault, stored}
-use Rattle.text.specs.Inside.Steps.{mark, afterNumber, valueCap}
-use Rattle.text.proofs.BridgeReading.{tablesOf, reading, Bytes, byte, marked}
-use Rattle.grammar.proofs.Runs.{Stop, nil, other}
-use Rattle.text.proofs.BridgeNumbers.{beginsDash, sound-end, sound-byte, in-range, run-of, number-ok}
+use Rattle.text.specs.Inside.Steps.{mark, afterNumber, noByte, valueCap}
+use Rattle.text.proofs.BridgeReading.{tablesOf, reading, Bytes, bytes-drop, next, behind, marked}
+use Rattle.grammar.proofs.Runs.{Stop}
+use Rattle.text.proofs.BridgeNumbers.{beginsDash, sound, in-range, run-of, number-ok}
 use Rattle.text.proofs.BridgeArea.{put-getD, put-same, put-length, put3-length, put3-getD}
 use Rattle.text.specs.declared.Turn.{Turn}
 use Rattle.text.specs.declared.Seen.{Seen}
@@ -54,16 +54,16 @@ abbrev pub aShare : ℕ → ℕ → ℕ → Counts → Ctrl
 aShare l i r n = ofItem l fieldShare 0 i r n
 
 -- ---- the mark after a number without a fault
-pub then-mark : (c : Ctrl) (w : List ℕ) (r v x : ℕ) (d : Ctrl) (T : Tables) (k : Rest) → (c .spot .field ≡ fieldEnd → ⊥) → (r ≡ 0 → ⊥) → fault (withDigit c r v) w ≡ Going
-    → ((b : ℕ) → afterNumber (noted (withDigit c r v)) w b ≡ mark (noted (withDigit c r v)) b x d)
+pub then-mark : (c : Ctrl) (w : List ℕ) (r v x : ℕ) (d : Ctrl) (T : Tables) (k : Rest) → eqb noByte x ≡ false → (c .spot .field ≡ fieldEnd → ⊥) → (r ≡ 0 → ⊥)
+    → fault (withDigit c r v) w ≡ Going
+    → ((b : ℕ) → afterNumber (noted (withDigit c r v)) (stored (withDigit c r v) w) b ≡ mark (noted (withDigit c r v)) b x d)
     → ((t : List ℕ) → Bytes t → reading d (stored (withDigit c r v) w) t ≡ k t (c .line) T)
     → {t : List ℕ} → Stop t → Bytes t → reading (withDigit c r v) w t ≡ lit (x ∷ []) t (c .line) T k
 unfolding lit noted withDigit seenWith countsWith
-then-mark c w r v x d T k h z e goes ok nil a = sound-end c w r v h e
-then-mark c w r v x d T k h z e goes ok (other {b = b} {t = t} o) (byte y a) =
-    sound-byte c w r v b t z o e
-    ∙ ap (λ (y : Ctrl). reading y (stored (withDigit c r v) w) t) (goes b)
-    ∙ marked (noted (withDigit c r v)) d (stored (withDigit c r v) w) b x [] t T k (λ q. ok t a)
+then-mark c w r v x d T k n h z e goes ok {t} o a =
+    marked (withDigit c r v) (noted (withDigit c r v)) d w (stored (withDigit c r v) w) x [] t T k h n
+    (sound c w r v z o e ∙ ap (λ (y : Ctrl). mk y (stored (withDigit c r v) w)) (goes (next t)))
+    (λ q. ok (behind t) (bytes-drop 1 a))
 
 pub judged-in : (c : Ctrl) (w : List ℕ) (r v : ℕ) → fits v (getD leasts (c .spot .field) 0) (limit c w) ≡ true → numberFault (withDigit c r v) w ≡ cond (leb (c .turn .least) v) Going Order
 unfolding numberFault withDigit
@@ -159,8 +159,8 @@ module _ (l f r : ℕ) (n : Counts) (vi it : ℕ → ℕ) (N : ℕ) (h : f ≡ f
       (λ z v u y o b s.
       let s₁ : fits v (getD leasts f 0) (lim i (tablesOf n w)) ≡ true = rw (q .0) at s in
       let d = kept i z v w g p s₁ in
-      then-mark (ofItem l f (vi i) (it i) r n) w z v comma _ _ (λ u₁ m₁ U. numberRow (getD leasts f 0) lim keeps (suc m) (i + 1) u₁ m₁ U k) h y
-      (no-fault (ofItem l f (vi i) (it i) r n) w z v y c s zero-le) (λ x. more i z v x w (omega arith))
+      then-mark (ofItem l f (vi i) (it i) r n) w z v comma _ _ (λ u₁ m₁ U. numberRow (getD leasts f 0) lim keeps (suc m) (i + 1) u₁ m₁ U k) refl h y
+      (no-fault (ofItem l f (vi i) (it i) r n) w z v y c s zero-le) (λ x. more i z v x _ (omega arith))
       (λ u₁ b₁. row-ok m (i + 1) (omega arith) _ (d .1) u₁ b₁) o b
       ∙ ap (λ (T : Tables). lit (comma ∷ []) u l T (λ u₁ m₁ U. numberRow (getD leasts f 0) lim keeps (suc m) (i + 1) u₁ m₁ U k)) (d .0))
       t a (bare i t)

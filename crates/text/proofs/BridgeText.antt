@@ -15,9 +15,9 @@ use Rattle.grammar.specs.Grammar.{Verdict, _▸_, domLine, initLine, goalLine, 
 use Rattle.text.specs.Inside.Area.{areaRoom, wordIn, threes, costsByte, sharesByte}
 use Rattle.text.specs.Inside.Control.{mk, start, stopped, St, fieldEdition, fieldDom, fieldMaps, fieldEnd}
 use Rattle.text.specs.Inside.Fields.{keyByte}
-use Rattle.text.specs.Inside.Steps.{inKey, live, byteRead, feed}
-use Rattle.text.specs.Inside.End.{ended, endFault, lastFault, written, leftBehind, machineEnd, machineRead, readAll}
-use Rattle.text.proofs.BridgeReading.{tablesOf, told, reading, Bytes, none, byte, off-form, moves, kw}
+use Rattle.text.specs.Inside.Steps.{inKey, live, byteRead, feed, ended}
+use Rattle.text.specs.Inside.End.{lastFault, written, leftBehind, machineEnd, machineRead, readAll}
+use Rattle.text.proofs.BridgeReading.{tablesOf, judged, told, reading, Bytes, none, byte, off-form, moves, kw}
 use Rattle.text.proofs.BridgeArea.{over-of}
 use Rattle.text.proofs.BridgeRows.{Fits, Known}
 use Rattle.text.proofs.BridgeLines.{edition-ok, vars-ok, dom-ok, init-ok, withVars}
@@ -31,7 +31,7 @@ unfolding byteRead live inKey keyByte
 stop-end l b n w h = rw (ne-eqb b 256 (λ q. omega arith))
 
 end-ok : (l : ℕ) (n : Counts) → Fits n → (w t : List ℕ) → Bytes t → reading (kw l fieldEnd 0 n 0) w t ≡ theEnd t l (tablesOf n w)
-unfolding reading told feed lastFault endFault ended theEnd tablesOf
+unfolding reading told judged feed lastFault ended theEnd tablesOf
 end-ok l n sized w [] a = ap (λ (o : Found). settled o (tablesOf n w)) (over-of (kw l fieldEnd 0 n 0) w n refl (sized .ops) (sized .maps))
 end-ok l n sized w (b ∷ t) (byte h a) = moves (kw l fieldEnd 0 n 0) (stopped (kw l fieldEnd 0 n 0) Form) w w b t (stop-end l b n w h) ∙ off-form (kw l fieldEnd 0 n 0) w t
 
@@ -102,12 +102,12 @@ verdict-is text a =
 
 -- ---- what is left behind
 machine-end-is : (s : St) (f c h : List ℕ) → machineEnd s f c h ≡ outcome (told s) f c h
-unfolding machineEnd told outcome settled written tablesOf
-machine-end-is s f c h = split (lastFault s)
+unfolding machineEnd told judged outcome settled written tablesOf
+machine-end-is s f c h = split (ended s) (lastFault (ended s))
   where
-    split : (d : Found) → leftBehind d s f c h ≡ outcome (settled d (tablesOf (s .ctrl .counts) (s .area))) f c h
-    split (Fault r) = refl
-    split Clean = refl
+    split : (e : St) (d : Found) → leftBehind d e f c h ≡ outcome (settled d (tablesOf (e .ctrl .counts) (e .area))) f c h
+    split e (Fault r) = refl
+    split e Clean = refl
 
 pub read-bytes : (text f c s : List ℕ) → Bytes text → readAll text f c s ≡ readText text f c s
 unfolding readAll machineRead readText reading

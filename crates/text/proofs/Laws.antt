@@ -6,10 +6,19 @@ use native.Mathlib.Numerals.{add-one}
 use mathlib.Core.Path.{_≡_, refl, ap}
 use lib.Dec.{eqb}
 use mathlib.Core.List.{List, [], _∷_}
-use lib.ListN.{length, getD, drop}
+use lib.ListN.{length, getD, take, drop}
 use lib.Seq.{drop-cons}
-use Rattle.text.specs.Inside.Control.{St}
-use Rattle.text.specs.Inside.Steps.{byteRead, feed}
+use Rattle.refusals.specs.declared.Refusal.{Refusal}
+use Rattle.tables.specs.Layout.{factsRoom, costsRoom, sharesRoom}
+use Rattle.scan.specs.declared.Found.{Found}
+use Rattle.scan.specs.declared.Found.the-variants.{Clean, Fault}
+use Rattle.grammar.specs.declared.Reading.the-variants.{Accepted, Refused}
+use Rattle.grammar.specs.Fields.{leaves, filled}
+use Rattle.text.specs.declared.Ctrl.{Ctrl}
+use Rattle.text.specs.Inside.Area.{threes, costsByte, sharesByte}
+use Rattle.text.specs.Inside.Control.{St, mk}
+use Rattle.text.specs.Inside.Steps.{byteRead, feed, ended}
+use Rattle.text.specs.Inside.End.{lastFault, written, machineEnd}
 
 -- within a list the default is not read
 pub getD-any : (l : List ℕ) (i d e : ℕ) → i < length l → getD l i d ≡ getD l i e
@@ -29,3 +38,14 @@ feed-next s t i h = rw (add-one, drop-cons t i 0)
 -- a test of a field that is known
 pub at-field : {f g : ℕ} (k : ℕ) → f ≡ g → eqb f k ≡ eqb g k
 at-field k h = ap (λ (x : ℕ). eqb x k) h
+
+-- what a text leaves behind whose end left the control c and the area w: nothing on a refusal, else the tables
+module _ (s : St) (c : Ctrl) (w facts costs shares : List ℕ) (o : Found) (read : mk c w ≡ ended s) (told : o ≡ lastFault (mk c w)) where
+  pub end-refused : (r : Refusal) → o ≡ Fault r → leaves (Refused r) facts costs shares ≡ machineEnd s facts costs shares
+  unfolding machineEnd
+  end-refused r e = rw (← read, ← told, e)
+
+  pub end-accepted : (f k h : List ℕ) → o ≡ Clean → f ≡ filled factsRoom (take factsRoom w) facts → k ≡ filled costsRoom (threes costsRoom costsByte w) costs
+      → h ≡ filled sharesRoom (threes sharesRoom sharesByte w) shares → leaves (Accepted (c .counts)) f k h ≡ machineEnd s facts costs shares
+  unfolding machineEnd written
+  end-accepted f k h e a b d = rw (← read, ← told, e, a, b, d)

@@ -68,6 +68,7 @@ pub fn goes_on(k: Halt) -> bool
         Halt::Order => false,
         Halt::Missing => false,
         Halt::States => false,
+        Halt::Idle => false,
     }
 }
 

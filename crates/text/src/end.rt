@@ -8,20 +8,18 @@ ghost use Rattle.meaning.specs.Split.{sum};
 ghost use Rattle.grammar.specs.Fields.{leaves};
 ghost use Rattle.text.specs.Inside.Area.{shareIn};
 ghost use Rattle.text.specs.Inside.Control.{mk};
-ghost use Rattle.text.specs.Inside.End.{over, ended, refusalOf, endFault, lastFault, machineEnd};
+ghost use Rattle.text.specs.Inside.End.{over, refusalOf, lastFault, machineEnd};
 ghost use Rattle.tables.specs.Task.{was, left};
 use crate::Ctrl;
 use crate::Halt;
 use crate::area::word_at;
-use crate::control::goes_on;
-use crate::fields::fault_of;
 use crate::fill::fill_bytes;
 use crate::fill::fill_words;
 use crate::names::COSTS_BYTE;
-use crate::names::FIELD_END;
 use crate::names::SHARES_BYTE;
 use crate::places::cost_byte;
 use crate::places::share_byte;
+use crate::step::end_text;
 use grammar::Reading;
 use meaning::OpNo;
 use meaning::limits::MAPS_MOST;
@@ -32,20 +30,6 @@ use tables::lines::op_line;
 use tables::readers::COSTS_ROOM;
 use tables::readers::FACTS_ROOM;
 use tables::readers::SHARES_ROOM;
-
-pub fn end_code(c: Ctrl, w: &[u8]) -> Halt
-    ensures { λ r. ⌜ r ≡ ended c (was w) ⌝ }
-{
-    let h = c.halt;
-    if !goes_on(h) {
-        return h;
-    }
-    if c.spot.field == FIELD_END {
-        return Halt::Going;
-    }
-    let k = fault_of(c, w);
-    if goes_on(k) { Halt::Form } else { k }
-}
 
 // What a reading that stopped in line l is refused with; nothing while it goes on.
 pub fn refusal_of(k: Halt, l: u32) -> Found
@@ -58,13 +42,8 @@ pub fn refusal_of(k: Halt, l: u32) -> Found
         Halt::Order => Found::Fault(Refusal::NotRising(l)),
         Halt::Missing => Found::Fault(Refusal::ClassMissing(l)),
         Halt::States => Found::Fault(Refusal::TooManyStates(l)),
+        Halt::Idle => Found::Fault(Refusal::IdleOperator(l)),
     }
-}
-
-pub fn end_fault(c: Ctrl, w: &[u8]) -> Found
-    ensures { λ r. ⌜ r ≡ endFault (mk c (was w)) ⌝ }
-{
-    refusal_of(end_code(c, w), c.line)
 }
 
 pub fn at_most(x: u32, n: u32) -> u32
@@ -107,7 +86,8 @@ pub fn over_fault(c: Ctrl, w: &[u8]) -> Found
 pub fn last_fault(c: Ctrl, w: &[u8]) -> Found
     ensures { λ r. ⌜ r ≡ lastFault (mk c (was w)) ⌝ }
 {
-    let found = end_fault(c, w);
+    let k = c.halt;
+    let found = refusal_of(k, c.line);
     let Found::Clean = found else {
         return found;
     };
@@ -115,17 +95,24 @@ pub fn last_fault(c: Ctrl, w: &[u8]) -> Found
 }
 
 // The end of the text: the answer, and the lent tables on acceptance only.
-pub fn finish(c: Ctrl, w: &[u8], facts: &mut [u8], costs: &mut [u32], shares: &mut [u32]) -> Reading
+pub fn finish(
+    c: Ctrl,
+    w: &mut [u8],
+    facts: &mut [u8],
+    costs: &mut [u32],
+    shares: &mut [u32],
+) -> Reading
     requires { ⌜ (factsRoom ≤ length (now w)) × (factsRoom ≤ length (now facts)) × (costsRoom ≤ length (now costs)) × (sharesRoom ≤ length (now shares)) ⌝ }
     ensures { λ r. ⌜ leaves r (left facts) (left costs) (left shares) ≡ machineEnd (mk c (was w)) (was facts) (was costs) (was shares) ⌝ }
 {
-    let found = last_fault(c, w);
+    let e = end_text(c, w);
+    let found = last_fault(e, w);
     if let Found::Fault(r) = found {
         return Reading::Refused(r);
     }
     fill_bytes(w, FACTS_ROOM, facts);
     fill_words(w, COSTS_ROOM, COSTS_BYTE, costs);
     fill_words(w, SHARES_ROOM, SHARES_BYTE, shares);
-    let n = c.counts;
+    let n = e.counts;
     Reading::Accepted(n)
 }

@@ -19,7 +19,7 @@ use grammar::Reading;
 use tables::Counts;
 use whole::read_by_machine;
 
-// Why a reading stopped: off form, out of range, not rising, a class missing, too many states.
+// Why a reading stopped: off form, out of range, not rising, a class missing, too many states, an idle operator.
 pub enum Halt {
     Going,
     Form,
@@ -27,6 +27,7 @@ pub enum Halt {
     Order,
     Missing,
     States,
+    Idle,
 }
 
 // Where in the text: the part of the line, the field, the place in its keyword, and the line's row among those of its kind.

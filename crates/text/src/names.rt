@@ -98,6 +98,9 @@ pub const ZERO: u32 = b'0' as u32;
 
 pub const NINE: u32 = b'9' as u32;
 
+// No byte: the end of the text is read as this.
+pub const NO_BYTE: u32 = 256;
+
 // The edition of the text.
 pub const EDITION: u32 = 1;
 

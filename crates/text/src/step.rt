@@ -10,6 +10,7 @@ ghost use Rattle.text.specs.Inside.Steps.{
   runWith,
   digitRead,
   mark,
+  idleHere,
   listEnd,
   afterClass,
   afterVar,
@@ -23,6 +24,7 @@ ghost use Rattle.text.specs.Inside.Steps.{
   live,
   byteRead,
   feed,
+  ended,
 };
 use crate::Ctrl;
 use crate::Halt;
@@ -53,9 +55,11 @@ use crate::mask::width_of;
 use crate::names::COLON;
 use crate::names::COMMA;
 use crate::names::DASH;
+use crate::names::EFF_LIST;
 use crate::names::EQUALS;
 use crate::names::FIELD_CLASS;
 use crate::names::FIELD_EFF_VAR;
+use crate::names::FIELD_END;
 use crate::names::FIELD_PRE_VAR;
 use crate::names::FIELD_SHARE;
 use crate::names::KIND_CLASS;
@@ -65,6 +69,7 @@ use crate::names::KIND_SHARE;
 use crate::names::KIND_VAL;
 use crate::names::KIND_VAR;
 use crate::names::LINE_END;
+use crate::names::NO_BYTE;
 use crate::names::PART_AFTER_DASH;
 use crate::names::PART_KEY;
 use crate::names::PART_NUMBER;
@@ -77,6 +82,8 @@ use crate::names::SLASH;
 use crate::names::VALUE_CAP;
 use crate::names::digit_of;
 use crate::names::is_digit;
+use meaning::OpNo;
+use tables::steps::is_idle;
 
 pub fn in_key(c: Ctrl, b: u32) -> Ctrl
     ensures { λ r. ⌜ r ≡ inKey c b ⌝ }
@@ -135,9 +142,20 @@ pub fn end_line(c: Ctrl, b: u32) -> Ctrl
     expect(c, b, LINE_END, next_line(c))
 }
 
-// The end of a list of facts: an operator's preconditions end in a semicolon, all others with their line.
-pub fn list_end(c: Ctrl, b: u32) -> Ctrl
-    ensures { λ r. ⌜ r ≡ listEnd c b ⌝ }
+// An operator's effects are over, and it is idle.
+pub fn idle_here(c: Ctrl, w: &[u8]) -> bool
+    ensures { λ r. ⌜ r ≡ idleHere c (was w) ⌝ }
+{
+    if list_of(c.spot.field) == EFF_LIST {
+        is_idle(c.counts.vars, w, OpNo(c.spot.row))
+    } else {
+        false
+    }
+}
+
+// The end of a list of facts: an operator's preconditions end in a semicolon, all others with their line; an idle operator is told before that.
+pub fn list_end(c: Ctrl, w: &[u8], b: u32) -> Ctrl
+    ensures { λ r. ⌜ r ≡ listEnd c (was w) b ⌝ }
 {
     if list_of(c.spot.field) == PRE_LIST {
         expect(
@@ -146,6 +164,8 @@ pub fn list_end(c: Ctrl, b: u32) -> Ctrl
             SEMICOLON,
             await_number(c, FIELD_EFF_VAR, FIRST_TURN, NONE_SEEN),
         )
+    } else if idle_here(c, w) {
+        stop(c, Halt::Idle)
     } else {
         end_line(c, b)
     }
@@ -218,8 +238,8 @@ pub fn field_before(f: u32) -> u32
     if 1 <= f { f - 1 } else { 0 }
 }
 
-pub fn after_value(c: Ctrl, b: u32) -> Ctrl
-    ensures { λ r. ⌜ r ≡ afterValue c b ⌝ }
+pub fn after_value(c: Ctrl, w: &[u8], b: u32) -> Ctrl
+    ensures { λ r. ⌜ r ≡ afterValue c (was w) b ⌝ }
 {
     if b == COMMA {
         await_number(
@@ -233,7 +253,7 @@ pub fn after_value(c: Ctrl, b: u32) -> Ctrl
             NONE_SEEN,
         )
     } else {
-        list_end(c, b)
+        list_end(c, w, b)
     }
 }
 
@@ -262,7 +282,7 @@ pub fn after_share(c: Ctrl, b: u32) -> Ctrl
     }
 }
 
-// The byte after a number that is kept.
+// The byte after a number, which is kept in the area.
 pub fn after_number(c: Ctrl, w: &[u8], b: u32) -> Ctrl
     ensures { λ r. ⌜ r ≡ afterNumber c (was w) b ⌝ }
 {
@@ -284,7 +304,7 @@ pub fn after_number(c: Ctrl, w: &[u8], b: u32) -> Ctrl
                 NONE_SEEN,
             ),
         ),
-        KIND_VAL => after_value(c, b),
+        KIND_VAL => after_value(c, w, b),
         KIND_COST => expect(
             c,
             b,
@@ -303,9 +323,8 @@ pub fn close_run(c: Ctrl, b: u32, w: &mut [u8]) -> Ctrl
 {
     let k = fault_of(c, w);
     if goes_on(k) {
-        let n = after_number(note(c), w, b);
         store(c, w);
-        n
+        after_number(note(c), w, b)
     } else {
         stop(c, k)
     }
@@ -357,21 +376,17 @@ pub fn live_step(c: Ctrl, b: u32, w: &mut [u8]) -> Ctrl
         return at_number(c, b, w);
     }
     if c.spot.part == PART_AFTER_DASH {
-        return list_end(c, b);
+        return list_end(c, w, b);
     }
     expect(c, b, DASH, take_dash(c))
 }
 
 // One byte; a reading that has stopped stays as it is.
-pub fn step_byte(c: Ctrl, b: u8, w: &mut [u8]) -> Ctrl
+pub fn step_byte(c: Ctrl, b: u32, w: &mut [u8]) -> Ctrl
     ensures { λ r. ⌜ mk r (left w) ≡ byteRead (mk c (was w)) b ⌝ }
 {
     let k = c.halt;
-    if goes_on(k) {
-        live_step(c, word(b), w)
-    } else {
-        c
-    }
+    if goes_on(k) { live_step(c, b, w) } else { c }
 }
 
 // A piece of the text.
@@ -381,8 +396,18 @@ pub fn feed_piece(c: Ctrl, s: &[u8], w: &mut [u8]) -> Ctrl
     let mut k = c;
     let mut i = 0;
     while i < s.len() {
-        k = step_byte(k, s[i], w);
+        k = step_byte(k, word(s[i]), w);
         i += 1;
     }
     k
+}
+
+// The end of the text: where not all lines were read it is as a byte that fits nowhere.
+pub fn end_text(c: Ctrl, w: &mut [u8]) -> Ctrl
+    ensures { λ r. ⌜ mk r (left w) ≡ ended (mk c (was w)) ⌝ }
+{
+    if c.spot.field == FIELD_END {
+        return c;
+    }
+    step_byte(c, NO_BYTE, w)
 }

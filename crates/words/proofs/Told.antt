@@ -58,6 +58,7 @@ refusalAt n p =
     ∷ refusal.RunFull p
     ∷ refusal.NoGoal p
     ∷ refusal.NotARun
+    ∷ refusal.IdleOperator p
     ∷ [])
     n refusal.TextTooLong
 
@@ -84,6 +85,7 @@ refusal-back (refusal.OtherOperator step) = (refl, refl, omega arith)
 refusal-back (refusal.RunFull step) = (refl, refl, omega arith)
 refusal-back (refusal.NoGoal steps) = (refl, refl, omega arith)
 refusal-back refusal.NotARun = (refl, refl, omega arith)
+refusal-back (refusal.IdleOperator line) = (refl, refl, omega arith)
 
 pub number-small : (r : Refusal) → numberOf r < 128
 number-small r = refusal-back r .2

@@ -1,25 +1,26 @@
 -- `lines_fault` meets its contract: each walk's rules passed so far are clean, and a break hands on the first fault of them all. Assumes nothing.
 use Prim.Native.Nat.{ℕ, _≤_, _-_}
-use mathlib.Core.Path.{_≡_, ap, sym, _∙_}
-use mathlib.Core.Bool.{Bool, true}
+use mathlib.Core.Path.{_≡_, refl, ap, sym, _∙_}
+use mathlib.Core.Bool.{Bool, true, not}
 use mathlib.Core.List.{List, []}
 use native.Mathlib.Omega.{arith}
 use borrow.Author.Needs.{needs}
 use borrow.Author.Tests.{not-true, not-false}
 use Rattle.refusals.specs.declared.Refusal.{Refusal}
-use Rattle.refusals.specs.declared.Refusal.the-variants.{OutOfRange}
-use Rattle.meaning.specs.Limits.{mostOps, mostMaps}
+use Rattle.refusals.specs.declared.Refusal.the-variants.{OutOfRange, IdleOperator}
+use Rattle.meaning.specs.Limits.{mostOps, mostCost, mostMaps}
 use Rattle.meaning.specs.Split.{Task}
 use Rattle.tables.specs.declared.Counts.{Counts}
 use Rattle.tables.specs.Lines.{lineOfOp}
 use Rattle.tables.specs.Task.{tables, taskOf}
+use Rattle.tables.proofs.Meant.{is-idle-is}
 use Rattle.scan.specs.declared.Found.{Found}
 use Rattle.scan.specs.declared.Found.the-variants.{Clean, Fault}
-use Rattle.scan.specs.Scan.{each, within, operatorFault, classesFault, mapFault}
+use Rattle.scan.specs.Scan.{unless, each, within, operatorFault, classesFault, mapFault}
 use Rattle.scan.specs.Inside.Parts.{factsFit, linesFault}
 use Rattle.scan.proofs.Walks.{tests, tests-more, tests-here, walk-none, walk-more, walk-here, walk-end}
 use Rattle.scan.proofs.Rules.{within-says, few-ops}
-use Rattle.scan.proofs.Decides.{cost-decides, facts-decide, operator-decides, count-decides, maps-decide}
+use Rattle.scan.proofs.Decides.{cost-decides, fact-decides, idle-decides, operator-decides, count-decides, maps-decide}
 use Rattle.scan.proofs.lines_fault.Statement.{statement}
 use Rattle.scan.proofs.lines_fault.Tie as tie
 
@@ -67,22 +68,29 @@ fit l = factsFit (l .before .before .before .before .args .facts .now) (l .loop 
 few : (l : AtOps) → task l .sas .ops ≤ mostOps
 few l = let x = l .before .before .before .before in few-ops (spelled (x .args .c) (x .args .facts .now) []) (x .pre)
 
--- ---- in an operator: a fault of it is the first of all; its cost is in range; then its facts decide
+-- ---- in an operator: a fault of it is the first of all; its cost is in range; then its facts decide, and then whether it is idle
 
-stops : (x : tie.After-op-line Facts μ-facts Ops μ-ops Maps μ-maps Scan μ-scan)
+stops : (x : tie.After-op-line Facts μ-facts Ops μ-ops Maps μ-maps Scan μ-scan) (r : ℕ → Refusal)
     → let l = x .before .before in
-    operatorFault (task l) (l .loop .o) ≡ Fault (said (l .loop .o) 0) → Fault (OutOfRange (x .op-line .result)) ≡ linesFault (task l)
-stops x h =
+    operatorFault (task l) (l .loop .o) ≡ Fault (r (lineOfOp (l .loop .o))) → Fault (r (x .op-line .result)) ≡ linesFault (task l)
+stops x r h =
     let l = x .before .before in
-    ap (λ (n : ℕ). Fault (OutOfRange n)) (x .op-line .ensures)
-    ∙ sym (operator-decides (task l) (l .loop .o) (said (l .loop .o) 0) (l .loop .inv .1) (x .before .loop-test .taken) h)
+    ap (λ (n : ℕ). Fault (r n)) (x .op-line .ensures)
+    ∙ sym (operator-decides (task l) (l .loop .o) (r (lineOfOp (l .loop .o))) (l .loop .inv .1) (x .before .loop-test .taken) h)
 
-facts : (x : tie.Else1 Facts μ-facts Ops μ-ops Maps μ-maps Scan μ-scan) (r : Found)
-    → let l = x .before .before .before .before in
-    each (tests (fit l) (said (l .loop .o))) (task l .sas .vars) 0 ≡ r → operatorFault (task l) (l .loop .o) ≡ r
-facts x r p =
-    let l = x .before .before .before .before in
-    facts-decide (task l) (l .loop .o) r (omega (arith, x .before .cost-at .ensures, x .if1 .left)) p
+cheap : (x : tie.Else1 Facts μ-facts Ops μ-ops Maps μ-maps Scan μ-scan) → let l = x .before .before .before .before in task l .sas .cost (l .loop .o) ≤ mostCost
+cheap x = omega (arith, x .before .cost-at .ensures, x .if1 .left)
+
+ended : (x : tie.After-is-idle Facts μ-facts Ops μ-ops Maps μ-maps Scan μ-scan)
+    → let l = x .before .before .before .before .before .before .before in
+    operatorFault (task l) (l .loop .o) ≡ unless (not (x .is-idle .result)) (IdleOperator (lineOfOp (l .loop .o)))
+ended x =
+    let i = x .before .before in
+    let l = i .before .before .before .before .before in
+    let a = l .before .before .before .before .args in
+    idle-decides (task l) (l .loop .o) (cheap (i .before))
+    (walk-end (tests (fit l) (said (l .loop .o))) (task l .sas .vars) (i .loop2 .v) (i .loop2 .inv .1) (omega arith) (omega arith))
+    (x .is-idle .ensures ∙ is-idle-is (tables (a .c) (a .facts .now) (a .costs .now) []) (l .loop .o))
 
 -- ---- after the operators: they are clean; after the count of maps: it is in range
 
@@ -91,8 +99,8 @@ operators x =
     let l = x .before in
     walk-end (operatorFault (task l)) (task l .sas .ops) (l .loop .o) (l .loop .inv .1) (omega arith) (omega arith)
 
-counted : (x : tie.Else3 Facts μ-facts Ops μ-ops Maps μ-maps Scan μ-scan) → within 1 mostMaps (task (x .before .before .before) .maps) ≡ true
-counted x = sym (x .before .lies-within .ensures) ∙ not-false (x .before .lies-within .result) (x .if3 .left)
+counted : (x : tie.Else4 Facts μ-facts Ops μ-ops Maps μ-maps Scan μ-scan) → within 1 mostMaps (task (x .before .before .before) .maps) ≡ true
+counted x = sym (x .before .lies-within .ensures) ∙ not-false (x .before .lies-within .result) (x .if4 .left)
 
 -- ---- the needs
 
@@ -105,10 +113,8 @@ loop2-again c =
 
 loop-again : tie.Need-loop-again Facts μ-facts Ops μ-ops Maps μ-maps Scan μ-scan
 loop-again c =
-    let i = c .before in
-    let l = i .before .before .before .before .before in
-    let fits = walk-end (tests (fit l) (said (l .loop .o))) (task l .sas .vars) (i .loop2 .v) (i .loop2 .inv .1) (omega arith) (omega arith) in
-    (omega arith, walk-more (operatorFault (task l)) (l .loop .o) (l .loop .inv .1) (facts (i .before) Clean fits))
+    let l = c .before .before .before .before .before .before .before .before in
+    (omega arith, walk-more (operatorFault (task l)) (l .loop .o) (l .loop .inv .1) (ended (c .before) ∙ rw (c .if3 .left) refl))
 
 map-fault-requires : tie.Need-map-fault-requires Facts μ-facts Ops μ-ops Maps μ-maps Scan μ-scan
 map-fault-requires c κs =
@@ -125,7 +131,7 @@ loop3-again c =
 returns : tie.Need-returns Facts μ-facts Ops μ-ops Maps μ-maps Scan μ-scan
 returns c =
     let x = c .before .before in
-    stops x (cost-decides (task (x .before .before)) (x .before .before .loop .o) (omega (arith, c .before .cost-at .ensures, c .if1 .taken)))
+    stops x OutOfRange (cost-decides (task (x .before .before)) (x .before .before .loop .o) (omega (arith, c .before .cost-at .ensures, c .if1 .taken)))
 
 returns-2 : tie.Need-returns-2 Facts μ-facts Ops μ-ops Maps μ-maps Scan μ-scan
 returns-2 c =
@@ -134,18 +140,21 @@ returns-2 c =
     let w = c .before .facts-fit in
     let no = sym (w .ensures) ∙ not-true (w .result) (c .if2 .taken) in
     let out = tests-here (fit l) (said (l .loop .o)) (task l .sas .vars) (i .loop2 .v) (i .loop2 .inv .1) (c .before .before .loop2-test .taken) no in
-    stops (i .before .before .before) (facts (i .before) (Fault (said (l .loop .o) 0)) out)
+    stops (i .before .before .before) OutOfRange (fact-decides (task l) (l .loop .o) (cheap (i .before)) (said (l .loop .o) 0) out)
 
 returns-3 : tie.Need-returns-3 Facts μ-facts Ops μ-ops Maps μ-maps Scan μ-scan
-returns-3 c =
+returns-3 c = stops (c .before .before .before .before .before .before) IdleOperator (ended (c .before) ∙ rw (c .if3 .taken) refl)
+
+returns-4 : tie.Need-returns-4 Facts μ-facts Ops μ-ops Maps μ-maps Scan μ-scan
+returns-4 c =
     let x = c .before .before .before in
     let w = c .before .before .lies-within in
     ap (λ (n : ℕ). Fault (OutOfRange n)) (c .maps-line .ensures)
-    ∙ sym (count-decides (task (x .before)) (operators x) (sym (w .ensures) ∙ not-true (w .result) (c .before .if3 .taken)))
+    ∙ sym (count-decides (task (x .before)) (operators x) (sym (w .ensures) ∙ not-true (w .result) (c .before .if4 .taken)))
 
-returns-4 : tie.Need-returns-4 Facts μ-facts Ops μ-ops Maps μ-maps Scan μ-scan
+returns-5 : tie.Need-returns-5 Facts μ-facts Ops μ-ops Maps μ-maps Scan μ-scan
 unfolding mapFault classesFault
-returns-4 c =
+returns-5 c =
     let i = c .before .before .before .before in
     let T = task (i .before .before .before .before) in
     let found = c .before .before .map-fault in
@@ -153,8 +162,8 @@ returns-4 c =
     let here = walk-here (mapFault T) (T .maps) (i .loop3 .m) (e .0 .0) (i .loop3 .inv .1) (c .before .before .before .loop3-test .taken) (sym (found .ensures) ∙ e .1) in
     sym (maps-decide T (operators (i .before .before .before)) (found .result) (counted (i .before)) (here ∙ sym (e .1)))
 
-returns-5 : tie.Need-returns-5 Facts μ-facts Ops μ-ops Maps μ-maps Scan μ-scan
-returns-5 c =
+returns-6 : tie.Need-returns-6 Facts μ-facts Ops μ-ops Maps μ-maps Scan μ-scan
+returns-6 c =
     let i = c .before in
     let T = task (i .before .before .before .before) in
     let all = walk-end (mapFault T) (T .maps) (i .loop3 .m) (i .loop3 .inv .1) (omega arith) (omega arith) in
@@ -181,6 +190,7 @@ lines-fault-spec =
     (λ c. search needs)
     (λ c. search needs)
     loop2-again
+    (λ c κs. search needs)
     (λ c. search needs)
     (λ c. search needs)
     loop-again
@@ -197,4 +207,5 @@ lines-fault-spec =
     returns-2
     returns-3
     returns-4
-    returns-5)
+    returns-5
+    returns-6)

@@ -9,7 +9,7 @@ use Rattle.text.specs.declared.Digits.{Digits}
 use Rattle.text.specs.declared.Turn.{Turn}
 use Rattle.text.specs.declared.Seen.{Seen}
 use Rattle.text.specs.declared.Halt.{Halt}
-use Rattle.text.specs.declared.Halt.the-variants.{Going, Form, Range, Order, Missing, States}
+use Rattle.text.specs.declared.Halt.the-variants.{Going, Form, Range, Order, Missing, States, Idle}
 
 -- the control beside the work area
 pub record St : Type 0 where
@@ -114,6 +114,7 @@ going Range = false
 going Order = false
 going Missing = false
 going States = false
+going Idle = false
 
 -- one more, for counts that stay far below a cap
 abbrev pub countCap : ℕ

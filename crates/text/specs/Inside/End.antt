@@ -1,9 +1,8 @@
 -- What the end of the text says, and the whole text by the machine.
 use Prim.Native.Nat.{ℕ, min}
 use mathlib.Core.List.{List}
-use mathlib.Core.Bool.{cond}
 use lib.ListN.{take, replicate}
-use lib.Dec.{eqb, leb}
+use lib.Dec.{leb}
 use Rattle.refusals.specs.declared.Refusal.the-variants.{
   OffForm,
   OutOfRange,
@@ -11,6 +10,7 @@ use Rattle.refusals.specs.declared.Refusal.the-variants.{
   ClassMissing,
   SharesAboveCost,
   TooManyStates,
+  IdleOperator,
 }
 use Rattle.meaning.specs.Limits.{mostOps, mostMaps}
 use Rattle.meaning.specs.Split.{sum}
@@ -21,20 +21,11 @@ use Rattle.scan.specs.declared.Found.{Found}
 use Rattle.scan.specs.declared.Found.the-variants.{Clean, Fault}
 use Rattle.grammar.specs.declared.Reading.the-variants.{Accepted, Refused}
 use Rattle.grammar.specs.Fields.{Outcome, leaves, filled, admitted}
-use Rattle.text.specs.declared.Ctrl.{Ctrl}
 use Rattle.text.specs.declared.Halt.{Halt}
-use Rattle.text.specs.declared.Halt.the-variants.{Going, Form, Range, Order, Missing, States}
+use Rattle.text.specs.declared.Halt.the-variants.{Going, Form, Range, Order, Missing, States, Idle}
 use Rattle.text.specs.Inside.Area.{threes, costsByte, sharesByte, costIn, shareIn, areaRoom}
-use Rattle.text.specs.Inside.Control.{St, mk, going, fieldEnd, start}
-use Rattle.text.specs.Inside.Fields.{fault}
-use Rattle.text.specs.Inside.Steps.{feed}
-
--- what stops the reading at the end of the text
-unfoldable pub ended : Ctrl → List ℕ → Halt
-ended c w =
-    cond (going (c .halt))
-    (cond (eqb (c .spot .field) fieldEnd) Going (cond (going (fault c w)) Form (fault c w)))
-    (c .halt)
+use Rattle.text.specs.Inside.Control.{St, mk, start}
+use Rattle.text.specs.Inside.Steps.{feed, ended}
 
 -- what a reading that stopped in line l is refused with; nothing while it goes on
 abbrev pub refusalOf : Halt → ℕ → Found
@@ -44,9 +35,7 @@ refusalOf Range l = Fault (OutOfRange l)
 refusalOf Order l = Fault (NotRising l)
 refusalOf Missing l = Fault (ClassMissing l)
 refusalOf States l = Fault (TooManyStates l)
-
-unfoldable pub endFault : St → Found
-endFault s = refusalOf (ended (s .ctrl) (s .area)) (s .ctrl .line)
+refusalOf Idle l = Fault (IdleOperator l)
 
 -- after all else: an operator's shares total at most its cost; a control of a text has no more than these counts
 unfoldable pub over : St → Found
@@ -57,7 +46,7 @@ over s =
     0
 
 unfoldable pub lastFault : St → Found
-lastFault s = endFault s then over s
+lastFault s = refusalOf (s .ctrl .halt) (s .ctrl .line) then over s
 
 -- the lent tables of an accepted task
 unfoldable pub written : St → List ℕ → List ℕ → List ℕ → Outcome
@@ -74,7 +63,7 @@ leftBehind Clean s f c h = written s f c h
 leftBehind (Fault r) s f c h = leaves (Refused r) f c h
 
 unfoldable pub machineEnd : St → List ℕ → List ℕ → List ℕ → Outcome
-machineEnd s f c h = leftBehind (lastFault s) s f c h
+machineEnd s f c h = leftBehind (lastFault (ended s)) (ended s) f c h
 
 -- a whole text by the machine: what it leaves behind, where it is admitted
 unfoldable pub machineRead : List ℕ → List ℕ → List ℕ → List ℕ → Outcome

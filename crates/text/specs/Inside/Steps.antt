@@ -6,7 +6,8 @@ use mathlib.Core.Bool.{Bool, false, cond}
 use lib.Dec.{eqb}
 use Rattle.grammar.specs.Fields.{isDigit, lineEnd, comma, dash, slash, colon, semicolon}
 use Rattle.text.specs.declared.Ctrl.{Ctrl}
-use Rattle.text.specs.declared.Halt.the-variants.{Form}
+use Rattle.tables.specs.Steps.{isIdle}
+use Rattle.text.specs.declared.Halt.the-variants.{Form, Idle}
 use Rattle.text.specs.Inside.Control.{
   St,
   mk,
@@ -25,6 +26,7 @@ use Rattle.text.specs.Inside.Control.{
   nextLine,
   listNo,
   preList,
+  effList,
   runNone,
   runZero,
   runOn,
@@ -35,6 +37,7 @@ use Rattle.text.specs.Inside.Control.{
   fieldEffVar,
   fieldClass,
   fieldShare,
+  fieldEnd,
 }
 use Rattle.text.specs.Inside.Fields.{
   keyByte,
@@ -81,10 +84,16 @@ digitRead c d =
 unfoldable pub mark : Ctrl → ℕ → ℕ → Ctrl → Ctrl
 mark c b x n = cond (eqb b x) n (stopped c Form)
 
--- the end of a list of facts, or of the dash that stands for an empty list
-unfoldable pub listEnd : Ctrl → ℕ → Ctrl
-listEnd c b =
-    cond (eqb (listNo (c .spot .field)) preList) (mark c b semicolon (due c fieldEffVar firstTurn noneSeen)) (mark c b lineEnd (nextLine c))
+-- an operator's effects are over, and it is idle
+unfoldable pub idleHere : Ctrl → List ℕ → Bool
+idleHere c w = cond (eqb (listNo (c .spot .field)) effList) (isIdle (c .counts .vars) w (c .spot .row)) false
+
+-- the end of a list of facts, or of the dash that stands for an empty list: an idle operator is told before the byte is judged
+unfoldable pub listEnd : Ctrl → List ℕ → ℕ → Ctrl
+listEnd c w b =
+    cond (eqb (listNo (c .spot .field)) preList)
+    (mark c b semicolon (due c fieldEffVar firstTurn noneSeen))
+    (cond (idleHere c w) (stopped c Idle) (mark c b lineEnd (nextLine c)))
 
 -- the byte after a class
 unfoldable pub afterClass : Ctrl → List ℕ → ℕ → Ctrl
@@ -101,9 +110,9 @@ afterVar c b =
     (mark c b lineEnd (nextLine c))
     (mark c b comma (due c (c .spot .field) (turnOf (up (c .turn .var)) 0 0) noneSeen))
 
-unfoldable pub afterValue : Ctrl → ℕ → Ctrl
-afterValue c b =
-    cond (eqb b comma) (due c (c .spot .field - 1) (turnOf 0 (up (c .turn .var)) 0) noneSeen) (listEnd c b)
+unfoldable pub afterValue : Ctrl → List ℕ → ℕ → Ctrl
+afterValue c w b =
+    cond (eqb b comma) (due c (c .spot .field - 1) (turnOf 0 (up (c .turn .var)) 0) noneSeen) (listEnd c w b)
 
 unfoldable pub afterShare : Ctrl → ℕ → Ctrl
 afterShare c b =
@@ -111,7 +120,7 @@ afterShare c b =
     (mark c b lineEnd (nextLine c))
     (mark c b comma (due c fieldShare (turnOf 0 0 (up (c .turn .item))) noneSeen))
 
--- the byte after a number that was kept
+-- the byte after a number, which is kept in the area
 unfoldable pub afterNumber : Ctrl → List ℕ → ℕ → Ctrl
 afterNumber c w b =
     cond (eqb (kind (c .spot .field)) kindRow)
@@ -119,7 +128,7 @@ afterNumber c w b =
     (cond (eqb (kind (c .spot .field)) kindVar)
     (mark c b colon (due c (up (c .spot .field)) (turnOf (c .digits .val) 0 0) noneSeen))
     (cond (eqb (kind (c .spot .field)) kindVal)
-    (afterValue c b)
+    (afterValue c w b)
     (cond (eqb (kind (c .spot .field)) kindCost)
     (mark c b semicolon (due c fieldPreVar firstTurn noneSeen))
     (cond (eqb (kind (c .spot .field)) kindClass)
@@ -129,7 +138,7 @@ afterNumber c w b =
 -- a byte that is no digit ends the run: its fault stops the reading, else the number is kept and the byte judged
 unfoldable pub closed : Ctrl → List ℕ → ℕ → St
 closed c w b =
-    cond (going (fault c w)) (mk (afterNumber (noted c) w b) (stored c w)) (mk (stopped c (fault c w)) w)
+    cond (going (fault c w)) (mk (afterNumber (noted c) (stored c w) b) (stored c w)) (mk (stopped c (fault c w)) w)
 
 -- a dash where a list of facts may begin: neither a digit of the number nor a fact of the list stands before
 abbrev pub nothingRead : Ctrl → Bool
@@ -148,7 +157,7 @@ live c w b =
     (mk (inKey c b) w)
     (cond (eqb (c .spot .part) partNumber)
     (atNumber c w b)
-    (cond (eqb (c .spot .part) partAfterDash) (mk (listEnd c b) w) (mk (mark c b dash (dashed c)) w)))
+    (cond (eqb (c .spot .part) partAfterDash) (mk (listEnd c w b) w) (mk (mark c b dash (dashed c)) w)))
 
 -- ONE BYTE; a reading that has stopped stays as it is
 unfoldable pub byteRead : St → ℕ → St
@@ -158,3 +167,10 @@ byteRead s b = cond (going (s .ctrl .halt)) (live (s .ctrl) (s .area) b) s
 unfoldable pub feed : St → List ℕ → St
 feed s [] = s
 feed s (b ∷ t) = feed (byteRead s b) t
+
+-- THE END OF THE TEXT: where not all lines were read it is as a byte that fits nowhere
+abbrev pub noByte : ℕ
+noByte = 256
+
+unfoldable pub ended : St → St
+ended s = cond (eqb (s .ctrl .spot .field) fieldEnd) s (byteRead s noByte)

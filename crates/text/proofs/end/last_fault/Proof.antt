@@ -8,11 +8,11 @@ use Rattle.text.proofs.end.last_fault.Tie as tie
 
 returns : tie.Need-returns
 unfolding lastFault
-returns c = let x = c .before .before .end-fault in hands-on _ _ (x .result) (c .enum-told2 .given .0 .0) (x .ensures) (c .enum-told2 .given .1)
+returns c = let x = c .before .before .refusal-of in hands-on _ _ (x .result) (c .enum-told2 .given .0 .0) (x .ensures) (c .enum-told2 .given .1)
 
 returns-2 : tie.Need-returns-2
 unfolding lastFault
-returns-2 c = let x = c .before .before .before .end-fault in c .over-fault .ensures ∙ goes-on _ _ (x .result) (x .ensures) (c .before .enum-told .given .1)
+returns-2 c = let x = c .before .before .before .refusal-of in c .over-fault .ensures ∙ goes-on _ _ (x .result) (x .ensures) (c .before .enum-told .given .1)
 
 pub last-fault-spec : {M : Type 1} → statement M
 last-fault-spec =

@@ -18,14 +18,18 @@ returns-5 c = simp (c .enum-told5 .given .1)
 returns-6 : tie.Need-returns-6
 returns-6 c = simp (c .enum-told6 .given .1)
 
+returns-7 : tie.Need-returns-7
+returns-7 c = simp (c .enum-told7 .given .1)
+
 pub refusal-of-spec : {M : Type 1} → statement M
 refusal-of-spec =
     tie.close
     (tie.spec
     (λ c. search needs) (λ c. search needs) (λ c. search needs) (λ c. search needs) (λ c. search needs)
-    (λ c. search needs) (λ c. search needs)
+    (λ c. search needs) (λ c. search needs) (λ c. search needs)
     returns-2
     returns-3
     returns-4
     returns-5
-    returns-6)
+    returns-6
+    returns-7)

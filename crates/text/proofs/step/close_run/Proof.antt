@@ -1,4 +1,4 @@
--- `text::step::close_run` meets its contract: the fault, or the number kept and the byte judged. Assumes nothing.
+-- `text::step::close_run` meets its contract: the fault, or the number kept and then the byte judged. Assumes nothing.
 use borrow.Author.Needs.{needs}
 use Rattle.text.specs.Inside.Steps.{closed}
 use Rattle.text.proofs.step.close_run.Statement.{statement}
@@ -7,11 +7,11 @@ use Rattle.text.proofs.step.close_run.Tie as tie
 returns : tie.Need-returns
 unfolding closed
 returns c =
-    let kept = c .before .before in
-    let judged = kept .before .before in
-    let sound = judged .before .before .before in
+    let noted = c .before .before in
+    let kept = noted .before .before .before in
+    let sound = kept .before .before in
     simp (← sound .before .before .fault-of .ensures, ← sound .before .goes-on .ensures, sound .if1 .taken)
-    (simp (← judged .before .before .note .ensures, judged .after-number .ensures, kept .store .ensures))
+    (simp (← kept .store .ensures, ← noted .note .ensures, c .after-number .ensures))
 
 pub close-run-spec : {M : Type 1} → statement M
 unfolding closed

@@ -2,7 +2,7 @@
 use Prim.Native.Nat.{_+_, _-_, _≤_}
 use Rattle.text.proofs.Laws.{feed-next}
 use Rattle.text.specs.Inside.Control.{mk, St}
-use Rattle.text.specs.Inside.Steps.{feed}
+use Rattle.text.specs.Inside.Steps.{byteRead, feed}
 use borrow.Author.Needs.{needs}
 use lib.ListN.{drop, drop-of-length-le, length}
 use mathlib.Core.Path.{_∙_, _≡_, ap, refl, sym}
@@ -19,10 +19,11 @@ abbrev μ-loop : tie.MeasureT-loop
 loop-again : tie.Need-loop-again Inv-loop μ-loop
 loop-again c =
     let read = c .before .before in
-    let run = read .before .before .before .before .loop in
-    let s = read .before .before .before .before .before .before .before .args .s .now in
-    let fed = ap (λ (x : St). feed x (drop (run .i + 1) s)) (read .step-byte .ensures) in
-    (omega arith, read .step-byte .kept .1 .1 .0 ∙ run .inv .1, fed ∙ feed-next _ s (run .i) (read .before .before .before .loop-test .taken) ∙ run .inv .2)
+    let byte = read .before .before in
+    let run = byte .before .before .before .loop in
+    let s = byte .before .before .before .before .before .before .args .s .now in
+    let fed = ap (λ (x : St). feed x (drop (run .i + 1) s)) (read .step-byte .ensures ∙ ap (byteRead _) (byte .word .ensures .0)) in
+    (omega arith, read .step-byte .kept .1 .1 .0 ∙ run .inv .1, fed ∙ feed-next _ s (run .i) (byte .before .before .loop-test .taken) ∙ run .inv .2)
 
 returns : tie.Need-returns Inv-loop μ-loop
 unfolding feed
@@ -40,6 +41,7 @@ feed-piece-spec =
     μ-loop
     (λ c. (omega arith, refl, refl))
     (λ c. omega arith)
+    (λ c κs. search needs)
     (λ c κs. search needs)
     (λ c. omega arith)
     (λ c. omega arith)

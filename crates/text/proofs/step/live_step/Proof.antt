@@ -23,7 +23,10 @@ live-step-spec =
     (λ c. search needs)
     (λ c. let n = c .before .before in simp (ne-eqb _ _ (n .before .before .before .before .if1 .left), eq-eqb _ _ (n .before .before .if2 .taken)) (n .at-number .ensures))
     (λ c κs. search needs)
-    (λ c. let n = c .before .before .before in simp (ne-eqb _ _ (n .before .before .if1 .left), ne-eqb _ _ (n .if2 .left), eq-eqb _ _ (c .before .if3 .taken), c .list-end .ensures))
+    (λ c. search needs)
+    (λ c.
+    let n = c .before .before .before .before in
+    simp (ne-eqb _ _ (n .before .before .if1 .left), ne-eqb _ _ (n .if2 .left), eq-eqb _ _ (c .before .before .if3 .taken), c .list-end .ensures))
     (λ c κs. search needs)
     (λ c κs. search needs)
     returns-4)

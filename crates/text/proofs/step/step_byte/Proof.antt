@@ -9,12 +9,12 @@ unfolding byteRead
 returns c =
     let x = c .before .before in
     let y = x .before .before in
-    simp (← y .before .before .goes-on .ensures, y .before .if1 .taken, ← y .word .ensures .0) (x .live-step .ensures)
+    simp (← y .before .goes-on .ensures, y .if1 .taken) (x .live-step .ensures)
 
 pub step-byte-spec : {M : Type 1} → statement M
 unfolding byteRead
 step-byte-spec =
     tie.close (tie.spec
-    (λ c κs. search needs) (λ c κs. search needs) (λ c κs. search needs) (λ c. search needs)
+    (λ c κs. search needs) (λ c κs. search needs) (λ c. search needs)
     returns
     (λ c. simp (← c .before .goes-on .ensures, c .if1 .left)))
