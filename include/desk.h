@@ -86,13 +86,14 @@ static inline int desk_is_refusal(desk_word w) { return desk_kind(w) >= 1 && des
 /* READS a task text of any bytes into the lent counts and tables.
  * DESK_DONE: counts has the numbers of variables, operators and maps; the tables hold the task's numbers, and 0 in
  * every place beyond.
- * Refusals: 8 (counts, then a table, too short), 1 (text above 16,384 bytes), then 2 to 7 as the text has them, at
- * their line. Nothing lent is altered. */
+ * Refusals: 8 (counts, then a table, too short), 1 (text above 16,384 bytes), then 2 to 7 and 18 (an idle operator:
+ * each of its effects, if it has any, stands among its preconditions) as the text has them, at their line. Nothing
+ * lent is altered. */
 desk_word desk_read(const uint8_t *text, size_t text_len, uint32_t *counts, size_t counts_len, uint8_t *facts,
                     size_t facts_len, uint32_t *costs, size_t costs_len, uint32_t *shares, size_t shares_len);
 
-/* CHECKS the lent tables by the rules of the text. DESK_DONE: they are a task's. Refusals: 8, then 3, 5, 6 and 7, at
- * the line that the same task's text would have. (2 and 4 are about text alone.) Each function below refuses faulty
+/* CHECKS the lent tables by the rules of the text. DESK_DONE: they are a task's. Refusals: 8, then 3, 5, 6, 7 and 18,
+ * at the line that the same task's text would have. (2 and 4 are about text alone.) Each function below refuses faulty
  * tables with the same number and place, first of all but for what else is lent too short and is said to come before.
  * Nothing lent is written. */
 desk_word desk_check(uint32_t vars, uint32_t ops, uint32_t maps, const uint8_t *facts, size_t facts_len,

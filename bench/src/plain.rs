@@ -98,6 +98,11 @@ impl<'a> Task<'a> {
         self.row(row).iter().zip(self.row(VALUES_ROW)).all(|(fact, values)| fact <= values)
     }
 
+    /// Each effect of the operator stands among its preconditions.
+    fn idle(&self, op: usize) -> bool {
+        self.row(EFFECTS + op).iter().zip(self.row(PRECONDITIONS + op)).all(|(&effect, &asked)| effect == 0 || effect == asked)
+    }
+
     /// The first fault of the tables, at the line that the task's text would have.
     pub fn check(&self) -> Result<(), Refusal> {
         if self.facts.len() < FACTS || self.costs.len() < COSTS || self.shares.len() < SHARES {
@@ -111,6 +116,9 @@ impl<'a> Task<'a> {
         in_range(self.operators <= OPERATORS, 6)?;
         for op in 0..self.operators {
             in_range(self.costs[op] <= COST && self.row_fits(PRECONDITIONS + op) && self.row_fits(EFFECTS + op), 7 + op)?;
+            if self.idle(op) {
+                return refuse(18, 7 + op);
+            }
         }
         in_range((1..=MAPS).contains(&self.maps), 7 + self.operators)?;
         for map in 0..self.maps {

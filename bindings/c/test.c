@@ -36,8 +36,10 @@ static uint32_t shares[DESK_SHARES];
 #define TASK COUNTED, TABLES
 static const uint8_t init[3] = {0, 0, 0};
 
-/* Where the facts say what operator 0 asks of variable 0; with 0 there it asks nothing of it, and so may always run. */
+/* Where the facts say what operator 0 asks of variable 0, and what it sets it to. With 0 at the first it asks nothing of
+ * it, and so may always run. */
 #define OP0_ASKS 24
+#define OP0_SETS 536
 
 static void reads(void)
 {
@@ -105,6 +107,15 @@ static void checks(void)
     EXPECT(desk_check(TASK) == word(6, 8));
     EXPECT(desk_bound(TASK, init, 3) == word(6, 8));
     shares[128 + 1] = 0;
+    facts[OP0_SETS] = facts[OP0_ASKS]; /* operator 0 sets what it asks for */
+    EXPECT(desk_check(TASK) == word(18, 7));
+    EXPECT(desk_bound(TASK, init, 3) == word(18, 7));
+    facts[OP0_SETS] = 0;
+    EXPECT(desk_check(TASK) == word(18, 7));
+    facts[OP0_SETS] = 3; /* first of all no value of its variable */
+    EXPECT(desk_check(TASK) == word(3, 7));
+    facts[OP0_SETS] = 2;
+    EXPECT(desk_check(TASK) == word(DESK_DONE, 0));
 }
 
 static void distances(void)

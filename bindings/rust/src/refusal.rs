@@ -42,7 +42,7 @@ impl Refusal {
     pub fn place(self) -> Place {
         match self.number {
             3 if self.place == 0 => Place::Nowhere,
-            2..=7 => Place::Line(self.place),
+            2..=7 | 18 => Place::Line(self.place),
             9 => Place::Variable(self.place),
             10 | 12..=15 => Place::Step(self.place),
             16 => Place::Length(self.place),
@@ -71,6 +71,7 @@ impl Refusal {
             15 => "the run already has 1,024 steps",
             16 => "the sequence ends without the goal",
             17 => "the run isn't what its start and log give",
+            18 => "an operator is idle: it has no effect but what it asks for",
             _ => "a number that this crate does not know",
         }
     }

@@ -77,6 +77,30 @@ fn reads_and_refuses_texts() {
 }
 
 #[test]
+fn idle_operators_are_refused() {
+    let with = |effects: &str| A.replace("op=1;1:0,2:0;1:1,2:1", &format!("op=1;1:0,2:0;{effects}"));
+    for idle in ["-", "1:0", "2:0", "1:0,2:0"] {
+        let text = with(idle);
+        let cut = text.find("op=1;1:1").expect("the next line") - 1;
+        for text in [&text[..], &text[..cut], &text.replace(&format!("2:0;{idle}\n"), &format!("2:0;{idle};"))] {
+            assert_eq!(refusal(Task::read(text.as_bytes())), (18, 8));
+        }
+    }
+    for busy in ["0:0", "1:1", "1:2,2:0", "0:1,1:0,2:0"] {
+        assert!(Task::read(with(busy).as_bytes()).is_ok());
+    }
+    assert_eq!(refusal(Task::read(with("1:0,2:3").as_bytes())), (3, 8));
+    let refused = Task::read(with("-").as_bytes()).err().expect("refused");
+    assert_eq!(refused.to_string(), "refused 18 at line 8: an operator is idle: it has no effect but what it asks for");
+    let a = task(A);
+    let (facts, costs, shares) = a.tables();
+    let (asks, sets) = (8 * (3 + 1), 8 * (67 + 1));
+    let mut idle = *facts;
+    idle.copy_within(asks..asks + 8, sets);
+    assert_eq!(refusal(Task::of_tables(a.counts(), idle, *costs, *shares)), (18, 8));
+}
+
+#[test]
 fn refusals_say_number_place_and_meaning() {
     let c = A.replace("share=0,0,0,1", "share=0,1,0,1");
     let refusal = Task::read(c.as_bytes()).err().expect("refused");
