@@ -12,6 +12,7 @@ pub mod Idle
 pub mod SpellMaps
 pub mod SpellLines
 pub mod SpellTask
+pub mod SpellIdle
 pub mod SpellBack
 pub mod SpellBackFacts
 pub mod SpellBackLines

@@ -1,10 +1,11 @@
 -- Parts of the text on what is spelled: each reads it, and says what the scan says of the same numbers: a number, a row, a line, several lines.
 -- By induction on the numbers or lines still to come. Assumes nothing.
-use Prim.Native.Nat.{ℕ, zero, suc, _+_, _<_}
+use Prim.Native.Nat.{ℕ, zero, suc, _+_, _≤_, _<_}
 use Prim.Native.String.{String}
 use native.Mathlib.Omega.{arith}
 use native.Mathlib.Numerals.{add-one}
-use mathlib.Core.Path.{_≡_, refl, sym, ap, ap₂, _∙_}
+use native.Mathlib.Nat.{add-zero, zero-add}
+use mathlib.Core.Path.{_≡_, refl, sym, ap, ap₂, _∙_, subst}
 use mathlib.Core.List.{List, [], _∷_, _++_, append-assoc}
 use mathlib.Core.Bool.{Bool, true, false}
 use borrow.Author.Tests.{eq-eqb}
@@ -133,18 +134,45 @@ line-told key p xs rest l T U f h k =
 module _ (p : ℕ → Part) (text : ℕ → List ℕ) (rule : ℕ → Found) (change : ℕ → Tables → Tables) (P : ℕ → Tables → Type 0) (N : ℕ) (line : ℕ → ℕ)
     (up : (i : ℕ) → line i + 1 ≡ line (suc i)) (keeps : (i : ℕ) (T : Tables) → i < N → P i T → P (suc i) (change i T))
     (told : (i : ℕ) (T : Tables) (rest : List ℕ) → i < N → P i T → ToldLine (p i) (text i) rest (line i) T (rule i) (change i T)) where
-  lines-from : (n i : ℕ) → i + n ≡ N → (rest : List ℕ) (T : Tables) → P i T → (k : Rest)
-      → textLines p n i (stacked text n i ++ rest) (line i) T k ≡ judged (each rule n i) (k rest (line N) (changed change n i T))
+  -- n lines from the i-th on, and m more that follow them
+  lines-from : (n m i : ℕ) → i + n ≤ N → (rest : List ℕ) (T : Tables) → P i T → (k : Rest)
+      → textLines p (n + m) i (stacked text n i ++ rest) (line i) T k ≡ judged (each rule n i) (textLines p m (i + n) rest (line (i + n)) (changed change n i T) k)
   unfolding textLines stacked each changed _▸_
-  lines-from zero i e rest T pT k = let z : i ≡ N = omega arith in ap (λ (j : ℕ). k rest (line j) T) z
-  lines-from (suc n) i e rest T pT k =
+  lines-from zero m i e rest T pT k =
+      ap₂ (λ (x y : ℕ). textLines p x y rest (line y) T k) (zero-add m) (sym (add-zero i))
+  lines-from (suc n) m i e rest T pT k =
+      let one : suc n + m ≡ suc (n + m) = omega arith in
+      let on : suc i + n ≡ i + suc n = omega arith in
       next (rule i) (each rule n (suc i)) _
-      (ap (λ (t : List ℕ). textLines p (suc n) i t (line i) T k) (append-assoc (text i) (stacked text n (suc i)) rest)
-      ∙ told i T (stacked text n (suc i) ++ rest) (omega arith) pT (λ u m U. textLines p n (i + 1) u m U k))
+      (ap₂ (λ (x : ℕ) (t : List ℕ). textLines p x i t (line i) T k) one (append-assoc (text i) (stacked text n (suc i)) rest)
+      ∙ told i T (stacked text n (suc i) ++ rest) (omega arith) pT (λ u l U. textLines p (n + m) (i + 1) u l U k))
       (λ c.
-      ap₂ (λ (x l : ℕ). textLines p n x (stacked text n (suc i) ++ rest) l (change i T) k) (add-one i) (up i)
-      ∙ lines-from n (suc i) (omega arith) rest (change i T) (keeps i T (omega arith) pT) k)
+      ap₂ (λ (x l : ℕ). textLines p (n + m) x (stacked text n (suc i) ++ rest) l (change i T) k) (add-one i) (up i)
+      ∙ lines-from n m (suc i) (omega arith) rest (change i T) (keeps i T (omega arith) pT) k
+      ∙ ap (λ (x : ℕ). judged (each rule n (suc i)) (textLines p m x rest (line x) (changed change n (suc i) (change i T)) k)) on)
 
+  -- and what the line after them needs of the tables, they have
+  kept-from : (n i : ℕ) → i + n ≤ N → (T : Tables) → P i T → P (i + n) (changed change n i T)
+  unfolding changed
+  kept-from zero i e T pT = subst (λ (x : ℕ). P x T) (sym (add-zero i)) pT
+  kept-from (suc n) i e T pT =
+      let on : suc i + n ≡ i + suc n = omega arith in
+      subst (λ (x : ℕ). P x (changed change n (suc i) (change i T))) on (kept-from n (suc i) (omega arith) (change i T) (keeps i T (omega arith) pT))
+
+  -- the first n lines, and m more that follow them
+  pub lines-before : (n m : ℕ) → n ≤ N → (T : Tables) → P 0 T
+      → P n (changed change n 0 T)
+      × ((rest : List ℕ) (k : Rest) → textLines p (n + m) 0 (stacked text n 0 ++ rest) (line 0) T k ≡ judged (each rule n 0) (textLines p m n rest (line n) (changed change n 0 T) k))
+  lines-before n m h T pT = (
+    subst (λ (x : ℕ). P x (changed change n 0 T)) (zero-add n) (kept-from n 0 (omega arith) T pT),
+    λ rest k.
+        lines-from n m 0 (omega arith) rest T pT k
+        ∙ ap (λ (x : ℕ). judged (each rule n 0) (textLines p m x rest (line x) (changed change n 0 T) k)) (zero-add n),
+  )
+
+  -- all of them
   pub lines-told : (rest : List ℕ) (T : Tables) → P 0 T → (k : Rest)
       → textLines p N 0 (stacked text N 0 ++ rest) (line 0) T k ≡ judged (each rule N 0) (k rest (line N) (changed change N 0 T))
-  lines-told = lines-from N 0 (omega arith)
+  unfolding textLines
+  lines-told rest T pT k =
+      ap (λ (x : ℕ). textLines p x 0 (stacked text N 0 ++ rest) (line 0) T k) (sym (add-zero N)) ∙ lines-before N 0 (omega arith) T pT .1 rest k

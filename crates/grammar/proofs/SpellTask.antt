@@ -7,7 +7,6 @@ use mathlib.Core.List.{List, [], _++_, append-assoc, append-nil}
 use mathlib.Core.Bool.{true}
 use lib.Dec.{leb, ltb}
 use lib.ListN.{length, getD, set, replicate, length-replicate}
-use borrow.Author.Tests.{leb-true}
 use Rattle.meaning.specs.Limits.{mostVars, mostValues, mostOps, mostMaps}
 use Rattle.refusals.specs.declared.Refusal.{Refusal}
 use Rattle.refusals.specs.declared.Refusal.the-variants.{OutOfRange, SharesAboveCost}
@@ -16,13 +15,14 @@ use Rattle.scan.specs.declared.Found.{Found}
 use Rattle.scan.specs.declared.Found.the-variants.{Clean, Fault}
 use Rattle.tables.specs.Layout.{Tables, factsRoom, costsRoom, sharesRoom, domPlace, initPlace, goalPlace, prePlace, effPlace, sharePlace, shareAt}
 use Rattle.tables.specs.Task.{taskOf}
-use Rattle.scan.specs.Scan.{unless, each, factsFault, operatorFault, mapFault, sharesFault, splitFault, taskFault, roomy, tablesFault, within as scanWithin}
-use Rattle.scan.proofs.Rules.{within-says}
-use Rattle.scan.proofs.Walks.{rule-held, walk-clean}
+use Rattle.scan.specs.Inside.Parts.{headFault}
+use Rattle.scan.specs.Scan.{unless, _then_, each, factsFault, operatorFault, mapFault, sharesFault, splitFault, taskFault, roomy, tablesFault, within as scanWithin}
+use Rattle.scan.proofs.Rules.{within-says, few-vars, few-values, few-ops}
+use Rattle.scan.proofs.Walks.{then-then, rule-held}
 use Rattle.grammar.specs.Fields.{edition}
-use Rattle.grammar.specs.Grammar.{accepted, Rest, _▸_, ask, textLine, operatorFields, opLines, mapClasses, mapLines, amounts, shareLines, taskLines, settled, theEnd, noTask, verdict}
+use Rattle.grammar.specs.Grammar.{Verdict, accepted, Rest, Part, _▸_, ask, textLine, operatorFields, opLines, mapsLine, mapClasses, mapLines, amounts, shareLines, taskLines, settled, theEnd, noTask, verdict}
 use Rattle.grammar.specs.Spelling.{digits, numbers, someFacts, keyed, stacked, opText, mapText, shareText, spelled, textOf, changed, rowPut, opRows, mapRows, headRows, tablesOf, canon}
-use Rattle.grammar.proofs.SpellParts.{judged, next, lines-told}
+use Rattle.grammar.proofs.SpellParts.{judged, next, ToldLine, lines-told}
 use Rattle.grammar.proofs.SpellFacts.{on, on-changed, knows-row, knows-facts, knows-changed}
 use Rattle.grammar.proofs.SpellTables.{long-changed, writes-row, zeros}
 use Rattle.grammar.proofs.SpellOwn.{Small, long-head, long-op, spares-head, costs-own, shares-own}
@@ -41,8 +41,12 @@ settled-judged (Fault r) T = refl
 
 -- ---- the lines of one kind
 
-abbrev made : ℕ → ℕ → ℕ → List ℕ → List ℕ → List ℕ → Tables
+abbrev pub made : ℕ → ℕ → ℕ → List ℕ → List ℕ → List ℕ → Tables
 made v o m f c h = record { counts = record { vars = v; ops = o; maps = m }; facts = f; costs = c; shares = h }
+
+-- an operator's line, as the grammar has it
+abbrev pub opPart : ℕ → Part
+opPart o = textLine "op=" (operatorFields o)
 
 module _ (τ : Task) where
   abbrev pub opsText : List ℕ
@@ -74,8 +78,18 @@ module _ (τ : Task) where
   ops-changed (suc n) i T = ops-changed n (suc i) (opChange τ i T)
 
   -- operator i and those after it are yet to be read
-  abbrev FreshFrom : ℕ → Tables → Type 0
+  abbrev pub FreshFrom : ℕ → Tables → Type 0
   FreshFrom i T = (o : ℕ) → i ≤ o → o < τ .sas .ops → Fresh τ o T
+
+  pub fresh-next : (i : ℕ) (T : Tables) → i < τ .sas .ops → FreshFrom i T → FreshFrom (suc i) (opChange τ i T)
+  fresh-next i T l w o a b = fresh-later τ i o T a (w o (omega arith) b)
+
+  -- its line, as it is spelled
+  abbrev pub opLine : ℕ → List ℕ
+  opLine o = keyed "op=" (opText τ o)
+
+  pub op-line-told : (o : ℕ) (T : Tables) (rest : List ℕ) → o < τ .sas .ops → FreshFrom o T → ToldLine (opPart o) (opLine o) rest (lineOfOp o) T (operatorFault τ o) (opChange τ o T)
+  op-line-told o T rest l w = op-told τ o T (w o (omega arith) l) rest
 
   all-ops : (m : ℕ) (f c h rest : List ℕ) (k : Rest) → FreshFrom 0 (made (τ .sas .vars) (τ .sas .ops) m f c h)
       → opLines (opsText ++ rest) (lineOfOp 0) (made (τ .sas .vars) (τ .sas .ops) m f c h) k
@@ -83,8 +97,7 @@ module _ (τ : Task) where
   unfolding opLines ask rowPut
   all-ops m f c h rest k w =
       let T = made (τ .sas .vars) (τ .sas .ops) m f c h in
-      lines-told (λ o. textLine "op=" (operatorFields o)) (λ o. keyed "op=" (opText τ o)) (operatorFault τ) (opChange τ) FreshFrom (τ .sas .ops) lineOfOp
-      (λ o. omega arith) (λ i U l v o a b. fresh-later τ i o U a (v o (omega arith) b)) (λ o U u l v. op-told τ o U (v o (omega arith) l) u) rest T w k
+      lines-told opPart opLine (operatorFault τ) (opChange τ) FreshFrom (τ .sas .ops) lineOfOp (λ o. omega arith) fresh-next op-line-told rest T w k
       ∙ ap (λ (U : Tables). judged (each (operatorFault τ) (τ .sas .ops) 0) (k rest (lineOfMaps (τ .sas .ops)) U)) (ops-changed (τ .sas .ops) 0 T)
 
   all-maps : (f c h rest : List ℕ) (k : Rest) → Small τ → Ready τ (made (τ .sas .vars) (τ .sas .ops) (τ .maps) f c h)
@@ -110,14 +123,17 @@ module _ (τ : Task) where
       (λ m U. Unit {0}) (τ .maps) (lineOfShares (τ .sas .ops) (τ .maps)) (λ m. omega arith) (λ m U l u. tt) (λ m U u l v. share-told τ m U u) rest T tt k
       ∙ ap (λ (U : Tables). judged (each (sharesFault τ) (τ .maps) 0) (k rest (lineOfShares (τ .sas .ops) (τ .maps) (τ .maps)) U)) (shares-changed shareRow (τ .maps) 0 T)
 
-  abbrev pub linesText : List ℕ
-  linesText =
+  -- the lines before the operators, and what follows them
+  abbrev pub headText : List ℕ → List ℕ
+  headText rest =
       keyed "edition=" (digits edition)
       ++ (keyed "vars=" (digits (τ .sas .vars))
       ++ (keyed "dom=" (numbers (τ .sas .dom) (τ .sas .vars))
       ++ (keyed "init=" (numbers (τ .sas .init) (τ .sas .vars))
-      ++ (keyed "goal=" (someFacts (τ .sas .goal) (τ .sas .vars) 0)
-      ++ (keyed "ops=" (digits (τ .sas .ops)) ++ (opsText ++ (keyed "maps=" (digits (τ .maps)) ++ (mapsText ++ (sharesText ++ [])))))))))
+      ++ (keyed "goal=" (someFacts (τ .sas .goal) (τ .sas .vars) 0) ++ (keyed "ops=" (digits (τ .sas .ops)) ++ rest)))))
+
+  abbrev pub linesText : List ℕ
+  linesText = headText (opsText ++ (keyed "maps=" (digits (τ .maps)) ++ (mapsText ++ (sharesText ++ []))))
 
   pub spelled-lines : spelled edition τ ≡ linesText
   unfolding spelled
@@ -130,7 +146,7 @@ at-most least most x r q = within-says least most x (rule-held (scanWithin least
 
 -- from tables of this length, in which no fact stands yet
 module _ (τ : Task) (f c h : List ℕ) (lf : length f ≡ factsRoom) (none : (p : ℕ) → getD f p 0 ≡ 0) (lc : length c ≡ costsRoom) (lh : length h ≡ sharesRoom) where
-  abbrev headDone : List ℕ
+  abbrev pub headDone : List ℕ
   headDone = headRows τ f
 
   abbrev allDone : Tables
@@ -165,7 +181,7 @@ module _ (τ : Task) (f c h : List ℕ) (lf : length f ≡ factsRoom) (none : (p
   unfolding headRows
   known-head m o a = knows-facts goalPlace (τ .sas .goal) (λ v. omega arith) (τ .sas .vars) _ (known-init m o a)
 
-  fresh-ops : (m : ℕ) → τ .sas .vars ≤ mostVars → τ .sas .ops ≤ mostOps → FreshFrom τ 0 (made (τ .sas .vars) (τ .sas .ops) m headDone c h)
+  pub fresh-ops : (m : ℕ) → τ .sas .vars ≤ mostVars → τ .sas .ops ≤ mostOps → FreshFrom τ 0 (made (τ .sas .vars) (τ .sas .ops) m headDone c h)
   fresh-ops m a b o i l =
       record {
         known = known-head m (τ .sas .ops) a;
@@ -182,36 +198,55 @@ module _ (τ : Task) (f c h : List ℕ) (lf : length f ≡ factsRoom) (none : (p
         long-changed (opRows τ) (long-op τ) (τ .sas .ops) 0 headDone ∙ long-head τ f ∙ lf,
       )
 
-  -- line by line: what the scan says of it, and if that is clean what follows
-  lines-judged : (v o m : ℕ) → taskLines (linesText τ) 1 (made v o m f c h) theEnd ≡ judged (taskFault τ) (accepted allDone)
-  unfolding taskLines taskFault headRows _▸_
-  lines-judged v o m =
+  -- ---- line by line: what the scan says of it, and if that is clean what follows
+
+  -- from the operators on
+  abbrev pub fromOps : ℕ → List ℕ → Verdict
+  fromOps m rest = (opLines ▸ mapsLine ▸ mapLines ▸ shareLines) rest (lineOfOp 0) (made (τ .sas .vars) (τ .sas .ops) m headDone c h) theEnd
+
+  -- the lines before them, whatever is judged then
+  pub head-judged : (v o m : ℕ) (rest : List ℕ) (F : Found) (A : Verdict) → (headFault τ ≡ Clean → fromOps m rest ≡ judged F A)
+      → taskLines (headText τ rest) 1 (made v o m f c h) theEnd ≡ judged (headFault τ then F) A
+  unfolding taskLines headFault headRows _▸_
+  head-judged v o m rest F A ok =
       let N = τ .sas .vars in
       let O = τ .sas .ops in
+      let vars = unless (scanWithin 1 mostVars N) (OutOfRange lineOfVars) in
+      let doms = each (λ u. unless (scanWithin 1 mostValues (τ .sas .dom u)) (OutOfRange lineOfDom)) N 0 in
+      let inits = each (λ u. unless (ltb (τ .sas .init u) (τ .sas .dom u)) (OutOfRange lineOfInit)) N 0 in
+      let goals = factsFault τ (τ .sas .goal) lineOfGoal in
+      let ops = unless (leb O mostOps) (OutOfRange lineOfOps) in
+      let all : vars then doms then inits then goals then ops then F ≡ headFault τ then F = simp then-then in
+      edition-told _ 1 (made v o m f c h) _
+      ∙ next vars _ _ (vars-told _ lineOfVars (made v o m f c h) N _)
+      (λ q. let a = at-most 1 mostVars N (OutOfRange lineOfVars) q in
+      next doms _ _ (dom-told τ _ lineOfDom (made N o m f c h) refl _)
+      (λ d. next inits _ _ (init-told τ _ lineOfInit _ (known-doms m o a) _)
+      (λ i. next goals _ _ (goal-told τ _ lineOfGoal _ (known-init m o a) _)
+      (λ g. next ops F A (ops-told _ lineOfOps (made N o m headDone c h) O _) (λ p. ok (rw (q, d, i, g, p) refl))))))
+      ∙ ap (λ (x : Found). judged x A) all
+
+  lines-judged : (v o m : ℕ) → taskLines (linesText τ) 1 (made v o m f c h) theEnd ≡ judged (taskFault τ) (accepted allDone)
+  unfolding taskFault headFault _▸_
+  lines-judged v o m =
+      let O = τ .sas .ops in
       let M = τ .maps in
-      let doms : ℕ → Found = λ u. unless (scanWithin 1 mostValues (τ .sas .dom u)) (OutOfRange lineOfDom) in
-      let inits : ℕ → Found = λ u. unless (ltb (τ .sas .init u) (τ .sas .dom u)) (OutOfRange lineOfInit) in
+      let ops = each (operatorFault τ) O 0 in
+      let count = unless (scanWithin 1 mostMaps M) (OutOfRange (lineOfMaps O)) in
+      let maps = each (mapFault τ) M 0 in
+      let shares = each (sharesFault τ) M 0 in
+      let split = each (splitFault τ) O 0 in
       let toMaps : lineOfMaps O + 1 ≡ lineOfMap O 0 = omega arith in
       let toShares : lineOfMap O M ≡ lineOfShares O M 0 = omega arith in
-      edition-told _ 1 (made v o m f c h) _
-      ∙ next (unless (scanWithin 1 mostVars N) (OutOfRange lineOfVars)) _ _ (vars-told _ lineOfVars (made v o m f c h) N _)
-      (λ q. let a = at-most 1 mostVars N (OutOfRange lineOfVars) q in
-      next (each doms N 0) _ _ (dom-told τ _ lineOfDom (made N o m f c h) refl _)
-      (λ d. next (each inits N 0) _ _ (init-told τ _ lineOfInit _ (known-doms m o a) _)
-      (λ i. next (factsFault τ (τ .sas .goal) lineOfGoal) _ _ (goal-told τ _ lineOfGoal _ (known-init m o a) _)
-      (λ g. next (unless (leb O mostOps) (OutOfRange lineOfOps)) _ _ (ops-told _ lineOfOps (made N o m headDone c h) O _)
-      (λ p. let b = leb-true O mostOps (rule-held (leb O mostOps) (OutOfRange lineOfOps) p) in
-      next (each (operatorFault τ) O 0) _ _ (all-ops τ m headDone c h _ _ (fresh-ops m a b))
-      (λ r. next (unless (scanWithin 1 mostMaps M) (OutOfRange (lineOfMaps O))) _ _ (maps-told _ (lineOfMaps O) (made N O m (opsDone τ headDone) (costsDone τ c) h) M _)
-      (λ x. let s : Small τ = record {
-        vars = a;
-        doms = λ u b. at-most 1 mostValues (τ .sas .dom u) (OutOfRange lineOfDom) (walk-clean doms N u d b);
-        ops = b;
-        maps = at-most 1 mostMaps M (OutOfRange (lineOfMaps O)) x;
-      } in
-      rw toMaps (next (each (mapFault τ) M 0) _ _ (all-maps τ (opsDone τ headDone) (costsDone τ c) h _ _ s (ready-maps a))
-      (λ y. rw toShares (next (each (sharesFault τ) M 0) _ _ (all-shares τ (mapsDone τ (opsDone τ headDone)) (costsDone τ c) h [] theEnd)
-      (λ z. end-told _ s)))))))))))
+      let all : headFault τ then ops then count then maps then shares then split ≡ taskFault τ = simp then-then in
+      head-judged v o m _ (ops then count then maps then shares then split) (accepted allDone)
+      (λ head. let a = few-vars τ head in
+      next ops _ _ (all-ops τ m headDone c h _ _ (fresh-ops m a (few-ops τ head)))
+      (λ r. next count _ _ (maps-told _ (lineOfMaps O) (made (τ .sas .vars) O m (opsDone τ headDone) (costsDone τ c) h) M _)
+      (λ x. let s : Small τ = record { vars = a; doms = few-values τ head; ops = few-ops τ head; maps = at-most 1 mostMaps M (OutOfRange (lineOfMaps O)) x } in
+      rw toMaps (next maps _ _ (all-maps τ (opsDone τ headDone) (costsDone τ c) h _ _ s (ready-maps a))
+      (λ y. rw toShares (next shares _ _ (all-shares τ (mapsDone τ (opsDone τ headDone)) (costsDone τ c) h [] theEnd) (λ z. end-told _ s)))))))
+      ∙ ap (λ (x : Found). judged x (accepted allDone)) all
 
 -- THE SCAN IS THE GRAMMAR, for a task
 pub spelled-judged : (τ : Task) → verdict (spelled edition τ) ≡ judged (taskFault τ) (accepted (tablesOf τ))

@@ -14,7 +14,6 @@ use Rattle.tables.specs.declared.Counts.{Counts}
 use Rattle.tables.specs.Lines.{lineOfOp}
 use Rattle.tables.specs.Task.{tables, taskOf}
 use Rattle.tables.proofs.Meant.{is-idle-is}
-use Rattle.scan.specs.declared.Found.{Found}
 use Rattle.scan.specs.declared.Found.the-variants.{Clean, Fault}
 use Rattle.scan.specs.Scan.{unless, each, within, operatorFault, classesFault, mapFault}
 use Rattle.scan.specs.Inside.Parts.{factsFit, linesFault}
