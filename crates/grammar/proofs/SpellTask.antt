@@ -20,7 +20,8 @@ use Rattle.scan.specs.Scan.{unless, _then_, each, factsFault, operatorFault, ma
 use Rattle.scan.proofs.Rules.{within-says, few-vars, few-values, few-ops}
 use Rattle.scan.proofs.Walks.{then-then, rule-held}
 use Rattle.grammar.specs.Fields.{edition}
-use Rattle.grammar.specs.Grammar.{Verdict, accepted, Rest, Part, _▸_, ask, textLine, operatorFields, opLines, mapsLine, mapClasses, mapLines, amounts, shareLines, taskLines, settled, theEnd, noTask, verdict}
+use Rattle.grammar.specs.Grammar.{Verdict, accepted, Rest, Part, _▸_, ask, textLine, operatorFields, opLines, mapsLine, mapClasses, mapLines, amounts}
+use Rattle.grammar.specs.Grammar.{shareLines, taskLines, settled, theEnd, noTask, verdict}
 use Rattle.grammar.specs.Spelling.{digits, numbers, someFacts, keyed, stacked, opText, mapText, shareText, spelled, textOf, changed, rowPut, opRows, mapRows, headRows, tablesOf, canon}
 use Rattle.grammar.proofs.SpellParts.{judged, next, ToldLine, lines-told}
 use Rattle.grammar.proofs.SpellFacts.{on, on-changed, knows-row, knows-facts, knows-changed}

@@ -1,5 +1,5 @@
 -- Small laws that the proofs of the reader share. Assumes nothing.
-use Prim.Native.Nat.{ℕ, zero, suc, _<_, _≤_, _+_, _*_, _-_}
+use Prim.Native.Nat.{ℕ, zero, suc, _<_, _≤_, _+_, _*_}
 use native.Mathlib.Nat.{le-of-suc-le-suc, mul-le-mul-right}
 use native.Mathlib.Omega.{arith}
 use native.Mathlib.Numerals.{add-one}
