@@ -1,8 +1,11 @@
-//! THE BASELINE: the same run and the same offers as a plain Rust program keeps them. It was written from the paper for this comparison, and shares nothing with the
-//! desk but the layout of the lent tables.
+//! THE BASELINE: the same run and the same offers as a plain Rust program keeps them; judging a sequence and the distances of a map are in the modules below. It was
+//! written from the paper for this comparison, and shares nothing with the desk but the layout of the lent tables.
 //!
 //! An offer does what the desk's entry promises, in the same order: the tables are judged afresh, then the run that is handed in, then the offer. Nothing is kept
 //! between offers.
+mod judging;
+mod views;
+
 use mihaedop::{COSTS, FACTS, SHARES, STEPS};
 
 // The limits of the paper.
@@ -76,6 +79,20 @@ fn in_range(holds: bool, line: usize) -> Result<(), Refusal> {
     }
 }
 
+/// Each fact of the row holds in the state.
+fn hold(facts: &[u8], state: &[u8]) -> bool {
+    facts.iter().zip(state).all(|(&fact, &value)| fact == 0 || fact == value + 1)
+}
+
+/// Afterwards each fact of the row holds in the state, and all else stays.
+fn set(facts: &[u8], state: &mut [u8]) {
+    for (&fact, value) in facts.iter().zip(state) {
+        if fact != 0 {
+            *value = fact - 1;
+        }
+    }
+}
+
 impl<'a> Task<'a> {
     /// The task of lent tables; its counts are those of variables, operators and maps.
     pub fn of(counts: [u32; 3], facts: &'a [u8], costs: &'a [u32], shares: &'a [u32]) -> Task<'a> {
@@ -86,6 +103,12 @@ impl<'a> Task<'a> {
     /// A row of the facts, as far as there are variables.
     fn row(&self, row: usize) -> &'a [u8] {
         &self.facts[ROW * row..][..self.variables]
+    }
+
+    /// The class of each value of a variable in a map; the variable has so many values.
+    fn classes(&self, map: usize, variable: usize, values: u8) -> &'a [u8] {
+        let row = ROW * (CLASSES + VARIABLES * map + variable);
+        &self.facts[row..row + values as usize]
     }
 
     /// What the operators cost in a map.
@@ -132,9 +155,8 @@ impl<'a> Task<'a> {
         let line = 8 + self.operators + map;
         let mut states = 1;
         for (variable, &values) in self.row(VALUES_ROW).iter().enumerate() {
-            let row = ROW * (CLASSES + VARIABLES * map + variable);
             let mut seen = 0u32;
-            for &class in &self.facts[row..row + values as usize] {
+            for &class in self.classes(map, variable, values) {
                 in_range(class < values, line)?;
                 seen |= 1 << class;
             }
@@ -171,8 +193,23 @@ impl<'a> Task<'a> {
         state.iter().zip(self.row(VALUES_ROW)).all(|(value, values)| value < values)
     }
 
+    /// Judges the tables and then a state to start from, and gives its values, with 0 beyond the variables.
+    fn start(&self, state: &[u8]) -> Result<[u8; VARIABLES], Refusal> {
+        self.check()?;
+        if state.len() < self.variables {
+            return refuse(8, 0);
+        }
+        let state = &state[..self.variables];
+        if let Some(variable) = state.iter().zip(self.row(VALUES_ROW)).position(|(value, values)| value >= values) {
+            return refuse(9, variable);
+        }
+        let mut start = [0; VARIABLES];
+        start[..self.variables].copy_from_slice(state);
+        Ok(start)
+    }
+
     fn may_run(&self, state: &[u8; VARIABLES], op: usize) -> bool {
-        self.row(PRECONDITIONS + op).iter().zip(state).all(|(&fact, &value)| fact == 0 || fact == value + 1)
+        hold(self.row(PRECONDITIONS + op), state)
     }
 
     /// The run is what its start and its log give.
@@ -205,11 +242,7 @@ impl Moment {
 
     /// Runs an operator that may run: its effects hold, and its cost is booked.
     fn step(&mut self, task: &Task, op: usize) {
-        for (value, &fact) in self.state.iter_mut().zip(task.row(EFFECTS + op)) {
-            if fact != 0 {
-                *value = fact - 1;
-            }
-        }
+        set(task.row(EFFECTS + op), &mut self.state);
         let mut rest = task.costs[op];
         for (map, paid) in self.paid[..task.maps].iter_mut().enumerate() {
             let share = task.shares[OPERATORS * map + op];
@@ -231,17 +264,7 @@ impl Run {
 
     /// Begins a run: the tables are judged, then the state to start from.
     pub fn begin(task: &Task, start: &[u8]) -> Result<Run, Refusal> {
-        task.check()?;
-        if start.len() < task.variables {
-            return refuse(8, 0);
-        }
-        let start = &start[..task.variables];
-        if let Some(variable) = start.iter().zip(task.row(VALUES_ROW)).position(|(value, values)| value >= values) {
-            return refuse(9, variable);
-        }
-        let mut state = [0; VARIABLES];
-        state[..task.variables].copy_from_slice(start);
-        Ok(Run::fresh(state))
+        task.start(start).map(Run::fresh)
     }
 
     /// Offers a step: its number and its operator. Only an accepted offer moves the run.

@@ -1,11 +1,19 @@
-//! That both sides answer the same, before anything is timed: every offer of the shift, offers that are refused, runs that no offers could have left, and faulty tables.
+//! That both sides answer the same, before anything is timed: every offer of the shift, offers that are refused, runs that no offers could have left, and faulty tables;
+//! judging and distances are in the modules below.
+mod distances;
+mod judging;
+
+use crate::judging::Passing;
 use crate::plain;
 use crate::shift::sequence;
 use crate::sides::{plainly_refused, refused, Desk, Parts, Plain, Side, Told};
-use mihaedop::{check, Counts, COSTS, FACTS, RUN_BYTES, RUN_WORDS, SHARES, STEPS};
+use mihaedop::{check, Counts, Refusal, Task, COSTS, DISTANCES, FACTS, RUN_BYTES, RUN_WORDS, SHARES, STEPS};
 
 /// How many tables by chance have some places altered at once.
 const BY_CHANCE: usize = 20_000;
+
+/// How many abstract states are swept by such tables, in all rounds together; then no more distances are asked for.
+const SWEPT: usize = 8_000_000;
 
 /// Both sides, with the number of answers that they gave alike.
 struct Both<'a> {
@@ -16,13 +24,30 @@ struct Both<'a> {
 
 /// Asks both sides, and tells how many answers they gave alike, or where they differ.
 pub fn compare(desk: &Desk) -> Result<usize, String> {
-    let mut both = Both { desk, plain: Plain::of(&desk.task), alike: 0 };
+    let mut both = Both::of(desk);
     both.shift()?;
-    both.tables()?;
+    let passing = Passing::of(&both.plain, desk.task.counts())?;
+    both.judging(&passing)?;
+    both.maps()?;
+    both.tables(&passing)?;
     Ok(both.alike)
 }
 
-impl Both<'_> {
+/// Values near one, and near the limit.
+fn beside(was: u8) -> [u8; 6] {
+    [0, was ^ 1, was.wrapping_add(1), 7, 8, u8::MAX]
+}
+
+impl<'a> Both<'a> {
+    fn of(desk: &'a Desk) -> Both<'a> {
+        Both { desk, plain: Plain::of(&desk.task), alike: 0 }
+    }
+
+    /// Every operator, and some that don't exist.
+    fn operators(&self) -> impl Iterator<Item = u32> {
+        (0..self.desk.task.counts().operators + 2).chain([64, u32::MAX])
+    }
+
     fn count(&mut self, what: &str, desk: Told, plain: Told) -> Result<(), String> {
         if desk != plain {
             return Err(format!("{what}: the desk says {desk:?}, plain Rust says {plain:?}"));
@@ -49,7 +74,8 @@ impl Both<'_> {
 
     /// Every offer of the shift is accepted; at some moments all kinds of offers are made, and to all kinds of damaged runs.
     fn shift(&mut self) -> Result<(), String> {
-        let sequence = sequence(self.desk.task.counts().operators);
+        let sequence = sequence(self.desk.task.counts().operators, 0);
+        let Some(&first) = sequence.first() else { return Err("without operators there are no steps".to_string()) };
         let mut run = Desk::parts(&self.desk.begin());
         if run != Plain::parts(&self.plain.begin()) {
             return Err("the fresh runs differ".to_string());
@@ -64,20 +90,20 @@ impl Both<'_> {
             }
             run = left;
         }
-        self.around(&run, sequence[0])
+        self.around(&run, first)
     }
 
     /// Offers of every operator, and of some that don't exist, under old numbers, the next and others; then the step offered to the run with a place altered.
     fn around(&mut self, run: &Parts, op: u32) -> Result<(), String> {
         let (operators, next) = (self.desk.task.counts().operators, run.1[STEPS] + 1);
         for number in [0, 1, 2, next.saturating_sub(2), next - 1, next, next + 1, u32::MAX] {
-            for op in (0..operators + 2).chain([64, u32::MAX]) {
+            for op in self.operators() {
                 self.offer(run, number, op)?;
             }
         }
         for place in 0..RUN_BYTES {
             let was = run.0[place];
-            for value in [0, was ^ 1, was.wrapping_add(1), 7, 8, u8::MAX] {
+            for value in beside(was) {
                 let mut damaged = *run;
                 damaged.0[place] = value;
                 self.offer(&damaged, next, op)?;
@@ -97,8 +123,9 @@ impl Both<'_> {
         Ok(())
     }
 
-    /// The task's tables with one place altered, each in turn, and by chance with some at once, so that it shows which fault comes first.
-    fn tables(&mut self) -> Result<(), String> {
+    /// The task's tables with one place altered, each in turn, and by chance with some at once, so that it shows which fault comes first. Where there is none they are
+    /// another task.
+    fn tables(&mut self, passing: &Passing) -> Result<(), String> {
         let whole = Tables::of(self.desk);
         self.check("the task's own tables", &whole, [FACTS, COSTS, SHARES])?;
         for short in [[FACTS - 1, COSTS, SHARES], [FACTS, COSTS - 1, SHARES], [FACTS, COSTS, SHARES - 1]] {
@@ -111,23 +138,48 @@ impl Both<'_> {
                 self.check(&format!("tables with place {place} altered"), &altered, [FACTS, COSTS, SHARES])?;
             }
         }
-        let mut chance = Chance(1);
+        let (mut chance, mut swept) = (Chance(1), 0);
         for _ in 0..BY_CHANCE {
             let mut altered = whole.clone();
             for _ in 0..2 + chance.below(3) {
                 altered.alter(chance.below(PLACES), chance.below(KINDS));
             }
             self.check("tables altered by chance", &altered, [FACTS, COSTS, SHARES])?;
+            if let Ok(task) = altered.task() {
+                self.another(task, passing, &mut chance, &mut swept)?;
+            }
         }
         Ok(())
     }
 
+    /// By another task, for which it was not made, the sequence is judged; and a map's distances are asked for, unless too much was swept before.
+    fn another(&mut self, task: Task, passing: &Passing, chance: &mut Chance, swept: &mut usize) -> Result<(), String> {
+        let desk = Desk::of(task);
+        let mut both = Both::of(&desk);
+        both.judge(&passing.start, &passing.sequence)?;
+        if *swept < SWEPT {
+            let map = chance.below(desk.task.counts().maps as usize) as u32;
+            if let Told::Rounds(rounds) = both.distances(map, DISTANCES)? {
+                *swept += rounds as usize * both.plain.task.states(map);
+            }
+        }
+        self.alike += both.alike;
+        Ok(())
+    }
+
+    /// Tables as both sides check them. By faulty ones the baseline judges no sequence and finds no distances either; the desk can't be asked for that, since the crate
+    /// makes no task of them.
     fn check(&mut self, what: &str, tables: &Tables, [facts, costs, shares]: [usize; 3]) -> Result<(), String> {
-        let [variables, operators, maps] = tables.counts;
         let (facts, costs, shares) = (&tables.facts[..facts], &tables.costs[..costs], &tables.shares[..shares]);
-        let desk = check(Counts { variables, operators, maps }, facts, costs, shares).map_or_else(refused, |()| Told::Accepted);
-        let plain = plain::Task::of(tables.counts, facts, costs, shares).check().map_or_else(plainly_refused, |()| Told::Accepted);
-        self.count(what, desk, plain)
+        let desk = check(tables.counts(), facts, costs, shares).map_or_else(refused, |()| Told::Accepted);
+        let task = plain::Task::of(tables.counts, facts, costs, shares);
+        let plain = task.check();
+        if let Err(refusal) = plain {
+            if [task.judge(&[], &[]), task.distances(0, &mut [0; DISTANCES])] != [Err(refusal); 2] {
+                return Err(format!("{what}: plain Rust refuses them with {refusal:?}, but not whenever it is lent them"));
+            }
+        }
+        self.count(what, desk, plain.map_or_else(plainly_refused, |()| Told::Accepted))
     }
 }
 
@@ -151,6 +203,16 @@ impl Tables {
         let counts = desk.task.counts();
         let (facts, costs, shares) = desk.task.tables();
         Tables { counts: [counts.variables, counts.operators, counts.maps], facts: *facts, costs: *costs, shares: *shares }
+    }
+
+    fn counts(&self) -> Counts {
+        let [variables, operators, maps] = self.counts;
+        Counts { variables, operators, maps }
+    }
+
+    /// The task that they are, if the desk accepts them.
+    fn task(&self) -> Result<Task, Refusal> {
+        Task::of_tables(self.counts(), self.facts, self.costs, self.shares)
     }
 
     /// Alters a place: to a number near the one that stands there, or near a limit.

@@ -3,9 +3,9 @@ use crate::sides::{Desk, Plain, Side, Told};
 use crate::timing::{tell, timed, Times};
 use mihaedop::STEPS;
 
-/// As many steps as a run can have: the operators in their order, over and over.
-pub fn sequence(operators: u32) -> Vec<u32> {
-    (0..operators).cycle().take(STEPS).collect()
+/// As many steps as a run can have: the operators in their order, over and over, from one of them on.
+pub fn sequence(operators: u32, first: u32) -> Vec<u32> {
+    (0..operators).cycle().skip(first as usize).take(STEPS).collect()
 }
 
 /// A fresh run, and the steps offered one after another, each to the run that the one before left; how many were accepted is told beside it.
@@ -38,7 +38,7 @@ fn a_step(full: Times, fresh: Times) -> Times {
 }
 
 pub fn measure(name: &str, desk: &Desk, plain: &Plain) {
-    let sequence = sequence(desk.task.counts().operators);
+    let sequence = sequence(desk.task.counts().operators, 0);
     let (first, again, last) = (sequence[0], sequence[STEPS - 1], STEPS as u32);
     tell(name, &format!("a whole shift: a fresh run and {STEPS} offers"), timed(shift(desk, &sequence), shift(plain, &sequence)));
 

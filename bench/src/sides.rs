@@ -1,12 +1,14 @@
 //! The two sides by one face: the desk, through the library for C, and the baseline. Both are asked by the same code.
 use crate::plain;
-use mihaedop::{Answer, Operator, Refusal, Run, State, Step, Task, RUN_BYTES, RUN_WORDS, STEPS};
+use mihaedop::{Answer, Map, Operator, Refusal, Run, State, Step, Task, RUN_BYTES, RUN_WORDS, STEPS};
 
-/// What an offer is answered.
+/// What a side answers.
 #[derive(Clone, Copy, Debug, PartialEq, Eq)]
 pub enum Told {
     Accepted,
     Repeated,
+    Cost(u64),
+    Rounds(u32),
     Refused { number: u8, place: u32 },
 }
 
@@ -16,6 +18,9 @@ pub type Parts = ([u8; RUN_BYTES], [u32; RUN_WORDS]);
 pub trait Side {
     type Run;
 
+    /// A sequence as this side is lent it.
+    type List;
+
     /// A fresh run from the task's initial state.
     fn begin(&self) -> Self::Run;
 
@@ -24,6 +29,13 @@ pub trait Side {
     fn of_parts(parts: &Parts) -> Self::Run;
 
     fn parts(run: &Self::Run) -> Parts;
+
+    fn list(sequence: &[u32]) -> Self::List;
+
+    fn judge(&self, start: &State, list: &Self::List) -> Told;
+
+    /// The distances of a map into a table.
+    fn distances(&self, map: u32, table: &mut [u32]) -> Told;
 }
 
 /// The desk with a task that it has read.
@@ -65,6 +77,7 @@ pub fn plainly_refused(refusal: plain::Refusal) -> Told {
 
 impl Side for Desk {
     type Run = Run;
+    type List = Vec<Operator>;
 
     fn begin(&self) -> Run {
         self.task.begin(&self.start).expect("the initial state is a start")
@@ -86,10 +99,23 @@ impl Side for Desk {
         let (bytes, words) = run.parts();
         (*bytes, *words)
     }
+
+    fn list(sequence: &[u32]) -> Vec<Operator> {
+        sequence.iter().map(|&op| Operator(op)).collect()
+    }
+
+    fn judge(&self, start: &State, list: &Vec<Operator>) -> Told {
+        self.task.judge(start, list).map_or_else(refused, |cost| Told::Cost(cost.0))
+    }
+
+    fn distances(&self, map: u32, table: &mut [u32]) -> Told {
+        self.task.distances(Map(map), table).map_or_else(refused, |rounds| Told::Rounds(rounds.0))
+    }
 }
 
 impl Side for Plain<'_> {
     type Run = plain::Run;
+    type List = Vec<u32>;
 
     fn begin(&self) -> plain::Run {
         plain::Run::begin(&self.task, self.start.values()).expect("the initial state is a start")
@@ -123,5 +149,17 @@ impl Side for Plain<'_> {
         words[STEPS + 1..STEPS + 9].copy_from_slice(&run.now.paid);
         words[STEPS + 9] = run.now.unshared;
         (bytes, words)
+    }
+
+    fn list(sequence: &[u32]) -> Vec<u32> {
+        sequence.to_vec()
+    }
+
+    fn judge(&self, start: &State, list: &Vec<u32>) -> Told {
+        self.task.judge(start.values(), list).map_or_else(plainly_refused, |cost| Told::Cost(cost.into()))
+    }
+
+    fn distances(&self, map: u32, table: &mut [u32]) -> Told {
+        self.task.distances(map, table).map_or_else(plainly_refused, Told::Rounds)
     }
 }

@@ -4,9 +4,10 @@
 use std::time::{Duration, Instant};
 use std::{io, io::BufRead};
 
-/// How many turns each side has in a round, unless they take too long. The best one counts: what else the machine does can only make a turn longer.
+/// How many turns each side has in a round; fewer if they take too long, but some. The best one counts: what else the machine does can only make a turn longer.
 const TURNS: usize = 15;
 const TOO_LONG: Duration = Duration::from_millis(500);
+const LEAST_TURNS: usize = 3;
 
 /// The least time of a turn: long for the clock, and short enough that most turns aren't interrupted.
 const TURN_NANOSECONDS: f64 = 2e6;
@@ -49,9 +50,9 @@ pub fn timed(desk: impl FnMut(), plain: impl FnMut()) -> Times {
     let (mut desk, mut plain) = (Timed::of(desk), Timed::of(plain));
     let mut best = Times { desk: f64::INFINITY, plain: f64::INFINITY };
     let began = Instant::now();
-    for _ in 0..TURNS {
+    for turn in 1..=TURNS {
         best = Times { desk: best.desk.min(desk.turn()), plain: best.plain.min(plain.turn()) };
-        if began.elapsed() > TOO_LONG {
+        if turn >= LEAST_TURNS && began.elapsed() > TOO_LONG {
             break;
         }
     }
