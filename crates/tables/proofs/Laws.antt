@@ -4,12 +4,13 @@ use Prim.Native.Nat.{ℕ, zero, suc, _+_, _-_, _≤_, _<_}
 use mathlib.Core.Path.{_≡_, refl, ap, ap₂, sym, _∙_}
 use mathlib.Core.List.{List}
 use mathlib.Core.Bool.{Bool, true, false, and-false}
+use mathlib.Core.Logic.{_⊎_, ⊎-elim}
 use native.Mathlib.Numerals.{add-one}
 use native.Mathlib.Omega.{arith}
 use lib.Dec.{ltb, eqb}
 use lib.ListN.{length, getD, set, length-set}
 use lib.Seq.{getD-set-same, getD-set-other}
-use borrow.Author.Tests.{ltb-true, ltb-false, eqb-true, eqb-false}
+use borrow.Author.Tests.{ltb-true, ltb-false, eqb-true, eqb-false, eq-eqb, ne-eqb}
 use Rattle.meaning.specs.Sas.{put}
 use Rattle.meaning.specs.Views.{holds, every}
 use Rattle.meaning.proofs.Facts.{by-cases}
@@ -36,6 +37,12 @@ every-false f (suc n) k h p =
     (λ e.
     let q : k ≡ n = omega (arith, ltb-false k n e) in
     rw (sym (ap f q) ∙ p) (and-false (every f n)))
+
+-- a walk that stops where the test fails, and else at n, came to n exactly if the test holds at every number below n
+pub every-walked : (f : ℕ → Bool) (n k : ℕ) → every f k ≡ true → k ≤ n → ((k < n) × (f k ≡ false)) ⊎ (n ≤ k) → eqb k n ≡ every f n
+every-walked f n k p h =
+    ⊎-elim (λ w. ne-eqb k n (λ e. omega (arith, w .0)) ∙ sym (every-false f n k (w .0) (w .1)))
+    (λ g. eq-eqb k n (omega arith) ∙ every-end f n k p h g)
 
 -- ---- a list filled place by place
 

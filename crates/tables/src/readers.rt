@@ -1,7 +1,8 @@
-// The readers: the code that knows the layout. A place past a table's end reads as 0, so a reading asks nothing of its caller.
+// The readers: the code that knows the layout. A place past a table's end reads as 0, so a reading asks nothing of its caller; `known_byte` alone may be told that its place is there.
 ghost use mathlib.Core.Path.{_≡_};
+ghost use mathlib.Core.Bool.{true};
 ghost use Prim.Native.Nat.{_<_};
-ghost use lib.ListN.{getD};
+ghost use lib.ListN.{length, getD};
 ghost use Rattle.meaning.specs.Limits.{mostVars, mostOps, mostMaps};
 ghost use Rattle.tables.specs.Layout.{rowAt, preRow, effRow, classRow, costAt, shareAt};
 ghost use Rattle.tables.specs.Task.{was};
@@ -58,6 +59,14 @@ pub fn byte_at(table: &[u8], at: usize) -> u8
     ensures { λ r. ⌜ r ≡ getD (was table) at 0 ⌝ }
 {
     if at < table.len() { table[at] } else { 0 }
+}
+
+// The byte at a place; where it is known to be there, it isn't looked for.
+pub fn known_byte(table: &[u8], at: usize, known: bool) -> u8
+    requires { ⌜ (known ≡ true → at < length (now table)) ⌝ }
+    ensures { λ r. ⌜ r ≡ getD (was table) at 0 ⌝ }
+{
+    if known { table[at] } else { byte_at(table, at) }
 }
 
 // The word at a place.

@@ -12,8 +12,8 @@ use crate::readers::GOAL_ROW;
 use crate::readers::PRE_ROWS;
 use crate::readers::byte_at;
 use crate::readers::eff_row;
+use crate::readers::known_byte;
 use crate::readers::pre_row;
-use crate::readers::row_at;
 use meaning::OpNo;
 use meaning::op_index;
 
@@ -31,18 +31,18 @@ pub fn value_after(fact: u8, x: u8) -> u8
     if fact == 0 { x } else { fact - 1 }
 }
 
-// What a row of facts says of the first variables holds in the state.
+// What a row of facts says of the first variables holds in the state. Whether both have all places is asked once, so that a turn looks at no length.
 pub fn row_holds(vars: u32, facts: &[u8], row: u32, s: &[u8]) -> bool
     ensures { λ r. ⌜ r ≡ rowHolds vars (was facts) row (was s) ⌝ }
 {
-    let mut v = 0;
-    while v < vars {
-        if !fact_holds(row_at(facts, row, v), byte_at(s, v as usize)) {
-            return false;
-        }
+    let n = vars as usize;
+    let at = row as usize * 8;
+    let there = at + n <= facts.len() && n <= s.len();
+    let mut v = 0usize;
+    while v < n && fact_holds(known_byte(facts, at + v, there), known_byte(s, v, there)) {
         v += 1;
     }
-    true
+    v == n
 }
 
 // Each precondition of the operator holds in the state.
@@ -65,13 +65,12 @@ pub fn state_after(c: Counts, facts: &[u8], s: [u8; 8], o: OpNo) -> [u8; 8]
     requires { ⌜ (c .vars ≤ mostVars) × (o .0 < mostOps) ⌝ }
     ensures { λ r. ⌜ r ≡ stepped c (was facts) s (o .0) ⌝ }
 {
-    let vars = c.vars as usize;
-    let row = eff_row(o);
+    let n = c.vars as usize;
+    let at = eff_row(o) as usize * 8;
+    let there = at + n <= facts.len();
     let mut t = s;
-    let mut v = 0usize;
-    while v < vars {
-        t[v] = value_after(row_at(facts, row, v as u32), t[v]);
-        v += 1;
+    for v in 0..n {
+        t[v] = value_after(known_byte(facts, at + v, there), t[v]);
     }
     t
 }
@@ -87,17 +86,12 @@ pub fn is_asked(pre: u8, eff: u8) -> bool
 pub fn is_idle(vars: u32, facts: &[u8], o: OpNo) -> bool
     ensures { λ r. ⌜ r ≡ isIdle vars (was facts) (o .0) ⌝ }
 {
+    let n = vars as usize;
     let pre = (PRE_ROWS as usize + op_index(o)) * 8;
     let eff = (EFF_ROWS as usize + op_index(o)) * 8;
-    let mut v = 0;
-    while v < vars {
-        if !is_asked(
-            byte_at(facts, pre + v as usize),
-            byte_at(facts, eff + v as usize),
-        ) {
-            return false;
-        }
+    let mut v = 0usize;
+    while v < n && is_asked(byte_at(facts, pre + v), byte_at(facts, eff + v)) {
         v += 1;
     }
-    true
+    v == n
 }
