@@ -10,12 +10,14 @@ ghost use Rattle.tables.specs.Task.{lent, was, left};
 ghost use Rattle.scan.specs.Scan.{tablesFault};
 ghost use Rattle.grammar.specs.Fields.{leaves};
 ghost use Rattle.grammar.specs.Grammar.{readText};
+ghost use Rattle.grammar.specs.Writing.{page, writeText};
 ghost use Rattle.views.specs.Entries.{DistancesGiven, DistanceGiven, BoundGiven};
 ghost use Rattle.sequences.specs.Judging.{judgedOf};
 ghost use Rattle.sequences.specs.Choosing.{cheaperOf};
 ghost use Rattle.sequences.specs.Opening.{OpeningOf};
 ghost use Rattle.ledger.specs.Ledger.{begun, offered};
 use grammar::Reading;
+use grammar::Written;
 use ledger::Offered;
 use ledger::Run;
 use meaning::OpNo;
@@ -34,6 +36,16 @@ pub fn read(task: &[u8], facts: &mut [u8], costs: &mut [u32], shares: &mut [u32]
     ensures { λ r. ⌜ leaves r (left facts) (left costs) (left shares) ≡ readText (was task) (was facts) (was costs) (was shares) ⌝ }
 {
     text::read(task, facts, costs, shares)
+}
+
+// WRITES the text of handed-in tables into a lent buffer of at least 16,384 bytes: how many bytes it has, or why there is none.
+// Written: the text stands in the buffer's first places, and every place after it is as it was. Refused: so is every place.
+// Each accepted task has one text, and reading it gives the same tables (proofs/RoundTrips.antt).
+// `write-unique`.
+pub fn write(c: Counts, facts: &[u8], costs: &[u32], shares: &[u32], buffer: &mut [u8]) -> Written
+    ensures { λ r. ⌜ page r (left buffer) ≡ writeText (lent c facts costs shares) (was buffer) ⌝ }
+{
+    writer::write(c, facts, costs, shares, buffer)
 }
 
 // CHECKS handed-in tables by the text's rules: clean, or the first fault with the line that the same task's text would have.

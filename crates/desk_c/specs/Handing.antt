@@ -13,11 +13,12 @@ use Rattle.grammar.specs.declared.Reading.{Reading}
 use Rattle.grammar.specs.declared.Reading.the-variants as reading
 use Rattle.grammar.specs.Fields.{Outcome}
 use Rattle.grammar.specs.Grammar.{readText}
+use Rattle.grammar.specs.Writing.{writeText}
 use Rattle.views.specs.declared.DistancesAnswer.{DistancesAnswer}
 use Rattle.views.specs.declared.DistanceAnswer.{DistanceAnswer}
 use Rattle.views.specs.declared.BoundAnswer.{BoundAnswer}
 use Rattle.views.specs.Entries.{DistancesGiven, DistanceGiven, BoundGiven}
-use Rattle.words.specs.Words.{refusedWord, readingWord, distancesWord, distanceWord, boundWord}
+use Rattle.words.specs.Words.{refusedWord, readingWord, writtenWord, distancesWord, distanceWord, boundWord}
 
 -- the tables of a task that is lent by its counts, three numbers, and its three tables
 abbrev pub lentTask : ℕ → ℕ → ℕ → Slice → Slice → Slice → Tables
@@ -49,6 +50,17 @@ readCounted o counts = readLeft (readingWord (o .answer)) (countsAfter (o .answe
 unfoldable pub readHanded : List ℕ → List ℕ → List ℕ → List ℕ → List ℕ → ReadLeft
 readHanded text counts f c s =
     cond (ltb (length counts) countsRow) (readLeft (refusedWord TableTooShort) counts f c s) (readCounted (readText text f c s) counts)
+
+-- WRITING: the word, and the lent buffer
+pub record WriteLeft : Type 0 where
+  pub word : ℕ
+  pub bytes : List ℕ
+
+abbrev pub writeLeft : ℕ → List ℕ → WriteLeft
+writeLeft w b = record { word = w; bytes = b }
+
+abbrev pub writeHanded : Tables → List ℕ → WriteLeft
+writeHanded t buffer = writeLeft (writtenWord (writeText t buffer .answer)) (writeText t buffer .bytes)
 
 -- DISTANCES, A DISTANCE, THE BOUND: the word of the answer that the desk gives
 abbrev pub DistancesHanded : Tables → ℕ → List ℕ → ℕ → List ℕ → Type 0

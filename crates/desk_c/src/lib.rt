@@ -8,7 +8,7 @@ ghost use Rattle.sequences.specs.Judging.{judgedOf};
 ghost use Rattle.sequences.specs.Choosing.{cheaperOf, chosenOf};
 ghost use Rattle.words.specs.Words.{foundWord, judgedWord, cheaperWord, openingWord};
 ghost use Rattle.lent_runs.specs.Left.{runLeft, beginHanded, offerHanded};
-ghost use Rattle.desk_c.specs.Handing.{lentTask, readLeft, readHanded, DistancesHanded, DistanceHanded, BoundHanded};
+ghost use Rattle.desk_c.specs.Handing.{lentTask, readLeft, readHanded, writeLeft, writeHanded, DistancesHanded, DistanceHanded, BoundHanded};
 ghost use Rattle.tables.specs.Task.{was, left};
 use grammar::Reading;
 use lent_runs::hand_back;
@@ -28,6 +28,7 @@ use words::judged_word;
 use words::opening_word;
 use words::refused_word;
 use words::word;
+use words::written_word;
 
 // The places of a lent row of counts.
 const COUNTS_ROW: usize = 3;
@@ -57,6 +58,24 @@ pub extern "C" fn desk_read(
         }
         Reading::Refused(f) => refused_word(f),
     }
+}
+
+// WRITES the text of handed-in tables into a lent buffer of at least 16,384 bytes; the word tells how many bytes it has.
+// `write-unique`.
+#[no_mangle]
+pub extern "C" fn desk_write(
+    vars: u32,
+    ops: u32,
+    maps: u32,
+    facts: &[u8],
+    costs: &[u32],
+    shares: &[u32],
+    buffer: &mut [u8],
+) -> u64
+    ensures { λ w. ⌜ writeLeft w (left buffer) ≡ writeHanded (lentTask vars ops maps facts costs shares) (was buffer) ⌝ }
+{
+    let c = Counts { vars, ops, maps };
+    written_word(desk::write(c, facts, costs, shares, buffer))
 }
 
 // CHECKS handed-in tables.

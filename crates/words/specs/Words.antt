@@ -6,6 +6,8 @@ use Rattle.scan.specs.declared.Found.{Found}
 use Rattle.scan.specs.declared.Found.the-variants.{Clean, Fault}
 use Rattle.grammar.specs.declared.Reading.{Reading}
 use Rattle.grammar.specs.declared.Reading.the-variants as reading
+use Rattle.grammar.specs.declared.Written.{Written}
+use Rattle.grammar.specs.declared.Written.the-variants as written
 use Rattle.views.specs.declared.DistancesAnswer.{DistancesAnswer}
 use Rattle.views.specs.declared.DistancesAnswer.the-variants as distances
 use Rattle.views.specs.declared.DistanceAnswer.{DistanceAnswer}
@@ -57,6 +59,11 @@ foundWord (Fault r) = refusedWord r
 abbrev pub readingWord : Reading → ℕ
 readingWord (reading.Accepted c) = word done 0
 readingWord (reading.Refused r) = refusedWord r
+
+-- how many bytes a text has
+abbrev pub writtenWord : Written → ℕ
+writtenWord (written.Length n) = word done n
+writtenWord (written.Refused r) = refusedWord r
 
 -- the count of rounds
 abbrev pub distancesWord : DistancesAnswer → ℕ

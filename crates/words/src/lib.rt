@@ -3,7 +3,8 @@ ghost use mathlib.Core.Path.{_≡_};
 ghost use Prim.Native.Nat.{_≤_};
 ghost use Rattle.sequences.specs.Choosing.{stepsOf};
 ghost use Rattle.meaning.specs.Limits.{mostSteps};
-ghost use Rattle.words.specs.Words.{word, refusedWord, foundWord, distancesWord, distanceWord, boundWord, SumFits, judgedWord, cheaperWord, openingWord, answerWord};
+ghost use Rattle.words.specs.Words.{word, refusedWord, foundWord, writtenWord, distancesWord, distanceWord, boundWord, SumFits, judgedWord, cheaperWord, openingWord, answerWord};
+use grammar::Written;
 use ledger::Answer;
 use refusals::Refusal;
 use refusals::number;
@@ -50,6 +51,16 @@ pub fn found_word(found: Found) -> u64
     match found {
         Found::Clean => word(DONE, 0),
         Found::Fault(r) => refused_word(r),
+    }
+}
+
+// How many bytes a text has.
+pub fn written_word(a: Written) -> u64
+    ensures { λ w. ⌜ w ≡ writtenWord a ⌝ }
+{
+    match a {
+        Written::Length(n) => word(DONE, n),
+        Written::Refused(r) => refused_word(r),
     }
 }
 
