@@ -27,9 +27,13 @@ unfoldable pub inked : Pen → List ℕ → Pen
 inked p [] = p
 inked p (b ∷ x) = inked (stroke p b) x
 
--- a function that is lent the buffer puts the text x there from place n on, and answers the place after it
+-- from p on the text is written, and that leaves q
+pub record Writes (p : Pen) (text : List ℕ) (q : Pen) : Type 0 where
+  pub leaves : q ≡ inked p text
+
+-- a function that is lent the buffer writes the text there from place n on, and answers the place after it
 abbrev pub Puts : Slice → ℕ → List ℕ → ℕ → Type 0
-Puts out n x r = pen r (left out) ≡ inked (pen n (was out)) x
+Puts out n text r = Writes (pen n (was out)) text (pen r (left out))
 
 -- a list of facts once some were written, or none: what is left of it from variable v on, with n variables to come
 unfoldable pub factsLeft : Bool → Facts → ℕ → ℕ → List ℕ
