@@ -1,6 +1,6 @@
 -- A text written byte by byte into a buffer. Past the buffer's end nothing is written.
 use Prim.Native.Nat.{ℕ, zero, suc, _+_}
-use mathlib.Core.Bool.{Bool, cond}
+use mathlib.Core.Bool.{Bool, true, false, cond}
 use mathlib.Core.Path.{_≡_}
 use mathlib.Core.List.{List, [], _∷_, _++_}
 use lib.Dec.{ltb}
@@ -39,7 +39,12 @@ Puts out n text r = Writes (pen n (was out)) text (pen r (left out))
 unfoldable pub factsLeft : Bool → Facts → ℕ → ℕ → List ℕ
 factsLeft some F n v = cond some (moreFacts F n v) (someFacts F n v)
 
+-- the comma before a fact, where some were written
+unfoldable pub commaIf : Bool → List ℕ
+commaIf true = comma ∷ []
+commaIf false = []
+
 -- what is said of a variable, after a comma where some facts were written; a place that holds 0 says nothing
 unfoldable pub saidOf : Bool → ℕ → ℕ → List ℕ
 saidOf some zero v = []
-saidOf some (suc k) v = cond some (comma ∷ []) [] ++ fact v k
+saidOf some (suc k) v = commaIf some ++ fact v k

@@ -1,60 +1,51 @@
+-- `writer::rows::put_facts` meets its contract: the invariant is by what is left of the list, which once some facts are written begins with a comma. Assumes nothing.
+use Prim.Native.Nat.{ℕ, _-_, _≤_}
+use native.Mathlib.Omega.{arith}
+use mathlib.Core.Path.{_≡_, refl, ap, _∙_}
+use mathlib.Core.Bool.{not, _||_}
+use mathlib.Core.Logic.{⊎-elim}
+use lib.Dec.{eqb}
+use lib.ListN.{length}
+use borrow.Author.Needs.{needs}
+use Rattle.tables.specs.Layout.{rowAt}
+use Rattle.grammar.specs.Spelling.{someFacts}
+use Rattle.writer.specs.Inside.Pen.{pen, inked, Writes, factsLeft, saidOf}
+use Rattle.writer.proofs.Pens.{so}
+use Rattle.writer.proofs.Parts.{facts-whole, facts-turn, facts-over, facts-none}
 use Rattle.writer.proofs.rows.put_facts.Statement.{statement}
 use Rattle.writer.proofs.rows.put_facts.Tie as tie
-use Rattle.writer.proofs.rows.put_facts.Reads as reads
-use Rattle.writer.proofs.rows.put_facts.Lts as lts
-use Rattle.tables.proofs.readers.row_at.Reads as row-at-reads
-use Rattle.writer.proofs.pen.put.Reads as put-reads
-use Rattle.writer.proofs.rows.put_said.Reads as put-said-reads
 
 abbrev Inv-loop : tie.InvT-loop
-Inv-loop out₀ at facts row n next₀ some₀ v₀ out next some v = ?
+Inv-loop out₀ at facts row n next₀ some₀ v₀ out next some v =
+    (v ≤ n) × (length out ≡ length out₀) × Writes (pen next out) (factsLeft some (rowAt facts row) (n - v) v) (inked (pen next₀ out₀) (someFacts (rowAt facts row) n 0))
 
 abbrev μ-loop : tie.MeasureT-loop
-μ-loop out₀ at facts row n next₀ some₀ v₀ out next some v = ?
+μ-loop out₀ at facts row n next₀ some₀ v₀ out next some v = n - v
 
--- src/rows.rt:72:5
-loop-holds : tie.Need-loop-holds Inv-loop μ-loop
-loop-holds c = ?
-
--- src/rows.rt:73:13
-row-at-requires : tie.Need-row-at-requires Inv-loop μ-loop
-row-at-requires c κs = ?
-
--- src/rows.rt:74:9
-put-said-requires : tie.Need-put-said-requires Inv-loop μ-loop
-put-said-requires c κs = ?
-
--- src/rows.rt:76:9
-add-v : tie.Need-add-v Inv-loop μ-loop
-add-v c = ?
-
--- src/rows.rt:72:5
-loop-less : tie.Need-loop-less Inv-loop μ-loop
-loop-less c = ?
-
--- src/rows.rt:72:5
 loop-again : tie.Need-loop-again Inv-loop μ-loop
-loop-again c = ?
+loop-again c =
+    let put = c .before .before .before in
+    let said = put .before .before in
+    let run = said .before .before .loop in
+    let x = said .row-at .ensures in
+    let some : c .if1 .some ≡ (run .some || not (eqb (said .row-at .result) 0)) =
+    ⊎-elim (λ w. w .1 ∙ rw (w .0 .taken) refl) (λ w. w .1 ∙ rw (w .0 .left) refl) (c .if1 .came) in (
+      omega arith,
+      put .put-said .kept .0 ∙ run .inv .1,
+      rw (some ∙ ap (λ (k : ℕ). run .some || not (eqb k 0)) x)
+          (facts-turn _ _ (run .v) (run .some) (said .before .loop-test .taken) (so (put .put-said .ensures) (ap (λ (k : ℕ). saidOf (run .some) k (run .v)) x)) (run .inv .2)),
+    )
 
--- src/rows.rt:78:29
-put-requires : tie.Need-put-requires Inv-loop μ-loop
-put-requires c κs = ?
-
--- src/rows.rt:66:1
-same-length : tie.Need-same-length Inv-loop μ-loop
-same-length c = ?
-
--- src/rows.rt:66:1
 returns : tie.Need-returns Inv-loop μ-loop
-returns c = ?
+returns c =
+    let run = c .before .before .loop in
+    facts-over _ _ (run .v) (c .before .loop-test .left) (rw (c .if2 .taken) at (run .inv .2))
 
--- src/rows.rt:66:1
-same-length-2 : tie.Need-same-length-2 Inv-loop μ-loop
-same-length-2 c = ?
-
--- src/rows.rt:66:1
 returns-2 : tie.Need-returns-2 Inv-loop μ-loop
-returns-2 c = ?
+returns-2 c =
+    let none = c .before .before .before .before in
+    let run = none .before .before .loop in
+    facts-none _ _ (run .v) (none .before .loop-test .left) (c .before .before .put .ensures) (rw (none .if2 .left) at (run .inv .2))
 
 pub put-facts-spec : {M : Type 1} → statement M
 put-facts-spec =
@@ -62,14 +53,14 @@ put-facts-spec =
     (tie.spec
     Inv-loop
     μ-loop
-    loop-holds
-    row-at-requires
-    put-said-requires
-    add-v
-    loop-less
+    (λ c. (omega arith, refl, facts-whole _ _ _))
+    (λ c κs. search needs)
+    (λ c κs. search needs)
+    (λ c. omega arith)
+    (λ c. omega arith)
     loop-again
-    put-requires
-    same-length
+    (λ c κs. search needs)
+    (λ c. c .before .before .loop .inv .1)
     returns
-    same-length-2
+    (λ c. c .before .before .put .kept .0 ∙ c .before .before .before .before .before .before .loop .inv .1)
     returns-2)

@@ -1,47 +1,17 @@
+-- `writer::rows::put_said` meets its contract: nothing, or the comma and the fact. Assumes nothing.
 use borrow.Author.Needs.{needs}
+use Rattle.writer.proofs.Pens.{nothing, after, so}
+use Rattle.writer.proofs.Parts.{said-none, said-some}
 use Rattle.writer.proofs.rows.put_said.Statement.{statement}
 use Rattle.writer.proofs.rows.put_said.Tie as tie
-use Rattle.writer.proofs.rows.put_said.Reads as reads
-use Rattle.writer.proofs.rows.put_said.Lts as lts
-use Rattle.writer.proofs.pen.put.Reads as put-reads
-use Rattle.writer.proofs.rows.put_fact.Reads as put-fact-reads
 
--- src/rows.rt:59:9
 returns : tie.Need-returns
-returns c = ?
+returns c = so (nothing _) (said-none _ _ _ (c .if1 .taken))
 
--- src/rows.rt:61:26
-put-requires : tie.Need-put-requires
-put-requires c κs = search needs
-
--- src/rows.rt:62:29
-sub-put-fact : tie.Need-sub-put-fact
-sub-put-fact c = search needs
-
--- src/rows.rt:62:28
-cast-put-fact : tie.Need-cast-put-fact
-cast-put-fact c = search needs
-
--- src/rows.rt:62:5
-put-fact-requires : tie.Need-put-fact-requires
-put-fact-requires c κs = search needs
-
--- src/rows.rt:55:1
-same-length : tie.Need-same-length
-same-length c = ?
-
--- src/rows.rt:55:1
 returns-2 : tie.Need-returns-2
-returns-2 c = ?
+returns-2 c =
+    let comma = c .before .before .before .before .before .before in
+    so (after (comma .put-comma .ensures) (c .before .before .put-fact .ensures)) (said-some _ _ _ (comma .before .before .if1 .left))
 
 pub put-said-spec : {M : Type 1} → statement M
-put-said-spec =
-    tie.close
-    (tie.spec
-    returns
-    put-requires
-    sub-put-fact
-    cast-put-fact
-    put-fact-requires
-    same-length
-    returns-2)
+put-said-spec = tie.close (tie.spec returns (λ c κs. search needs) (λ c. search needs) (λ c. search needs) (λ c κs. search needs) (λ c. search needs) returns-2)
