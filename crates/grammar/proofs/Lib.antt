@@ -25,3 +25,4 @@ pub mod SpellKinds
 pub mod SpellLeft
 pub mod Unread
 pub mod Writing
+pub mod RoundTrips
