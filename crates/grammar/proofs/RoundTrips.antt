@@ -1,4 +1,4 @@
--- ROUND TRIPS: writing what was read gives the same bytes; reading what was written gives the same tables, their unused places 0; so each accepted task has one text.
+-- ROUND TRIPS: writing what was read gives the same bytes; reading a task's text gives the same tables, their unused places 0.
 -- What a reading leaves agrees with the tables that the text spells at every place, and tables that agree at a task's own places have one text. Assumes nothing.
 use Prim.Native.Nat.{ℕ, _≤_, _<_}
 use native.Mathlib.Omega.{arith}
@@ -158,9 +158,3 @@ module _ (t : Tables) (p : tablesFault t ≡ Clean) (f c s : List ℕ) (a : fact
   pub read-text-same : UnusedZero t → length f ≡ length (t .facts) → length c ≡ length (t .costs) → length s ≡ length (t .shares)
       → readText (textOf edition t) f c s ≡ leaves (Accepted (t .counts)) (t .facts) (t .costs) (t .shares)
   read-text-same U = same-bytes t f c s (readText (textOf edition t) f c s) read-text U
-
--- ---- ONE TEXT A TASK: texts that are accepted and leave the same numbers in a task's own places are equal
-
-module _ (x f c s y g d h : List ℕ) (n k : Counts) (p : readText x f c s .answer ≡ Accepted n) (q : readText y g d h .answer ≡ Accepted k) where
-  pub one-text-each : OwnSame (tablesLeft n (readText x f c s)) (tablesLeft k (readText y g d h)) → x ≡ y
-  one-text-each O = sym (left-text x f c s n p) ∙ own-text _ _ O ∙ left-text y g d h k q
