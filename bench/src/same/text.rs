@@ -1,0 +1,160 @@
+//! That both sides read and write the same texts.
+use super::{Both, Chance};
+use crate::sides::{Desk, Plain, Side, Told};
+use crate::tables::Tables;
+use mihaedop::{COSTS, FACTS, SHARES, TEXT};
+
+/// What stands in a place before it is written.
+const MARK: u8 = 0xa5;
+
+/// At most so many places of a text are edited; of a longer one these, by chance.
+const EDITED: usize = 400;
+
+/// How many texts by chance are edited at some places at once.
+const BY_CHANCE: usize = 2_000;
+
+/// The bytes that are tried at a place.
+const BYTES: &[u8] = b"0127890,:;-/=\n \0\xff";
+
+impl Both<'_> {
+    /// A text read by both sides into tables with something else in them: the answer, and every place afterwards. What is accepted is written as the same text.
+    pub fn read(&mut self, what: &str, text: &[u8]) -> Result<(Told, Tables), String> {
+        let (mut left, mut of_plain) = (Tables::filled(MARK), Tables::filled(MARK));
+        let desk = Desk::read(text, &mut left.facts, &mut left.costs, &mut left.shares);
+        let plain = Plain::read(text, &mut of_plain.facts, &mut of_plain.costs, &mut of_plain.shares);
+        self.count(what, desk, plain)?;
+        if left != of_plain {
+            return Err(format!("{what}: the tables differ after it"));
+        }
+        match desk {
+            Told::Counts(counts) => left.counts = counts,
+            _ if left != Tables::filled(MARK) => return Err(format!("{what}: the tables were written, though it was refused")),
+            told => return Ok((told, left)),
+        }
+        let (_, buffer) = self.write(what, left.counts, &left.facts, &left.costs, &left.shares, TEXT)?;
+        if buffer[..text.len()] != *text || buffer[text.len()..].iter().any(|&byte| byte != MARK) {
+            return Err(format!("{what}: it is not written as it was read"));
+        }
+        Ok((desk, left))
+    }
+
+    /// Tables written by both sides into buffers of so many bytes: the answer, and every byte afterwards.
+    pub fn write(
+        &mut self,
+        what: &str,
+        counts: [u32; 3],
+        facts: &[u8],
+        costs: &[u32],
+        shares: &[u32],
+        bytes: usize,
+    ) -> Result<(Told, Vec<u8>), String> {
+        let (mut left, mut of_plain) = (vec![MARK; bytes], vec![MARK; bytes]);
+        let desk = Desk::write(counts, facts, costs, shares, &mut left);
+        let plain = Plain::write(counts, facts, costs, shares, &mut of_plain);
+        self.count(&format!("{what}, written into {bytes} bytes"), desk, plain)?;
+        if left != of_plain {
+            return Err(format!("{what}: what was written differs"));
+        }
+        let after = if let Told::Length(length) = desk { length } else { 0 };
+        if left[after..].iter().any(|&byte| byte != MARK) {
+            return Err(format!("{what}: more was written than the text"));
+        }
+        Ok((desk, left))
+    }
+
+    /// The task's text, and texts near it; tables and buffers that are too short, long enough and longer.
+    pub fn texts(&mut self, text: &[u8]) -> Result<(), String> {
+        let whole = Tables::of(&self.desk.task);
+        if self.read("the task's text", text)?.1 != whole {
+            return Err("the task's text gives other tables than the desk has".to_string());
+        }
+        self.lengths(text, &whole)?;
+        let mut chance = Chance(1);
+        let places: Vec<usize> = match text.len() {
+            length if length < EDITED => (0..=length).collect(),
+            length => (0..EDITED).map(|_| chance.below(length + 1)).collect(),
+        };
+        for place in places {
+            for (what, edited) in edits(text, place) {
+                self.read(&format!("the task's text with {what} at byte {place}"), &edited)?;
+            }
+        }
+        for _ in 0..BY_CHANCE {
+            let mut edited = text.to_vec();
+            for _ in 0..2 + chance.below(3) {
+                let mut edits = edits(&edited, chance.below(edited.len() + 1));
+                edited = edits.swap_remove(chance.below(edits.len())).1;
+            }
+            self.read("a text edited by chance", &edited)?;
+        }
+        Ok(())
+    }
+
+    /// What is lent is a place too short, just long enough, and a place longer; and so is the text.
+    fn lengths(&mut self, text: &[u8], whole: &Tables) -> Result<(), String> {
+        let lent = [
+            [0; 3],
+            [FACTS - 1, COSTS, SHARES],
+            [FACTS, COSTS - 1, SHARES],
+            [FACTS, COSTS, SHARES - 1],
+            [FACTS + 1, COSTS + 1, SHARES + 1],
+        ];
+        for [facts, costs, shares] in lent {
+            for text in [text, &text[1..], &[b'\n'; TEXT + 1]] {
+                self.read_into(text, [facts, costs, shares])?;
+            }
+        }
+        for counts in [whole.counts, [0; 3]] {
+            for bytes in [0, 1, text.len(), TEXT - 1, TEXT, TEXT + 1] {
+                self.write("the task's tables", counts, &whole.facts, &whole.costs, &whole.shares, bytes)?;
+            }
+        }
+        for bytes in [text.len() + 1, TEXT, TEXT + 1] {
+            for (text, more) in [(text, b'\n'), (text, b'e'), (b"edition=1", b'1')] {
+                let mut longer = text.to_vec();
+                longer.resize(bytes, more);
+                self.read(&format!("a text of {bytes} bytes"), &longer)?;
+            }
+        }
+        Ok(())
+    }
+
+    /// A text read into tables of so many places.
+    fn read_into(&mut self, text: &[u8], [facts, costs, shares]: [usize; 3]) -> Result<(), String> {
+        let word = u32::from(MARK);
+        let lent = (vec![MARK; facts], vec![word; costs], vec![word; shares]);
+        let (mut of_desk, mut of_plain) = (lent.clone(), lent);
+        let desk = Desk::read(text, &mut of_desk.0, &mut of_desk.1, &mut of_desk.2);
+        let plain = Plain::read(text, &mut of_plain.0, &mut of_plain.1, &mut of_plain.2);
+        let what = format!("a text read into {facts}, {costs} and {shares} places");
+        self.count(&what, desk, plain)?;
+        if of_desk != of_plain {
+            return Err(format!("{what}: the tables differ after it"));
+        }
+        Ok(())
+    }
+}
+
+/// The text with something else at a place, and what that is.
+fn edits(text: &[u8], place: usize) -> Vec<(String, Vec<u8>)> {
+    let (before, after) = text.split_at(place);
+    let mut edits = vec![("the end".to_string(), before.to_vec())];
+    let mut with = |what: &str, middle: &[u8], after: &[u8]| edits.push((what.to_string(), [before, middle, after].concat()));
+    for byte in BYTES {
+        with(&format!("byte {byte} put in"), &[*byte], after);
+    }
+    if let [was, after @ ..] = after {
+        with("a byte dropped", &[], after);
+        for byte in BYTES.iter().chain(&[was.wrapping_sub(1), was.wrapping_add(1)]) {
+            with(&format!("byte {byte}"), &[*byte], after);
+        }
+    }
+    let digits = after.iter().take_while(|byte| byte.is_ascii_digit()).count();
+    if let Some(number) = std::str::from_utf8(&after[..digits]).ok().and_then(|digits| digits.parse::<u128>().ok()) {
+        // what fits into no number of the tables, and is the same number in the bits of one that is cut off
+        for more in [1 << 8, 1 << 16, 1 << 32, 1 << 64] {
+            with(&format!("{more} added"), (number + more).to_string().as_bytes(), &after[digits..]);
+        }
+    }
+    edits
+}
