@@ -87,19 +87,14 @@ impl Pen<'_> {
         self.byte(b'0' + digit);
     }
 
-    /// A number of any length: its digits from the last one on, and then the whole.
+    /// A number of any length: its digits from the last one on, once it is known how many they are.
     fn number(&mut self, mut number: u32) {
-        let mut digits = [0; 10];
-        let mut first = digits.len();
-        loop {
-            first -= 1;
-            digits[first] = b'0' + (number % 10) as u8;
+        let digits = number.checked_ilog10().map_or(1, |tens| tens as usize + 1);
+        for place in self.buffer[self.at..][..digits].iter_mut().rev() {
+            *place = b'0' + (number % 10) as u8;
             number /= 10;
-            if number == 0 {
-                break;
-            }
         }
-        self.word(&digits[first..]);
+        self.at += digits;
     }
 
     /// A line of one number.

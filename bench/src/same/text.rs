@@ -7,6 +7,9 @@ use mihaedop::{COSTS, FACTS, SHARES, TEXT};
 /// What stands in a place before it is written.
 const MARK: u8 = 0xa5;
 
+/// Tables of any length: facts, costs and shares.
+type Lent = (Vec<u8>, Vec<u32>, Vec<u32>);
+
 /// At most so many places of a text are edited; of a longer one these, by chance.
 const EDITED: usize = 400;
 
@@ -17,23 +20,30 @@ const BY_CHANCE: usize = 2_000;
 const BYTES: &[u8] = b"0127890,:;-/=\n \0\xff";
 
 impl Both<'_> {
-    /// A text read by both sides into tables with something else in them: the answer, and every place afterwards. What is accepted is written as the same text.
-    pub fn read(&mut self, what: &str, text: &[u8]) -> Result<(Told, Tables), String> {
-        let (mut left, mut of_plain) = (Tables::filled(MARK), Tables::filled(MARK));
-        let desk = Desk::read(text, &mut left.facts, &mut left.costs, &mut left.shares);
-        let plain = Plain::read(text, &mut of_plain.facts, &mut of_plain.costs, &mut of_plain.shares);
-        self.count(what, desk, plain)?;
+    /// A text read by both sides: the answer, and the tables afterwards. What is accepted is written as the same text.
+    pub fn read(&mut self, what: &str, text: &[u8]) -> Result<Lent, String> {
+        let (told, lent) = self.read_into(what, text, [FACTS, COSTS, SHARES])?;
+        if let Told::Counts(counts) = told {
+            let (_, buffer) = self.write(what, counts, &lent.0, &lent.1, &lent.2, TEXT)?;
+            if !buffer.starts_with(text) || buffer[text.len()..].iter().any(|&byte| byte != MARK) {
+                return Err(format!("{what}: it is not written as it was read"));
+            }
+        }
+        Ok(lent)
+    }
+
+    /// A text read by both sides into tables of so many places, with something else in them: the answer, and every place afterwards.
+    fn read_into(&mut self, what: &str, text: &[u8], [facts, costs, shares]: [usize; 3]) -> Result<(Told, Lent), String> {
+        let lent: Lent = (vec![MARK; facts], vec![MARK.into(); costs], vec![MARK.into(); shares]);
+        let (mut left, mut of_plain) = (lent.clone(), lent.clone());
+        let desk = Desk::read(text, &mut left.0, &mut left.1, &mut left.2);
+        let plain = Plain::read(text, &mut of_plain.0, &mut of_plain.1, &mut of_plain.2);
+        self.count(&format!("{what}, read into {facts}, {costs} and {shares} places"), desk, plain)?;
         if left != of_plain {
             return Err(format!("{what}: the tables differ after it"));
         }
-        match desk {
-            Told::Counts(counts) => left.counts = counts,
-            _ if left != Tables::filled(MARK) => return Err(format!("{what}: the tables were written, though it was refused")),
-            told => return Ok((told, left)),
-        }
-        let (_, buffer) = self.write(what, left.counts, &left.facts, &left.costs, &left.shares, TEXT)?;
-        if buffer[..text.len()] != *text || buffer[text.len()..].iter().any(|&byte| byte != MARK) {
-            return Err(format!("{what}: it is not written as it was read"));
+        if matches!(desk, Told::Refused { .. }) && left != lent {
+            return Err(format!("{what}: the tables were written, though it was refused"));
         }
         Ok((desk, left))
     }
@@ -65,7 +75,7 @@ impl Both<'_> {
     /// The task's text, and texts near it; tables and buffers that are too short, long enough and longer.
     pub fn texts(&mut self, text: &[u8]) -> Result<(), String> {
         let whole = Tables::of(&self.desk.task);
-        if self.read("the task's text", text)?.1 != whole {
+        if self.read("the task's text", text)? != (whole.facts.to_vec(), whole.costs.to_vec(), whole.shares.to_vec()) {
             return Err("the task's text gives other tables than the desk has".to_string());
         }
         self.lengths(text, &whole)?;
@@ -99,9 +109,9 @@ impl Both<'_> {
             [FACTS, COSTS, SHARES - 1],
             [FACTS + 1, COSTS + 1, SHARES + 1],
         ];
-        for [facts, costs, shares] in lent {
+        for places in lent {
             for text in [text, &text[1..], &[b'\n'; TEXT + 1]] {
-                self.read_into(text, [facts, costs, shares])?;
+                self.read_into("a text", text, places)?;
             }
         }
         for counts in [whole.counts, [0; 3]] {
@@ -115,21 +125,6 @@ impl Both<'_> {
                 longer.resize(bytes, more);
                 self.read(&format!("a text of {bytes} bytes"), &longer)?;
             }
-        }
-        Ok(())
-    }
-
-    /// A text read into tables of so many places.
-    fn read_into(&mut self, text: &[u8], [facts, costs, shares]: [usize; 3]) -> Result<(), String> {
-        let word = u32::from(MARK);
-        let lent = (vec![MARK; facts], vec![word; costs], vec![word; shares]);
-        let (mut of_desk, mut of_plain) = (lent.clone(), lent);
-        let desk = Desk::read(text, &mut of_desk.0, &mut of_desk.1, &mut of_desk.2);
-        let plain = Plain::read(text, &mut of_plain.0, &mut of_plain.1, &mut of_plain.2);
-        let what = format!("a text read into {facts}, {costs} and {shares} places");
-        self.count(&what, desk, plain)?;
-        if of_desk != of_plain {
-            return Err(format!("{what}: the tables differ after it"));
         }
         Ok(())
     }
