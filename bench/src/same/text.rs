@@ -13,8 +13,9 @@ type Lent = (Vec<u8>, Vec<u32>, Vec<u32>);
 /// At most so many places of a text are edited; of a longer one these, by chance.
 const EDITED: usize = 400;
 
-/// How many texts by chance are edited at some places at once.
-const BY_CHANCE: usize = 2_000;
+/// How many texts by chance are edited at some places at once, each at most so many bytes after the one before.
+const BY_CHANCE: usize = 10_000;
+const NEAR: usize = 4;
 
 /// The bytes that are tried at a place.
 const BYTES: &[u8] = b"0127890,:;-/=\n \0\xff";
@@ -89,13 +90,30 @@ impl Both<'_> {
                 self.read(&format!("the task's text with {what} at byte {place}"), &edited)?;
             }
         }
+        self.line_ends(text)?;
         for _ in 0..BY_CHANCE {
             let mut edited = text.to_vec();
+            let mut place = chance.below(text.len() + 1);
             for _ in 0..2 + chance.below(3) {
-                let mut edits = edits(&edited, chance.below(edited.len() + 1));
+                let mut edits = edits(&edited, place.min(edited.len()));
                 edited = edits.swap_remove(chance.below(edits.len())).1;
+                place += chance.below(NEAR + 1);
             }
             self.read("a text edited by chance", &edited)?;
+        }
+        Ok(())
+    }
+
+    /// Each line with another digit at its end, and with and without something else for the line end: some faults are told before that is read.
+    fn line_ends(&mut self, text: &[u8]) -> Result<(), String> {
+        for place in (1..text.len()).filter(|&place| text[place] == b'\n') {
+            for digit in b'0'..=b'9' {
+                for end in [b'\n', b' '] {
+                    let mut edited = text.to_vec();
+                    edited[place - 1..=place].copy_from_slice(&[digit, end]);
+                    self.read(&format!("digit {digit} and byte {end} at the end of a line, at byte {place}"), &edited)?;
+                }
+            }
         }
         Ok(())
     }
