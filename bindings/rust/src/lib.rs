@@ -159,9 +159,10 @@ impl Task {
         Ok(Task { counts, facts, costs, shares })
     }
 
-    /// Its text, the only one that it has: [`Task::read`] makes the same task of it, and for a task that was read it is the text that was read.
+    /// Its text; each task has one. [`Task::read`] gives the same counts and tables for it, with 0 in every place beyond the task's own, and a task that was read has the text
+    /// that was read.
     ///
-    /// There is no refusal to tell: the desk has accepted the tables of every `Task`, and refuses to write only what it doesn't accept, or into less than [`TEXT`] bytes.
+    /// There is nothing to refuse: a `Task` has tables that the desk has accepted, and [`write()`] refuses just what [`check`] refuses and a buffer of less than [`TEXT`] bytes.
     pub fn to_text(&self) -> Vec<u8> {
         let mut buffer = [0; TEXT];
         let length = write(self.counts, &self.facts, &self.costs, &self.shares, &mut buffer).expect("tables that the desk has accepted");
