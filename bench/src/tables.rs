@@ -8,7 +8,7 @@ pub const PLACES: usize = 3 + FACTS + COSTS + SHARES;
 pub const KINDS: usize = 8;
 
 /// A task's counts (variables, operators, maps) and its tables.
-#[derive(Clone, PartialEq, Eq)]
+#[derive(Clone)]
 pub struct Tables {
     pub counts: [u32; 3],
     pub facts: [u8; FACTS],
@@ -23,10 +23,8 @@ impl Tables {
         Tables { counts: [counts.variables, counts.operators, counts.maps], facts: *facts, costs: *costs, shares: *shares }
     }
 
-    /// No task's: the same byte everywhere.
-    pub fn filled(byte: u8) -> Tables {
-        let word = u32::from_ne_bytes([byte; 4]);
-        Tables { counts: [word; 3], facts: [byte; FACTS], costs: [word; COSTS], shares: [word; SHARES] }
+    pub fn zeros() -> Tables {
+        Tables { counts: [0; 3], facts: [0; FACTS], costs: [0; COSTS], shares: [0; SHARES] }
     }
 
     pub fn counts(&self) -> Counts {

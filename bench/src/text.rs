@@ -23,13 +23,13 @@ impl<'a> Text<'a> {
 
     /// The work of reading it.
     pub fn reading<S: Side>(&self) -> impl FnMut() + '_ {
-        let mut tables = Tables::filled(0);
+        let mut tables = Tables::zeros();
         move || self.read::<S>(self.text, &mut tables)
     }
 
     /// The work of writing it, and reading what was written.
     fn writing_and_reading<S: Side>(&self) -> impl FnMut() + '_ {
-        let (mut buffer, mut tables) = ([0; TEXT], Tables::filled(0));
+        let (mut buffer, mut tables) = ([0; TEXT], Tables::zeros());
         move || {
             self.write::<S>(&mut buffer);
             self.read::<S>(&buffer[..self.text.len()], &mut tables);
