@@ -18,10 +18,10 @@ const BY_CHANCE: usize = 10_000;
 const NEAR: usize = 4;
 
 /// The bytes that are tried at a place.
-const BYTES: &[u8] = b"0127890,:;-/=\n \0\xff";
+const BYTES: &[u8] = b"012789,:;-/=\n \0\xff";
 
 impl Both<'_> {
-    /// A text read by both sides: the answer, and the tables afterwards. What is accepted is written as the same text.
+    /// A text read by both sides: the tables afterwards. What is accepted is written as the same text.
     pub fn read(&mut self, what: &str, text: &[u8]) -> Result<Lent, String> {
         let (told, lent) = self.read_into(what, text, [FACTS, COSTS, SHARES])?;
         if let Told::Counts(counts) = told {
@@ -81,9 +81,10 @@ impl Both<'_> {
         }
         self.lengths(text, &whole)?;
         let mut chance = Chance(1);
-        let places: Vec<usize> = match text.len() {
-            length if length < EDITED => (0..=length).collect(),
-            length => (0..EDITED).map(|_| chance.below(length + 1)).collect(),
+        let places: Vec<usize> = if text.len() < EDITED {
+            (0..=text.len()).collect()
+        } else {
+            (0..EDITED).map(|_| chance.below(text.len() + 1)).collect()
         };
         for place in places {
             for (what, edited) in edits(text, place) {
@@ -95,8 +96,8 @@ impl Both<'_> {
             let mut edited = text.to_vec();
             let mut place = chance.below(text.len() + 1);
             for _ in 0..2 + chance.below(3) {
-                let mut edits = edits(&edited, place.min(edited.len()));
-                edited = edits.swap_remove(chance.below(edits.len())).1;
+                let mut others = edits(&edited, place.min(edited.len()));
+                edited = others.swap_remove(chance.below(others.len())).1;
                 place += chance.below(NEAR + 1);
             }
             self.read("a text edited by chance", &edited)?;
