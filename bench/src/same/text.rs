@@ -81,11 +81,8 @@ impl Both<'_> {
         }
         self.lengths(text, &whole)?;
         let mut chance = Chance(1);
-        let places: Vec<usize> = if text.len() < EDITED {
-            (0..=text.len()).collect()
-        } else {
-            (0..EDITED).map(|_| chance.below(text.len() + 1)).collect()
-        };
+        let places: Vec<usize> =
+            if text.len() < EDITED { (0..=text.len()).collect() } else { (0..EDITED).map(|_| chance.below(text.len() + 1)).collect() };
         for place in places {
             for (what, edited) in edits(text, place) {
                 self.read(&format!("the task's text with {what} at byte {place}"), &edited)?;
