@@ -23,3 +23,5 @@ pub mod SpellRead
 pub mod SpellBeyond
 pub mod SpellKinds
 pub mod SpellLeft
+pub mod Unread
+pub mod Writing
