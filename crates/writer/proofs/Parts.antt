@@ -41,6 +41,21 @@ digit-after v h =
     let e : 10 * (v / 10) + v % 10 ≡ v = omega arith in
     digits-more (v / 10) (v % 10) (omega arith) (omega arith) ∙ ap digits e
 
+-- so its last two, alone and after others
+pub digits-two : (v : ℕ) → 10 ≤ v → v < 100 → (48 + v / 10 % 10) ∷ [] ++ (48 + v % 10) ∷ [] ≡ digits v
+digits-two v g h = ap (λ (l : List ℕ). l ++ (48 + v % 10) ∷ []) (digit-alone (v / 10) (omega arith)) ∙ digit-after v g
+
+pub digits-more-two : (v : ℕ) → 100 ≤ v → digits (v / 100) ++ (48 + v / 10 % 10) ∷ [] ++ (48 + v % 10) ∷ [] ≡ digits v
+digits-more-two v g =
+    let e : v / 100 ≡ v / 10 / 10 = omega arith in
+    ap (λ (k : ℕ). digits k ++ (48 + v / 10 % 10) ∷ [] ++ (48 + v % 10) ∷ []) e
+    ∙ ap (λ (l : List ℕ). l ++ (48 + v % 10) ∷ []) (digit-after (v / 10) (omega arith))
+    ∙ digit-after v (omega arith)
+
+-- the text of one byte that is known
+pub byte : {a b : ℕ} → a ≡ b → a ∷ [] ≡ b ∷ []
+byte e = ap (λ (x : ℕ). x ∷ []) e
+
 -- ---- a word
 
 pub word-turn : (s : List ℕ) (i : ℕ) → i < length s → drop i s ≡ getD s i 0 ∷ [] ++ drop (i + 1) s

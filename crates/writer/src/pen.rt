@@ -1,6 +1,8 @@
 // The pen: bytes put into the buffer one after another, each function handing back the place after what it wrote. Past the buffer's end nothing is written, so
 // that putting asks nothing of its caller; that every text has room is shown once, for the whole of it.
 ghost use mathlib.Core.List.{[], _∷_};
+ghost use mathlib.Core.Path.{_≡_};
+ghost use Prim.Native.Nat.{_+_, _%_};
 ghost use Rattle.grammar.specs.Spelling.{digits, gap};
 ghost use Rattle.writer.specs.Inside.Pen.{Puts};
 ghost use Rattle.tables.specs.Task.{was};
@@ -45,16 +47,38 @@ pub fn put_word(out: &mut [u8], at: usize, word: &[u8]) -> usize
     next
 }
 
-// A number in decimal: the digits before its last one, and that.
+// The last digit of a number.
+fn last_digit(v: u32) -> u8
+    ensures { λ r. ⌜ r ≡ 48 + v % 10 ⌝ }
+{
+    (ZERO + v % 10) as u8
+}
+
+// A number in decimal: the digits before its last two, and those.
+fn put_digits(out: &mut [u8], at: usize, v: u32) -> usize
+    ensures { λ r. ⌜ Puts out at (digits v) r ⌝ }
+{
+    if v < 10 {
+        return put(out, at, last_digit(v));
+    }
+    if v < 100 {
+        let next = put(out, at, last_digit(v / 10));
+        return put(out, next, last_digit(v));
+    }
+    let mut next = put_digits(out, at, v / 100);
+    next = put(out, next, last_digit(v / 10));
+    put(out, next, last_digit(v))
+}
+
+// A number in decimal. One of a single digit, as most are, is put down where it is asked for.
 pub fn put_number(out: &mut [u8], at: usize, v: u32) -> usize
     ensures { λ r. ⌜ Puts out at (digits v) r ⌝ }
 {
-    let last = (ZERO + v % 10) as u8;
     if v < 10 {
-        return put(out, at, last);
+        put(out, at, last_digit(v))
+    } else {
+        put_digits(out, at, v)
     }
-    let next = put_number(out, at, v / 10);
-    put(out, next, last)
 }
 
 // The mark between two things of a row, if some are left.
