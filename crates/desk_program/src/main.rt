@@ -1,16 +1,13 @@
 // The desk as a program: a task text on standard input; the bound of the initial state and each map's distance there on standard output, or the refusal.
+use console::TASK_ROOM;
+use console::say;
+use console::say_none;
+use console::say_refused;
 use desk::bound;
 use desk::distance_at;
 use desk::read;
 use grammar::Reading;
-use io::print_decimal;
 use io::read_full;
-use io::write_all;
-use libc::STDOUT_FILENO;
-use meaning::limits::BYTES_MOST;
-use refusals::Refusal;
-use refusals::number;
-use refusals::place;
 use tables::Counts;
 use tables::readers::COSTS_ROOM;
 use tables::readers::FACTS_ROOM;
@@ -20,30 +17,8 @@ use tables::readers::row_at;
 use views::BoundAnswer;
 use views::DistanceAnswer;
 
-// Room for a text, and one byte more, so that a longer one is seen to be longer.
-const TASK_ROOM: usize = BYTES_MOST + 1;
-
 // Room for a state: a byte for each variable that there may be.
 const STATE_ROOM: usize = 8;
-
-// A line: a name, '=' and a number.
-fn say(name: &[u8], x: u64) {
-    write_all(STDOUT_FILENO, name);
-    print_decimal(STDOUT_FILENO, x);
-    write_all(STDOUT_FILENO, b"\n");
-}
-
-// A line: a name, '=' and none.
-fn say_none(name: &[u8]) {
-    write_all(STDOUT_FILENO, name);
-    write_all(STDOUT_FILENO, b"none\n");
-}
-
-// A refusal's two lines.
-fn say_refused(r: Refusal) {
-    say(b"refused=", number(r) as u64);
-    say(b"place=", place(r) as u64);
-}
 
 // The line of the bound; whether there is more to say.
 fn say_bound(answer: BoundAnswer) -> bool {
