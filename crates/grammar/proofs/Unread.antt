@@ -1,23 +1,25 @@
 -- Tables that agree at a task's own places are written alike: the same answer, and the same bytes left in the buffer. By the scan's law, and because the text spells
 -- nothing else. Assumes nothing.
-use Prim.Native.Nat.{ℕ}
+use Prim.Native.Nat.{ℕ, _≤_}
 use native.Mathlib.Omega.{arith}
-use mathlib.Core.Path.{_≡_, refl, ap}
+use mathlib.Core.Path.{_≡_, refl, sym, ap, _∙_}
 use mathlib.Core.List.{List}
-use lib.Dec.{leb}
 use lib.ListN.{length}
-use Rattle.refusals.specs.declared.Refusal.the-variants.{TableTooShort}
+use Rattle.meaning.proofs.Facts.{by-order}
 use Rattle.tables.specs.declared.Counts.{Counts}
 use Rattle.tables.specs.Layout.{Tables}
 use Rattle.tables.specs.Task.{taskOf}
 use Rattle.scan.specs.declared.Found.{Found}
-use Rattle.scan.specs.Scan.{unless, tablesFault}
+use Rattle.scan.specs.declared.Found.the-variants.{Clean, Fault}
+use Rattle.scan.specs.Scan.{tablesFault}
 use Rattle.scan.specs.Own.{OwnSame}
-use Rattle.scan.proofs.Unread.{unless-same, then-same, own-alike}
+use Rattle.scan.proofs.Unread.{own-alike}
+use Rattle.grammar.specs.declared.Written.the-variants.{Length}
 use Rattle.grammar.specs.Fields.{edition}
 use Rattle.grammar.specs.Spelling.{textOf}
-use Rattle.grammar.specs.Writing.{textRoom, writeFault, onPage, writeText}
+use Rattle.grammar.specs.Writing.{textRoom, page, over, writeText}
 use Rattle.grammar.proofs.SpellAccepted.{Agree, agree-spelled}
+use Rattle.grammar.proofs.Writing.{short-buffer, tables-refused, tables-written}
 
 module _ (t u : Tables) (O : OwnSame t u) where
   vars : t .counts .vars ≡ u .counts .vars
@@ -47,9 +49,13 @@ module _ (t u : Tables) (O : OwnSame t u) where
   own-text = agree-spelled edition (taskOf t) (taskOf u) vars ops maps own-agree
 
   pub own-written : (b : List ℕ) → writeText t b ≡ writeText u b
-  unfolding writeText writeFault onPage
   own-written b =
-      let room = unless (leb textRoom (length b)) TableTooShort in
-      unless-same (λ (f : Found) (x : List ℕ). onPage f x b) (λ r x y. refl) (writeFault t b) (writeFault u b) (textOf edition t) (textOf edition u)
-      (then-same room room (tablesFault t) (tablesFault u) refl (λ e. own-alike t u O .fault))
-      (λ e. own-text)
+      by-order (length b) textRoom (λ l. short-buffer t b l ∙ sym (short-buffer u b l)) (λ l. found l (tablesFault t) refl)
+    where
+      same : tablesFault u ≡ tablesFault t
+      same = sym (own-alike t u O .fault)
+
+      found : textRoom ≤ length b → (f : Found) → tablesFault t ≡ f → writeText t b ≡ writeText u b
+      found l Clean e =
+          tables-written t b l e ∙ ap (λ (x : List ℕ). page (Length (length x)) (over x b)) own-text ∙ sym (tables-written u b l (same ∙ e))
+      found l (Fault r) e = tables-refused t b l r e ∙ sym (tables-refused u b l r (same ∙ e))

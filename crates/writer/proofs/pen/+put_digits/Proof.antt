@@ -39,7 +39,7 @@ module _ (t : ℕ) where
       let tens = ones .before .before .before .before .before in
       let test = tens .before .before .before in
       so (after (so (tens .put2 .ensures) (byte (tens .before .last-digit2 .ensures))) (so (ones .put3 .ensures) (byte (ones .before .last-digit3 .ensures))))
-      (digits-two _ (test .before .if1 .left) (test .if2 .taken))
+      (let h = test .if2 .taken in digits-two _ (test .before .if1 .left) (omega arith))
 
   less : lts.Need-put-digits-requires (last.Asked, last.Learnt, put.Asked, put.Learnt, below, reads.Post) given reads.Post
   less c κs =
@@ -60,7 +60,7 @@ module _ (t : ℕ) where
       let rest = tens .before .before .before .before .before in
       so
       (after (after (rest .put-digits .ensures) (so (tens .put4 .ensures) (byte (tens .before .last-digit4 .ensures)))) (so (ones .put5 .ensures) (byte (ones .before .last-digit5 .ensures))))
-      (digits-more-two _ (rest .before .before .if2 .left))
+      (let h = rest .before .before .if2 .left in digits-more-two _ (omega arith))
 
 pub +put-digits-spec : {M : Type 1} → statement M
 +put-digits-spec =
