@@ -4,8 +4,7 @@ use crate::desk::{self, Answer};
 use crate::limits::*;
 use crate::row::Record;
 use crate::run::Run;
-use crate::tables::{room_for_tables, Counts, Lent};
-use crate::text::read_text;
+use crate::tables::{Counts, Lent};
 
 /// The longest line, without its line end.
 pub const LINE: usize = 200;
@@ -242,11 +241,14 @@ impl Bench {
         self.text = self.arrays[BUFFER as usize].iter().take(length).map(|byte| *byte as u8).collect();
     }
 
-    /// The length of the text, if a reading accepts it: the tables have room, and it is a task's.
-    pub fn accepted(&self) -> Option<usize> {
-        let lent = |k: u32| self.lent[k as usize];
-        room_for_tables(lent(FACTS), lent(COSTS), lent(SHARES)).ok()?;
-        read_text(&self.text).ok().map(|_| self.text.len())
+    /// The text that is read next.
+    pub fn text(&self) -> &[u8] {
+        &self.text
+    }
+
+    /// How many places of an array are lent.
+    pub fn length(&self, k: u32) -> usize {
+        self.lent[k as usize]
     }
 
     fn run(&self) -> Run {
