@@ -42,6 +42,7 @@ const USAGE: &str = "\
 judge vectors SEED COUNT   writes a script of so many vectors
 judge seeds FIRST COUNT    writes as many scripts of one vector by chance, one a seed, after one another
 judge long                 writes the script of the vectors that take long
+judge text SEED            writes a text by chance, a task's or a damaged one
 judge expect < SCRIPT      writes what the program of the vectors must print
 judge desk < TEXT          writes what the desk program must write
 judge format < TEXT        writes what it must write if the text is to be formatted
@@ -86,6 +87,7 @@ fn output(words: &[&str]) -> Option<Vec<u8>> {
         ["vectors", seed, count] => Some(vectors(seed.parse().ok()?, count.parse().ok()?)),
         ["seeds", first, count] => Some(seeds(first.parse().ok()?, count.parse().ok()?)),
         ["long"] => Some(builder::script_of(&edges::long())),
+        ["text", seed] => Some(damages::some_text(&mut rng::Rng::new(seed.parse().ok()?))),
         ["expect"] => Some(script::expect(&input())),
         ["desk"] => Some(desk::program(&input()).into_bytes()),
         ["format"] => Some(desk::format_program(&input())),
