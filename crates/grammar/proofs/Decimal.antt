@@ -37,7 +37,7 @@ same-digits (suc n) (suc m) v h k = split (ltb v 10) refl (same-digits n m (v / 
         many n v g ∙ ap (λ (x : List ℕ). x ++ ((48 + v % 10) ∷ [])) (i (omega arith) (omega arith)) ∙ sym (many m v g)
 
 -- one digit more
-digits-more : (v d : ℕ) → 1 ≤ v → d ≤ 9 → digits v ++ ((48 + d) ∷ []) ≡ digits (10 * v + d)
+pub digits-more : (v d : ℕ) → 1 ≤ v → d ≤ 9 → digits v ++ ((48 + d) ∷ []) ≡ digits (10 * v + d)
 unfolding digits
 digits-more v d a b =
     let q : (10 * v + d) / 10 ≡ v = omega arith in

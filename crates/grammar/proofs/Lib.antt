@@ -23,3 +23,4 @@ pub mod SpellRead
 pub mod SpellBeyond
 pub mod SpellKinds
 pub mod SpellLeft
+pub mod Writing

@@ -142,27 +142,32 @@ op-same N c c′ F F′ E E′ p q r =
     let b = some-same E E′ N 0 (λ v x y. r v (omega arith)) in
     cc
 
--- tables that agree with a task spell its text
-pub tables-spell : (τ : Task) → Small τ → textOf edition (tablesOf τ) ≡ spelled edition τ
-unfolding spelled tablesOf opText mapText
-tables-spell τ s =
-    let σ = taskOf (tablesOf τ) in
-    let a = own-numbers τ s in
-    same-lines (keyed "edition=" (digits edition)) (keyed "vars=" (digits (τ .sas .vars))) _ _ _ _ _ _ (keyed "ops=" (digits (τ .sas .ops))) _ _ (keyed "maps=" (digits (τ .maps))) _ _ _ _
-    (ap (keyed "dom=") (numbers-same (σ .sas .dom) (τ .sas .dom) (τ .sas .vars) (a .dom)))
-    (ap (keyed "init=") (numbers-same (σ .sas .init) (τ .sas .init) (τ .sas .vars) (a .init)))
-    (ap (keyed "goal=") (some-same (σ .sas .goal) (τ .sas .goal) (τ .sas .vars) 0 (λ v x y. a .goal v (omega arith))))
+-- tasks of the same counts that agree in their own numbers have one text
+pub agree-spelled : (e : ℕ) (σ τ : Task) → σ .sas .vars ≡ τ .sas .vars → σ .sas .ops ≡ τ .sas .ops → σ .maps ≡ τ .maps → Agree σ τ → spelled e σ ≡ spelled e τ
+unfolding spelled opText mapText
+agree-spelled e σ τ p q r a =
+    let N = τ .sas .vars in
+    rw (p, q, r)
+    (same-lines (keyed "edition=" (digits e)) (keyed "vars=" (digits N)) _ _ _ _ _ _ (keyed "ops=" (digits (τ .sas .ops))) _ _ (keyed "maps=" (digits (τ .maps))) _ _ _ _
+    (ap (keyed "dom=") (numbers-same (σ .sas .dom) (τ .sas .dom) N (a .dom)))
+    (ap (keyed "init=") (numbers-same (σ .sas .init) (τ .sas .init) N (a .init)))
+    (ap (keyed "goal=") (some-same (σ .sas .goal) (τ .sas .goal) N 0 (λ v x y. a .goal v (omega arith))))
     (stacked-same _ _ (τ .sas .ops) 0
     (λ o x y. ap (keyed "op=")
-    (op-same (τ .sas .vars) (σ .sas .cost o) (τ .sas .cost o) (σ .sas .pre o) (τ .sas .pre o) (σ .sas .eff o) (τ .sas .eff o) (a .cost o (omega arith)) (λ v h. a .pre o v (omega arith) h)
+    (op-same N (σ .sas .cost o) (τ .sas .cost o) (σ .sas .pre o) (τ .sas .pre o) (σ .sas .eff o) (τ .sas .eff o) (a .cost o (omega arith)) (λ v h. a .pre o v (omega arith) h)
     (λ v h. a .eff o v (omega arith) h))))
     (stacked-same _ _ (τ .maps) 0
     (λ m x y. ap (keyed "map=")
-    (joined-same slash (λ v. numbers (σ .class m v) (σ .sas .dom v)) (λ v. numbers (τ .class m v) (τ .sas .dom v)) (τ .sas .vars) 0
-    (λ v p q. ap (numbers (σ .class m v)) (a .dom v (omega arith))
-    ∙ numbers-same (σ .class m v) (τ .class m v) (τ .sas .dom v) (λ i h. a .class m v i (omega arith) (omega arith) h)))))
+    (joined-same slash (λ v. numbers (σ .class m v) (σ .sas .dom v)) (λ v. numbers (τ .class m v) (τ .sas .dom v)) N 0
+    (λ v g h. ap (numbers (σ .class m v)) (a .dom v (omega arith))
+    ∙ numbers-same (σ .class m v) (τ .class m v) (τ .sas .dom v) (λ i l. a .class m v i (omega arith) (omega arith) l)))))
     (stacked-same _ _ (τ .maps) 0
-    (λ m x y. ap (keyed "share=") (share-same (σ .share m) (τ .share m) (τ .sas .ops) (λ o h. a .share m o (omega arith) h))))
+    (λ m x y. ap (keyed "share=") (share-same (σ .share m) (τ .share m) (τ .sas .ops) (λ o h. a .share m o (omega arith) h)))))
+
+-- so the tables of a small task spell its text
+pub tables-spell : (τ : Task) → Small τ → textOf edition (tablesOf τ) ≡ spelled edition τ
+unfolding tablesOf
+tables-spell τ s = agree-spelled edition (taskOf (tablesOf τ)) τ refl refl refl (own-numbers τ s)
 
 -- ---- the theorems
 

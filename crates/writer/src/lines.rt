@@ -106,6 +106,16 @@ fn put_classes(out: &mut [u8], at: usize, c: Counts, facts: &[u8], m: u32) -> us
     next
 }
 
+// The line of a map.
+fn put_map(out: &mut [u8], at: usize, c: Counts, facts: &[u8], m: u32) -> usize
+    requires { ⌜ (c .vars ≤ mostVars) × (m < mostMaps) ⌝ }
+    ensures { λ r. ⌜ Puts out at (keyed "map=" (mapText (taskOf (tables c (was facts) [] [])) m)) r ⌝ }
+{
+    let mut next = put_word(out, at, b"map=");
+    next = put_classes(out, next, c, facts, m);
+    put(out, next, LINE_END)
+}
+
 // The lines of the maps.
 pub fn put_maps(out: &mut [u8], at: usize, c: Counts, facts: &[u8]) -> usize
     requires { ⌜ (c .vars ≤ mostVars) × (c .maps ≤ mostMaps) ⌝ }
@@ -115,9 +125,7 @@ pub fn put_maps(out: &mut [u8], at: usize, c: Counts, facts: &[u8]) -> usize
     let mut next = at;
     let mut m = 0;
     while m < maps {
-        next = put_word(out, next, b"map=");
-        next = put_classes(out, next, c, facts, m);
-        next = put(out, next, LINE_END);
+        next = put_map(out, next, c, facts, m);
         m += 1;
     }
     next
@@ -134,6 +142,15 @@ fn put_charges(out: &mut [u8], at: usize, shares: &[u32], m: u32, ops: u32) -> u
     }
 }
 
+// The line of a map's shares.
+fn put_share(out: &mut [u8], at: usize, shares: &[u32], m: u32, ops: u32) -> usize
+    ensures { λ r. ⌜ Puts out at (keyed "share=" (shareText (shareAt (was shares) m) ops)) r ⌝ }
+{
+    let mut next = put_word(out, at, b"share=");
+    next = put_charges(out, next, shares, m, ops);
+    put(out, next, LINE_END)
+}
+
 // The lines of the maps' shares.
 pub fn put_split(out: &mut [u8], at: usize, c: Counts, shares: &[u32]) -> usize
     ensures { λ r. ⌜ Puts out at (stacked (λ m. keyed "share=" (shareText (shareAt (was shares) m) (c .ops))) (c .maps) 0) r ⌝ }
@@ -143,9 +160,7 @@ pub fn put_split(out: &mut [u8], at: usize, c: Counts, shares: &[u32]) -> usize
     let mut next = at;
     let mut m = 0;
     while m < maps {
-        next = put_word(out, next, b"share=");
-        next = put_charges(out, next, shares, m, ops);
-        next = put(out, next, LINE_END);
+        next = put_share(out, next, shares, m, ops);
         m += 1;
     }
     next

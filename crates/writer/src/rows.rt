@@ -2,7 +2,7 @@
 ghost use Rattle.tables.specs.Layout.{rowAt, shareAt};
 ghost use Rattle.tables.specs.Task.{was};
 ghost use Rattle.grammar.specs.Spelling.{numbers, fact, someFacts};
-ghost use Rattle.writer.specs.Inside.Pen.{Puts, saidOf};
+ghost use Rattle.writer.specs.Inside.Pen.{Puts, commaIf, saidOf};
 use crate::pen::COLON;
 use crate::pen::COMMA;
 use crate::pen::DASH;
@@ -51,6 +51,13 @@ pub fn put_fact(out: &mut [u8], at: usize, v: u32, x: u32) -> usize
     put_number(out, next, x)
 }
 
+// The comma before a fact, where some were written.
+fn put_comma(out: &mut [u8], at: usize, some: bool) -> usize
+    ensures { λ r. ⌜ Puts out at (commaIf some) r ⌝ }
+{
+    if some { put(out, at, COMMA) } else { at }
+}
+
 // What a row says of a variable, if anything; after a comma where some facts were written.
 pub fn put_said(out: &mut [u8], at: usize, some: bool, said: u8, v: u32) -> usize
     ensures { λ r. ⌜ Puts out at (saidOf some said v) r ⌝ }
@@ -58,7 +65,7 @@ pub fn put_said(out: &mut [u8], at: usize, some: bool, said: u8, v: u32) -> usiz
     if said == 0 {
         return at;
     }
-    let next = if some { put(out, at, COMMA) } else { at };
+    let next = put_comma(out, at, some);
     put_fact(out, next, v, (said - 1) as u32)
 }
 

@@ -1,6 +1,6 @@
 -- A text written byte by byte into a buffer. Past the buffer's end nothing is written.
 use Prim.Native.Nat.{ℕ, zero, suc, _+_}
-use mathlib.Core.Bool.{Bool, cond}
+use mathlib.Core.Bool.{Bool, true, false, cond}
 use mathlib.Core.Path.{_≡_}
 use mathlib.Core.List.{List, [], _∷_, _++_}
 use lib.Dec.{ltb}
@@ -27,15 +27,24 @@ unfoldable pub inked : Pen → List ℕ → Pen
 inked p [] = p
 inked p (b ∷ x) = inked (stroke p b) x
 
--- a function that is lent the buffer puts the text x there from place n on, and answers the place after it
+-- from p on the text is written, and that leaves q
+pub record Writes (p : Pen) (text : List ℕ) (q : Pen) : Type 0 where
+  pub leaves : q ≡ inked p text
+
+-- a function that is lent the buffer writes the text there from place n on, and answers the place after it
 abbrev pub Puts : Slice → ℕ → List ℕ → ℕ → Type 0
-Puts out n x r = pen r (left out) ≡ inked (pen n (was out)) x
+Puts out n text r = Writes (pen n (was out)) text (pen r (left out))
 
 -- a list of facts once some were written, or none: what is left of it from variable v on, with n variables to come
 unfoldable pub factsLeft : Bool → Facts → ℕ → ℕ → List ℕ
 factsLeft some F n v = cond some (moreFacts F n v) (someFacts F n v)
 
+-- the comma before a fact, where some were written
+unfoldable pub commaIf : Bool → List ℕ
+commaIf true = comma ∷ []
+commaIf false = []
+
 -- what is said of a variable, after a comma where some facts were written; a place that holds 0 says nothing
 unfoldable pub saidOf : Bool → ℕ → ℕ → List ℕ
 saidOf some zero v = []
-saidOf some (suc k) v = cond some (comma ∷ []) [] ++ fact v k
+saidOf some (suc k) v = commaIf some ++ fact v k

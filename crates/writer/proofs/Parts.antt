@@ -1,0 +1,163 @@
+-- The spelling in the parts that the writer puts down: the digits of a number, the last one alone; what is left of a word, a row, some lines and a list of facts after
+-- one more turn, and at the end. By the definitions of the spelling and the digit laws of the grammar. Assumes nothing.
+use Prim.Native.Nat.{ℕ, zero, suc, _+_, _-_, _*_, _/_, _%_, _≤_, _<_}
+use native.Mathlib.Omega.{arith}
+use mathlib.Core.Path.{_≡_, refl, sym, ap, _∙_}
+use mathlib.Core.Bool.{Bool, true, false, cond, not, _||_}
+use mathlib.Core.List.{List, [], _∷_, _++_, append-assoc, append-nil}
+use lib.Dec.{eqb}
+use lib.ListN.{length, getD, drop}
+use lib.Seq.{drop-cons}
+use borrow.Author.Tests.{ne-eqb}
+use Rattle.meaning.specs.Sas.{Facts}
+use Rattle.grammar.specs.Fields.{comma, dash}
+use Rattle.grammar.specs.Spelling.{digits, gap, joined, numbers, stacked, fact, anotherFact, moreFacts, firstFact, someFacts, shareText}
+use Rattle.grammar.proofs.Decimal.{one-digit, digits-more}
+use Rattle.writer.specs.Inside.Pen.{Pen, inked, Writes, factsLeft, commaIf, saidOf}
+use Rattle.writer.proofs.Pens.{nothing, whole, after, turn, done}
+
+-- n - i is n at the begin, then one more than n - (i + 1), and 0 at the end
+all-left : (n : ℕ) → n - 0 ≡ n
+all-left n = omega arith
+
+less : (n i : ℕ) → i < n → n - i ≡ suc (n - (i + 1))
+less n i h = omega arith
+
+none-left : (n i : ℕ) → n ≤ i → n - i ≡ 0
+none-left n i h = omega arith
+
+next : (i : ℕ) → suc i ≡ i + 1
+next i = omega arith
+
+-- ---- a number: its last digit, and those before it if there are any
+
+pub digit-alone : (v : ℕ) → v < 10 → (48 + v % 10) ∷ [] ≡ digits v
+digit-alone v h =
+    let e : v % 10 ≡ v = omega arith in
+    rw e (sym (one-digit v h))
+
+pub digit-after : (v : ℕ) → 10 ≤ v → digits (v / 10) ++ (48 + v % 10) ∷ [] ≡ digits v
+digit-after v h =
+    let e : 10 * (v / 10) + v % 10 ≡ v = omega arith in
+    digits-more (v / 10) (v % 10) (omega arith) (omega arith) ∙ ap digits e
+
+-- ---- a word
+
+pub word-turn : (s : List ℕ) (i : ℕ) → i < length s → drop i s ≡ getD s i 0 ∷ [] ++ drop (i + 1) s
+word-turn s i h = drop-cons s i 0 h ∙ ap (λ (k : ℕ). getD s i 0 ∷ drop k s) (next i)
+
+-- ---- things parted by a mark
+
+pub gap-none : (mark n : ℕ) → n ≡ 0 → [] ≡ gap mark n
+unfolding gap
+gap-none mark n e = rw e refl
+
+pub gap-some : (mark n : ℕ) → (n ≡ 0 → ⊥) → mark ∷ [] ≡ gap mark n
+unfolding gap
+gap-some mark zero h = absurd (h refl)
+gap-some mark (suc n) h = refl
+
+module _ (mark : ℕ) (f : ℕ → List ℕ) (n i : ℕ) where
+  joined-turn : i < n → joined mark f (n - i) i ≡ (f i ++ gap mark (n - (i + 1))) ++ joined mark f (n - (i + 1)) (i + 1)
+  unfolding joined
+  joined-turn h = rw (less n i h) (rw (next i) refl)
+
+  joined-over : n ≤ i → joined mark f (n - i) i ≡ []
+  unfolding joined
+  joined-over h = rw (none-left n i h) refl
+
+-- its loop: all is left at first; a turn writes the thing, and the mark if more come; and the end
+pub row-whole : (mark : ℕ) (f : ℕ → List ℕ) (n : ℕ) (p : Pen) → Writes p (joined mark f (n - 0) 0) (inked p (joined mark f n 0))
+row-whole mark f n p = rw (all-left n) (whole p (joined mark f n 0))
+
+module _ (mark : ℕ) (f : ℕ → List ℕ) (n i : ℕ) where
+  pub row-turn : {p q r w : Pen} → i < n → Writes p (f i) q → Writes q (gap mark (n - (i + 1))) r → Writes p (joined mark f (n - i) i) w
+      → Writes r (joined mark f (n - (i + 1)) (i + 1)) w
+  row-turn h e g = turn (after e g) (joined-turn mark f n i h)
+
+  pub row-over : {p q : Pen} {y : List ℕ} → n ≤ i → Writes p (joined mark f (n - i) i) (inked q y) → Writes q y p
+  row-over h = done (nothing _) (joined-over mark f n i h)
+
+-- what a map charges: a dash exactly if there are no operators
+pub shares-none : (share : ℕ → ℕ) (n : ℕ) → n ≡ 0 → dash ∷ [] ≡ shareText share n
+unfolding shareText
+shares-none share n e = rw e refl
+
+pub shares-some : (share : ℕ → ℕ) (n : ℕ) → (n ≡ 0 → ⊥) → numbers share n ≡ shareText share n
+unfolding shareText
+shares-some share zero h = absurd (h refl)
+shares-some share (suc n) h = refl
+
+-- ---- lines
+
+module _ (f : ℕ → List ℕ) (n i : ℕ) where
+  stacked-turn : i < n → stacked f (n - i) i ≡ f i ++ stacked f (n - (i + 1)) (i + 1)
+  unfolding stacked
+  stacked-turn h = rw (less n i h) (rw (next i) refl)
+
+  stacked-over : n ≤ i → stacked f (n - i) i ≡ []
+  unfolding stacked
+  stacked-over h = rw (none-left n i h) refl
+
+pub lines-whole : (f : ℕ → List ℕ) (n : ℕ) (p : Pen) → Writes p (stacked f (n - 0) 0) (inked p (stacked f n 0))
+lines-whole f n p = rw (all-left n) (whole p (stacked f n 0))
+
+module _ (f : ℕ → List ℕ) (n i : ℕ) where
+  pub lines-turn : {p q w : Pen} → i < n → Writes p (f i) q → Writes p (stacked f (n - i) i) w → Writes q (stacked f (n - (i + 1)) (i + 1)) w
+  lines-turn h e = turn e (stacked-turn f n i h)
+
+  pub lines-over : {p q : Pen} {y : List ℕ} → n ≤ i → Writes p (stacked f (n - i) i) (inked q y) → Writes q y p
+  lines-over h = done (nothing _) (stacked-over f n i h)
+
+-- ---- facts
+
+-- what is said of a variable
+pub said-none : (some : Bool) (k v : ℕ) → k ≡ 0 → [] ≡ saidOf some k v
+unfolding saidOf
+said-none some k v e = rw e refl
+
+pub said-some : (some : Bool) (k v : ℕ) → (k ≡ 0 → ⊥) → commaIf some ++ fact v (k - 1) ≡ saidOf some k v
+unfolding saidOf
+said-some some zero v h = absurd (h refl)
+said-some some (suc k) v h = ap (λ (x : ℕ). commaIf some ++ fact v x) (omega arith)
+
+-- once some facts are written, each comes after a comma
+more-turn : (F : Facts) (n v k : ℕ) → F v ≡ k → moreFacts F (suc n) v ≡ saidOf true k v ++ moreFacts F n (suc v)
+unfolding moreFacts anotherFact saidOf commaIf
+more-turn F n v zero e = rw e refl
+more-turn F n v (suc k) e = rw e refl
+
+-- before that, the first has none
+some-turn : (F : Facts) (n v k : ℕ) → F v ≡ k → someFacts F (suc n) v ≡ saidOf false k v ++ factsLeft (not (eqb k 0)) F n (suc v)
+unfolding someFacts firstFact saidOf commaIf factsLeft
+some-turn F n v zero e = rw e refl
+some-turn F n v (suc k) e = rw (e, ne-eqb (suc k) 0 (λ z. omega arith)) refl
+
+pub facts-whole : (F : Facts) (n : ℕ) (p : Pen) → Writes p (factsLeft false F (n - 0) 0) (inked p (someFacts F n 0))
+unfolding factsLeft
+facts-whole F n p = rw (all-left n) (whole p (someFacts F n 0))
+
+module _ (F : Facts) (n v : ℕ) where
+  left-turn : (some : Bool) → v < n → factsLeft some F (n - v) v ≡ saidOf some (F v) v ++ factsLeft (some || not (eqb (F v) 0)) F (n - (v + 1)) (v + 1)
+  unfolding factsLeft
+  left-turn true h = rw (less n v h) (more-turn F (n - (v + 1)) v (F v) refl ∙ ap (λ (k : ℕ). saidOf true (F v) v ++ factsLeft true F (n - (v + 1)) k) (next v))
+  left-turn false h = rw (less n v h) (some-turn F (n - (v + 1)) v (F v) refl ∙ ap (λ (k : ℕ). saidOf false (F v) v ++ factsLeft (not (eqb (F v) 0)) F (n - (v + 1)) k) (next v))
+
+  left-over : n ≤ v → factsLeft true F (n - v) v ≡ []
+  unfolding factsLeft moreFacts
+  left-over h = rw (none-left n v h) refl
+
+  -- a list without a fact is a dash
+  left-none : n ≤ v → factsLeft false F (n - v) v ≡ dash ∷ []
+  unfolding factsLeft someFacts
+  left-none h = rw (none-left n v h) refl
+
+  pub facts-turn : {p q w : Pen} (some : Bool) → v < n → Writes p (saidOf some (F v) v) q → Writes p (factsLeft some F (n - v) v) w
+      → Writes q (factsLeft (some || not (eqb (F v) 0)) F (n - (v + 1)) (v + 1)) w
+  facts-turn some h e = turn e (left-turn some h)
+
+  pub facts-over : {p q : Pen} {y : List ℕ} → n ≤ v → Writes p (factsLeft true F (n - v) v) (inked q y) → Writes q y p
+  facts-over h = done (nothing _) (left-over h)
+
+  pub facts-none : {p q r : Pen} {y : List ℕ} → n ≤ v → Writes p (dash ∷ []) r → Writes p (factsLeft false F (n - v) v) (inked q y) → Writes q y r
+  facts-none h e = done e (left-none h)

@@ -1,0 +1,44 @@
+-- `writer::lines::put_split` meets its contract: the invariant is by the lines that are left. Assumes nothing.
+use Prim.Native.Nat.{_-_, _≤_}
+use native.Mathlib.Omega.{arith}
+use mathlib.Core.Path.{_≡_, refl, _∙_}
+use mathlib.Core.List.{[]}
+use lib.ListN.{length}
+use borrow.Author.Needs.{needs}
+use Rattle.tables.specs.Layout.{shareAt}
+use Rattle.grammar.specs.Spelling.{keyed, stacked, shareText}
+use Rattle.writer.specs.Inside.Pen.{pen, inked, Writes}
+use Rattle.writer.proofs.Parts.{lines-whole, lines-turn, lines-over}
+use Rattle.writer.proofs.lines.put_split.Statement.{statement}
+use Rattle.writer.proofs.lines.put_split.Tie as tie
+
+abbrev Inv-loop : tie.InvT-loop
+Inv-loop out₀ at shares ops maps next₀ m₀ out next m =
+    (m ≤ maps) × (length out ≡ length out₀) × Writes (pen next out) (stacked (λ k. keyed "share=" (shareText (shareAt shares k) ops)) (maps - m) m) (inked (pen next₀ out₀) (stacked (λ k. keyed "share=" (shareText (shareAt shares k) ops)) maps 0))
+
+abbrev μ-loop : tie.MeasureT-loop
+μ-loop out₀ at shares ops maps next₀ m₀ out next m = maps - m
+
+loop-again : tie.Need-loop-again Inv-loop μ-loop
+loop-again c =
+    let put = c .before .before in
+    let test = put .before .before .loop-test in
+    let run = put .before .before .before .loop in
+    (omega arith, put .put-share .kept .0 ∙ run .inv .1, lines-turn _ _ (run .m) (test .taken) (put .put-share .ensures) (run .inv .2))
+
+returns : tie.Need-returns Inv-loop μ-loop
+returns c = let run = c .before .loop in lines-over _ _ (run .m) (c .loop-test .left) (run .inv .2)
+
+pub put-split-spec : {M : Type 1} → statement M
+put-split-spec =
+    tie.close
+    (tie.spec
+    Inv-loop
+    μ-loop
+    (λ c. (omega arith, refl, lines-whole _ _ _))
+    (λ c κs. search needs)
+    (λ c. omega arith)
+    (λ c. omega arith)
+    loop-again
+    (λ c. c .before .loop .inv .1)
+    returns)

@@ -1,0 +1,66 @@
+-- `writer::put_task` meets its contract: its lines one after another. Assumes nothing.
+use mathlib.Core.Path.{_∙_}
+use borrow.Author.Needs.{needs}
+use Rattle.grammar.specs.Spelling.{keyed, opText, mapText, spelled}
+use Rattle.writer.proofs.Pens.{after}
+use Rattle.writer.proofs.put_task.Statement.{statement}
+use Rattle.writer.proofs.put_task.Tie as tie
+
+returns : tie.Need-returns
+unfolding keyed opText mapText spelled
+returns c =
+    let maps = c .before .before .before .before .before .before in
+    let count = maps .before .before .before .before in
+    let ops = count .before .before .before .before .before in
+    let number = ops .before .before .before .before in
+    let goal = number .before .before .before .before .before in
+    let init = goal .before .before .before .before in
+    let dom = init .before .before .before .before .before in
+    let vars = dom .before .before .before .before .before in
+    after
+    (after
+    (after
+    (after
+    (after
+    (after (after (after (after (vars .before .before .before .before .before .put-count .ensures) (vars .put-count2 .ensures)) (dom .put-values .ensures)) (init .put-values2 .ensures)) (goal .put-goal .ensures))
+    (number .put-count3 .ensures))
+    (ops .put-ops .ensures))
+    (count .put-count4 .ensures))
+    (maps .put-maps .ensures))
+    (c .before .before .put-split .ensures)
+
+same-length : tie.Need-same-length
+same-length c =
+    let maps = c .before .before .before .before .before .before in
+    let count = maps .before .before .before .before in
+    let ops = count .before .before .before .before .before in
+    let number = ops .before .before .before .before in
+    let goal = number .before .before .before .before .before in
+    let init = goal .before .before .before .before in
+    let dom = init .before .before .before .before .before in
+    let vars = dom .before .before .before .before .before in
+    c .before .before .put-split .kept .0 ∙ maps .put-maps .kept .0 ∙ count .put-count4 .kept .0 ∙ ops .put-ops .kept .0 ∙ number .put-count3 .kept .0
+    ∙ goal .put-goal .kept .0 ∙ init .put-values2 .kept .0 ∙ dom .put-values .kept .0 ∙ vars .put-count2 .kept .0 ∙ vars .before .before .before .before .before .put-count .kept .0
+
+pub put-task-spec : {M : Type 1} → statement M
+put-task-spec =
+    tie.close
+    (tie.spec
+    (λ c. search needs)
+    (λ c κs. search needs)
+    (λ c. search needs)
+    (λ c κs. search needs)
+    (λ c. search needs)
+    (λ c κs. search needs)
+    (λ c. search needs)
+    (λ c κs. search needs)
+    (λ c κs. search needs)
+    (λ c. search needs)
+    (λ c κs. search needs)
+    (λ c κs. c .before .before .before .before .before .before .before .before .before .before .before .before .before .before .before .before .before .before .before .before .before .before .before .before .before .before .before .before .before .before .before .before .before .before .pre .1)
+    (λ c. search needs)
+    (λ c κs. search needs)
+    (λ c κs. let p = c .before .before .before .before .before .before .before .before .before .before .before .before .before .before .before .before .before .before .before .before .before .before .before .before .before .before .before .before .before .before .before .before .before .before .before .before .before .before .before .before .before .before .before .pre in (p .0, p .2))
+    (λ c κs. search needs)
+    same-length
+    returns)
