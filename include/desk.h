@@ -1,7 +1,7 @@
 /* desk.h: the sequence desk for C.
  *
- * PROVED are the ten functions that are declared here without a body, desk_read to desk_offer: whatever is handed in,
- * each answers as its contract says, and a refusal alters nothing that was lent (crates/desk_c/src/lib.rt has the
+ * PROVED are the eleven functions that are declared here without a body, desk_read to desk_offer: whatever is handed
+ * in, each answers as its contract says, and a refusal alters nothing that was lent (crates/desk_c/src/lib.rt has the
  * contracts, docs/PROMISES.md the map of what is shown). NOT PROVED is what is C: that they are declared here as they
  * are exported, and the seven helpers with a body: desk_kind, desk_number and desk_is_refusal, which take an answer
  * apart, and desk_run_steps, desk_run_op, desk_run_paid and desk_run_unshared, which look into a run. bindings/test
@@ -18,9 +18,10 @@
  * answers the empty part then.
  *
  * A TASK is lent as three counts (variables, operators, maps) and three tables: facts (DESK_FACTS bytes at least),
- * costs (DESK_COSTS words at least) and shares (DESK_SHARES words at least). desk_read fills them from a text;
- * crates/tables/specs/Layout.antt says where each number stands. Each function judges the tables afresh, so nobody
- * has to have checked them. Variables, values, operators and maps count from 0, lines and steps from 1.
+ * costs (DESK_COSTS words at least) and shares (DESK_SHARES words at least). desk_read fills them from a text, and
+ * desk_write gives the text back; crates/tables/specs/Layout.antt says where each number stands. Each function judges
+ * the tables afresh, so nobody has to have checked them. Variables, values, operators and maps count from 0, lines and
+ * steps from 1.
  *
  * A STATE is lent as one byte a variable, its value; further bytes aren't read. The task's INITIAL STATE stands in
  * its facts like that, in places 8 to 15: `facts + DESK_INITIAL` is lent as it is, with the number of variables as
@@ -47,6 +48,7 @@ extern "C" {
 #define DESK_FACTS 1624
 #define DESK_COSTS 64
 #define DESK_SHARES 512
+#define DESK_TEXT 16384
 #define DESK_DISTANCES 4096
 #define DESK_RUN_BYTES 16
 #define DESK_RUN_WORDS (DESK_STEPS + 1 + DESK_MAPS + 1)
@@ -92,10 +94,20 @@ static inline int desk_is_refusal(desk_word w) { return desk_kind(w) >= 1 && des
 desk_word desk_read(const uint8_t *text, size_t text_len, uint32_t *counts, size_t counts_len, uint8_t *facts,
                     size_t facts_len, uint32_t *costs, size_t costs_len, uint32_t *shares, size_t shares_len);
 
+/* WRITES the text of the lent tables into buffer (DESK_TEXT bytes at least, whatever the task; no task's text has more
+ * than 10,449). DESK_DONE with the text's length: the text stands in buffer from its first byte on, with no byte 0
+ * behind it; the bytes after it are as they were.
+ * Each accepted task has one text. Reading what was written gives the same counts, and the same tables but for places
+ * beyond the task's own, which aren't read here and are 0 then; writing what was read gives the same bytes.
+ * Refusals: 8 (buffer first), then faulty tables, as desk_check says. Then buffer is as it was. */
+desk_word desk_write(uint32_t vars, uint32_t ops, uint32_t maps, const uint8_t *facts, size_t facts_len,
+                     const uint32_t *costs, size_t costs_len, const uint32_t *shares, size_t shares_len,
+                     uint8_t *buffer, size_t buffer_len);
+
 /* CHECKS the lent tables by the rules of the text. DESK_DONE: they are a task's. Refusals: 8, then 3, 5, 6, 7 and 18,
- * at the line that the same task's text would have. (2 and 4 are about text alone.) Each function below refuses faulty
- * tables with the same number and place, first of all but for what else is lent too short and is said to come before.
- * Nothing lent is written. */
+ * at the line that the same task's text would have. (2 and 4 are about text alone.) desk_write and each function below
+ * refuse faulty tables with the same number and place, first of all but for what else is lent too short and is said to
+ * come before. Nothing lent is written. */
 desk_word desk_check(uint32_t vars, uint32_t ops, uint32_t maps, const uint8_t *facts, size_t facts_len,
                      const uint32_t *costs, size_t costs_len, const uint32_t *shares, size_t shares_len);
 

@@ -4,8 +4,8 @@
 //!     bench round TASK-FILE ..    the times of one round, a line a measurement
 //!     bench table                 the lines of all rounds, from standard input, as a table
 //!
-//! and `bench desk TASK-FILE ..`, or `plain` for `desk`, has a whole shift done by that side alone and times nothing, for a profiler; with `judging` or `distances` after
-//! it, that work.
+//! and `bench desk TASK-FILE ..`, or `plain` for `desk`, has a whole shift done by that side alone and times nothing, for a profiler; with `judging`, `distances`,
+//! `writing` or `reading` after it, that work.
 //! Ends with status 0, with 1 if the two differ or a task can't be measured, and with 2 if a file can't be read or the words are off.
 mod distances;
 mod judging;
@@ -13,6 +13,8 @@ mod plain;
 mod same;
 mod shift;
 mod sides;
+mod tables;
+mod text;
 mod timing;
 
 use distances::Largest;
@@ -20,6 +22,7 @@ use judging::Passing;
 use mihaedop::{Task, STEPS};
 use sides::{Desk, Plain, Side};
 use std::{env, fs, path::Path, process};
+use text::Text;
 
 /// Says why on standard error, and ends.
 fn end(status: i32, why: String) -> ! {
@@ -27,38 +30,53 @@ fn end(status: i32, why: String) -> ! {
     process::exit(status)
 }
 
-/// The task of a file, which the desk reads, with the file's name.
-fn task(path: &str) -> (String, Desk) {
+/// The task of a file, which the desk reads, with the file's name and its text.
+fn task(path: &str) -> (String, Vec<u8>, Desk) {
     let text = fs::read(path).unwrap_or_else(|error| end(2, format!("{path}: {error}")));
     let task = Task::read(&text).unwrap_or_else(|refusal| end(1, format!("{path}: {refusal}")));
     let name = Path::new(path).file_stem().map_or_else(|| path.to_string(), |stem| stem.to_string_lossy().into_owned());
-    (name, Desk::of(task))
+    (name, text, Desk::of(task))
 }
 
 /// Says how many answers were the same.
-fn compare(name: &str, desk: &Desk) -> Result<(), String> {
-    let answers = same::compare(desk)?;
-    println!("{name}: both sides gave the same {answers} answers, and left the same runs and distances");
+fn compare(name: &str, desk: &Desk, text: &[u8]) -> Result<(), String> {
+    let answers = same::compare(desk, text)?;
+    println!("{name}: both sides gave the same {answers} answers, and left the same runs, distances, texts and tables");
     Ok(())
 }
 
 /// All measurements of a task.
-fn measure(name: &str, desk: &Desk) -> Result<(), String> {
+fn measure(name: &str, desk: &Desk, text: &[u8]) -> Result<(), String> {
     let plain = Plain::of(&desk.task);
     shift::measure(name, desk, &plain);
     judging::measure(name, desk, &plain)?;
-    distances::measure(name, desk, &plain)
+    distances::measure(name, desk, &plain)?;
+    text::measure(name, &desk.task, text);
+    Ok(())
+}
+
+/// Work that is short, as often as a shift has offers.
+fn many_times(mut work: impl FnMut()) {
+    (0..STEPS).for_each(|_| work());
 }
 
 /// The work that a word names, done by one side; and what it was.
-fn work(side: &impl Side, what: &str, task: &Task) -> Result<String, String> {
+fn work<S: Side>(side: &S, what: &str, task: &Task, text: &[u8]) -> Result<String, String> {
     let counts = task.counts();
+    let text = Text::of(task, text);
     Ok(match what {
         "judging" => {
             let passing = Passing::of(side, counts)?;
-            let mut judging = passing.judging(side);
-            (0..STEPS).for_each(|_| judging());
+            many_times(passing.judging(side));
             format!("judged a sequence {STEPS} times")
+        }
+        "writing" => {
+            many_times(text.writing::<S>());
+            format!("wrote the task {STEPS} times")
+        }
+        "reading" => {
+            many_times(text.reading::<S>());
+            format!("read the task {STEPS} times")
         }
         "distances" => {
             let largest = Largest::of(side, task)?;
@@ -74,20 +92,23 @@ fn main() {
     let words: Vec<&str> = words.iter().map(String::as_str).collect();
     let (what, word, files) = match &words[..] {
         ["table", ..] => return timing::tell_table().unwrap_or_else(|why| end(2, why)),
-        [side @ ("desk" | "plain"), word @ ("judging" | "distances"), files @ ..] => (*side, *word, files),
+        [side @ ("desk" | "plain"), word @ ("judging" | "distances" | "writing" | "reading"), files @ ..] => (*side, *word, files),
         [what @ ("same" | "round" | "desk" | "plain"), files @ ..] => (*what, "shift", files),
         _ => ("", "", &[][..]),
     };
     if files.is_empty() {
-        end(2, "bench same|round TASK-FILE .., bench desk|plain [judging|distances] TASK-FILE .., or bench table".to_string());
+        end(
+            2,
+            "bench same|round TASK-FILE .., bench desk|plain [judging|distances|writing|reading] TASK-FILE .., or bench table".to_string(),
+        );
     }
-    for (name, desk) in files.iter().map(|path| task(path)) {
+    for (name, text, desk) in files.iter().map(|path| task(path)) {
         let tell = |did| println!("{name}: {what} {did}");
         let done = match what {
-            "same" => compare(&name, &desk),
-            "round" => measure(&name, &desk),
-            "desk" => work(&desk, word, &desk.task).map(tell),
-            _ => work(&Plain::of(&desk.task), word, &desk.task).map(tell),
+            "same" => compare(&name, &desk, &text),
+            "round" => measure(&name, &desk, &text),
+            "desk" => work(&desk, word, &desk.task, &text).map(tell),
+            _ => work(&Plain::of(&desk.task), word, &desk.task, &text).map(tell),
         };
         done.unwrap_or_else(|why| end(1, format!("{name}: {why}")));
     }

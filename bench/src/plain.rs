@@ -1,12 +1,15 @@
-//! THE BASELINE: the same run and the same offers as a plain Rust program keeps them; judging a sequence and the distances of a map are in the modules below. It was
-//! written from the paper for this comparison, and shares nothing with the desk but the layout of the lent tables.
+//! THE BASELINE: the same run and the same offers as a plain Rust program keeps them; judging a sequence, the distances of a map, and reading and writing a task's text
+//! are in the modules below. It was written from the paper for this comparison, and shares nothing with the desk but the layout of the lent tables.
 //!
 //! An offer does what the desk's entry promises, in the same order: the tables are judged afresh, then the run that is handed in, then the offer. Nothing is kept
 //! between offers.
 mod judging;
+mod reading;
 mod views;
+mod writing;
 
 use mihaedop::{COSTS, FACTS, SHARES, STEPS};
+pub use reading::read;
 
 // The limits of the paper.
 const VARIABLES: usize = 8;
@@ -84,6 +87,17 @@ fn hold(facts: &[u8], state: &[u8]) -> bool {
     facts.iter().zip(state).all(|(&fact, &value)| fact == 0 || fact == value + 1)
 }
 
+/// Each of the effects stands among what is asked for.
+fn idle(effects: &[u8], asked: &[u8]) -> bool {
+    effects.iter().zip(asked).all(|(&effect, &asked)| effect == 0 || effect == asked)
+}
+
+/// How many classes were seen, a bit each, if they are numbered from 0 and none is missing.
+fn gapless(seen: u32) -> Option<u32> {
+    let classes = seen.trailing_ones();
+    (seen >> classes == 0).then_some(classes)
+}
+
 /// Afterwards each fact of the row holds in the state, and all else stays.
 fn set(facts: &[u8], state: &mut [u8]) {
     for (&fact, value) in facts.iter().zip(state) {
@@ -121,11 +135,6 @@ impl<'a> Task<'a> {
         self.row(row).iter().zip(self.row(VALUES_ROW)).all(|(fact, values)| fact <= values)
     }
 
-    /// Each effect of the operator stands among its preconditions.
-    fn idle(&self, op: usize) -> bool {
-        self.row(EFFECTS + op).iter().zip(self.row(PRECONDITIONS + op)).all(|(&effect, &asked)| effect == 0 || effect == asked)
-    }
-
     /// The first fault of the tables, at the line that the task's text would have.
     pub fn check(&self) -> Result<(), Refusal> {
         if self.facts.len() < FACTS || self.costs.len() < COSTS || self.shares.len() < SHARES {
@@ -139,7 +148,7 @@ impl<'a> Task<'a> {
         in_range(self.operators <= OPERATORS, 6)?;
         for op in 0..self.operators {
             in_range(self.costs[op] <= COST && self.row_fits(PRECONDITIONS + op) && self.row_fits(EFFECTS + op), 7 + op)?;
-            if self.idle(op) {
+            if idle(self.row(EFFECTS + op), self.row(PRECONDITIONS + op)) {
                 return refuse(18, 7 + op);
             }
         }
@@ -160,11 +169,10 @@ impl<'a> Task<'a> {
                 in_range(class < values, line)?;
                 seen |= 1 << class;
             }
-            let classes = seen.trailing_ones();
-            if seen >> classes != 0 {
-                return refuse(5, line);
+            match gapless(seen) {
+                Some(classes) => states *= classes,
+                None => return refuse(5, line),
             }
-            states *= classes;
         }
         if states > STATES {
             return refuse(7, line);

@@ -1,13 +1,15 @@
 //! That both sides answer the same, before anything is timed: every offer of the shift, offers that are refused, runs that no offers could have left, and faulty tables;
-//! judging and distances are in the modules below.
+//! judging, distances and texts are in the modules below.
 mod distances;
 mod judging;
+mod text;
 
 use crate::judging::Passing;
 use crate::plain;
 use crate::shift::sequence;
 use crate::sides::{plainly_refused, refused, Desk, Parts, Plain, Side, Told};
-use mihaedop::{check, Counts, Refusal, Task, COSTS, DISTANCES, FACTS, RUN_BYTES, RUN_WORDS, SHARES, STEPS};
+use crate::tables::{Tables, KINDS, PLACES};
+use mihaedop::{check, Task, COSTS, DISTANCES, FACTS, RUN_BYTES, RUN_WORDS, SHARES, STEPS, TEXT};
 
 /// How many tables by chance have some places altered at once.
 const BY_CHANCE: usize = 20_000;
@@ -23,8 +25,9 @@ struct Both<'a> {
 }
 
 /// Asks both sides, and tells how many answers they gave alike, or where they differ.
-pub fn compare(desk: &Desk) -> Result<usize, String> {
+pub fn compare(desk: &Desk, text: &[u8]) -> Result<usize, String> {
     let mut both = Both::of(desk);
+    both.texts(text)?;
     both.shift()?;
     let passing = Passing::of(&both.plain, desk.task.counts())?;
     both.judging(&passing)?;
@@ -126,7 +129,7 @@ impl<'a> Both<'a> {
     /// The task's tables with one place altered, each in turn, and by chance with some at once, so that it shows which fault comes first. Where there is none they are
     /// another task.
     fn tables(&mut self, passing: &Passing) -> Result<(), String> {
-        let whole = Tables::of(self.desk);
+        let whole = Tables::of(&self.desk.task);
         self.check("the task's own tables", &whole, [FACTS, COSTS, SHARES])?;
         for short in [[FACTS - 1, COSTS, SHARES], [FACTS, COSTS - 1, SHARES], [FACTS, COSTS, SHARES - 1]] {
             self.check("tables too short", &whole, short)?;
@@ -152,11 +155,12 @@ impl<'a> Both<'a> {
         Ok(())
     }
 
-    /// By another task, for which it was not made, the sequence is judged; and a map's distances are asked for, unless too much was swept before.
+    /// By another task, for which it was not made, the sequence is judged; and a map's distances are asked for, unless too much was swept before. Its text is read.
     fn another(&mut self, task: Task, passing: &Passing, chance: &mut Chance, swept: &mut usize) -> Result<(), String> {
         let desk = Desk::of(task);
         let mut both = Both::of(&desk);
         both.judge(&passing.start, &passing.sequence)?;
+        both.read("the text of another task", &desk.task.to_text())?;
         if *swept < SWEPT {
             let map = chance.below(desk.task.counts().maps as usize) as u32;
             if let Told::Rounds(rounds) = both.distances(map, DISTANCES)? {
@@ -167,8 +171,8 @@ impl<'a> Both<'a> {
         Ok(())
     }
 
-    /// Tables as both sides check them. By faulty ones the baseline judges no sequence and finds no distances either; the desk can't be asked for that, since the crate
-    /// makes no task of them.
+    /// Tables as both sides check and write them. By faulty ones the baseline judges no sequence and finds no distances either; the desk can't be asked for that, since
+    /// the crate makes no task of them.
     fn check(&mut self, what: &str, tables: &Tables, [facts, costs, shares]: [usize; 3]) -> Result<(), String> {
         let (facts, costs, shares) = (&tables.facts[..facts], &tables.costs[..costs], &tables.shares[..shares]);
         let desk = check(tables.counts(), facts, costs, shares).map_or_else(refused, |()| Told::Accepted);
@@ -179,57 +183,12 @@ impl<'a> Both<'a> {
                 return Err(format!("{what}: plain Rust refuses them with {refusal:?}, but not whenever it is lent them"));
             }
         }
-        self.count(what, desk, plain.map_or_else(plainly_refused, |()| Told::Accepted))
-    }
-}
-
-/// The places of the counts and the tables, one after another.
-const PLACES: usize = 3 + FACTS + COSTS + SHARES;
-
-/// How a place can be altered.
-const KINDS: usize = 8;
-
-/// A task's counts and tables, to be altered.
-#[derive(Clone)]
-struct Tables {
-    counts: [u32; 3],
-    facts: [u8; FACTS],
-    costs: [u32; COSTS],
-    shares: [u32; SHARES],
-}
-
-impl Tables {
-    fn of(desk: &Desk) -> Tables {
-        let counts = desk.task.counts();
-        let (facts, costs, shares) = desk.task.tables();
-        Tables { counts: [counts.variables, counts.operators, counts.maps], facts: *facts, costs: *costs, shares: *shares }
-    }
-
-    fn counts(&self) -> Counts {
-        let [variables, operators, maps] = self.counts;
-        Counts { variables, operators, maps }
-    }
-
-    /// The task that they are, if the desk accepts them.
-    fn task(&self) -> Result<Task, Refusal> {
-        Task::of_tables(self.counts(), self.facts, self.costs, self.shares)
-    }
-
-    /// Alters a place: to a number near the one that stands there, or near a limit.
-    fn alter(&mut self, place: usize, kind: usize) {
-        let near = |was: u32| [0, 1, was.wrapping_sub(1), was.wrapping_add(1)];
-        if place < 3 {
-            let was = self.counts[place];
-            self.counts[place] = [8, 9, 65, u32::MAX].iter().chain(&near(was)).copied().nth(kind).unwrap_or(was);
-        } else if place < 3 + FACTS {
-            let at = &mut self.facts[place - 3];
-            let was = *at;
-            *at = [0, 1, was.wrapping_sub(1), was.wrapping_add(1), 7, 8, 9, u8::MAX][kind];
-        } else {
-            let place = place - 3 - FACTS;
-            let at = if place < COSTS { &mut self.costs[place] } else { &mut self.shares[place - COSTS] };
-            *at = [1_000_000, 1_000_001, *at / 2, u32::MAX].iter().chain(&near(*at)).copied().nth(kind).unwrap_or(*at);
+        self.count(what, desk, plain.map_or_else(plainly_refused, |()| Told::Accepted))?;
+        let written = self.write(what, tables.counts, facts, costs, shares, TEXT)?.0;
+        if desk != Told::Accepted && desk != written {
+            return Err(format!("{what}: to check them gives {desk:?}, and to write them {written:?}"));
         }
+        Ok(())
     }
 }
 

@@ -1,6 +1,6 @@
 //! The two sides by one face: the desk, through the library for C, and the baseline. Both are asked by the same code.
 use crate::plain;
-use mihaedop::{Answer, Map, Operator, Refusal, Run, State, Step, Task, RUN_BYTES, RUN_WORDS, STEPS};
+use mihaedop::{Answer, Counts, Map, Operator, Refusal, Run, State, Step, Task, RUN_BYTES, RUN_WORDS, STEPS};
 
 /// What a side answers.
 #[derive(Clone, Copy, Debug, PartialEq, Eq)]
@@ -9,6 +9,8 @@ pub enum Told {
     Repeated,
     Cost(u64),
     Rounds(u32),
+    Counts([u32; 3]),
+    Length(usize),
     Refused { number: u8, place: u32 },
 }
 
@@ -36,6 +38,12 @@ pub trait Side {
 
     /// The distances of a map into a table.
     fn distances(&self, map: u32, table: &mut [u32]) -> Told;
+
+    /// Reads any text into tables.
+    fn read(text: &[u8], facts: &mut [u8], costs: &mut [u32], shares: &mut [u32]) -> Told;
+
+    /// Writes the text of any tables into a buffer.
+    fn write(counts: [u32; 3], facts: &[u8], costs: &[u32], shares: &[u32], buffer: &mut [u8]) -> Told;
 }
 
 /// The desk with a task that it has read.
@@ -111,6 +119,16 @@ impl Side for Desk {
     fn distances(&self, map: u32, table: &mut [u32]) -> Told {
         self.task.distances(Map(map), table).map_or_else(refused, |rounds| Told::Rounds(rounds.0))
     }
+
+    fn read(text: &[u8], facts: &mut [u8], costs: &mut [u32], shares: &mut [u32]) -> Told {
+        let counts = mihaedop::read(text, facts, costs, shares);
+        counts.map_or_else(refused, |counts| Told::Counts([counts.variables, counts.operators, counts.maps]))
+    }
+
+    fn write([variables, operators, maps]: [u32; 3], facts: &[u8], costs: &[u32], shares: &[u32], buffer: &mut [u8]) -> Told {
+        let counts = Counts { variables, operators, maps };
+        mihaedop::write(counts, facts, costs, shares, buffer).map_or_else(refused, Told::Length)
+    }
 }
 
 impl Side for Plain<'_> {
@@ -161,5 +179,13 @@ impl Side for Plain<'_> {
 
     fn distances(&self, map: u32, table: &mut [u32]) -> Told {
         self.task.distances(map, table).map_or_else(plainly_refused, Told::Rounds)
+    }
+
+    fn read(text: &[u8], facts: &mut [u8], costs: &mut [u32], shares: &mut [u32]) -> Told {
+        plain::read(text, facts, costs, shares).map_or_else(plainly_refused, Told::Counts)
+    }
+
+    fn write(counts: [u32; 3], facts: &[u8], costs: &[u32], shares: &[u32], buffer: &mut [u8]) -> Told {
+        plain::Task::of(counts, facts, costs, shares).write(buffer).map_or_else(plainly_refused, Told::Length)
     }
 }

@@ -1,81 +1,15 @@
-/* Tests of the desk from C: each function on case A, what is lent too short (a length of 0 with a pointer that leads
- * nowhere too), that a refusal leaves lent memory as it was, and what the helpers tell of any run. Ends with status 1
- * at the first that fails. Reads the text of case A from the file that is named. */
-#include <stdio.h>
-#include <stdlib.h>
-#include <string.h>
-#include "desk.h"
+/* Tests of the desk from C: each function on case A (what reads and writes its text is in test_text.c), what is lent
+ * too short (a length of 0 with a pointer that leads nowhere too), that a refusal leaves lent memory as it was, and
+ * what the helpers tell of any run. Ends with status 1 at the first that fails. Reads the text of case A from the file
+ * that is named. */
+#include "expect.h"
 
-#define EXPECT(what)                                              \
-    do {                                                          \
-        tried++;                                                  \
-        if (!(what)) {                                            \
-            printf("line %d: not so: %s\n", __LINE__, #what);     \
-            exit(1);                                              \
-        }                                                         \
-    } while (0)
-
-static int tried;
-
-/* a word as kind and number */
-static desk_word word(uint64_t kind, uint64_t number) { return kind + 256 * number; }
-#define SHORT word(8, 0)
-
-/* leads nowhere; with a length of 0 it is not looked at */
-#define WILD8 ((uint8_t *)1)
-#define WILD32 ((uint32_t *)4)
-
-static uint8_t text[16385];
-static size_t text_len;
-static uint32_t counts[DESK_COUNTS];
-static uint8_t facts[DESK_FACTS];
-static uint32_t costs[DESK_COSTS];
-static uint32_t shares[DESK_SHARES];
-#define COUNTED counts[0], counts[1], counts[2]
-#define TABLES facts, DESK_FACTS, costs, DESK_COSTS, shares, DESK_SHARES
-#define TASK COUNTED, TABLES
 static const uint8_t init[3] = {0, 0, 0};
 
 /* Where the facts say what operator 0 asks of variable 0, and what it sets it to. With 0 at the first it asks nothing of
  * it, and so may always run. */
 #define OP0_ASKS 24
 #define OP0_SETS 536
-
-static void reads(void)
-{
-    static uint8_t f[DESK_FACTS + 1];
-    static uint32_t c[DESK_COSTS], s[DESK_SHARES], n[DESK_COUNTS];
-    memset(f, 7, sizeof f);
-    memset(c, 7, sizeof c);
-    memset(s, 7, sizeof s);
-    memset(n, 7, sizeof n);
-    EXPECT(desk_read(text, text_len, n, 2, f, DESK_FACTS, c, DESK_COSTS, s, DESK_SHARES) == SHORT);
-    EXPECT(desk_read(text, text_len, WILD32, 0, f, DESK_FACTS, c, DESK_COSTS, s, DESK_SHARES) == SHORT);
-    EXPECT(desk_read(text, text_len, n, DESK_COUNTS, f, DESK_FACTS - 1, c, DESK_COSTS, s, DESK_SHARES) == SHORT);
-    EXPECT(desk_read(text, text_len, n, DESK_COUNTS, WILD8, 0, c, DESK_COSTS, s, DESK_SHARES) == SHORT);
-    EXPECT(desk_read(text, text_len, n, DESK_COUNTS, f, DESK_FACTS, c, DESK_COSTS - 1, s, DESK_SHARES) == SHORT);
-    EXPECT(desk_read(text, text_len, n, DESK_COUNTS, f, DESK_FACTS, WILD32, 0, s, DESK_SHARES) == SHORT);
-    EXPECT(desk_read(text, text_len, n, DESK_COUNTS, f, DESK_FACTS, c, DESK_COSTS, s, DESK_SHARES - 1) == SHORT);
-    EXPECT(desk_read(text, text_len, n, DESK_COUNTS, f, DESK_FACTS, c, DESK_COSTS, WILD32, 0) == SHORT);
-    EXPECT(desk_read(WILD8, 0, n, DESK_COUNTS, f, DESK_FACTS, c, DESK_COSTS, s, DESK_SHARES) == word(2, 1));
-    EXPECT(desk_read(text, sizeof text, n, DESK_COUNTS, f, DESK_FACTS, c, DESK_COSTS, s, DESK_SHARES) == word(1, 0));
-    EXPECT(desk_read(text, text_len - 1, n, DESK_COUNTS, f, DESK_FACTS, c, DESK_COSTS, s, DESK_SHARES) == word(2, 17));
-    for (size_t i = 0; i < sizeof f; i++)
-        EXPECT(f[i] == 7);
-    for (size_t i = 0; i < DESK_COSTS; i++)
-        EXPECT(c[i] == 0x07070707);
-    for (size_t i = 0; i < DESK_SHARES; i++)
-        EXPECT(s[i] == 0x07070707);
-    for (size_t i = 0; i < DESK_COUNTS; i++)
-        EXPECT(n[i] == 0x07070707);
-    EXPECT(desk_read(text, text_len, n, DESK_COUNTS, f, sizeof f, c, DESK_COSTS, s, DESK_SHARES) == word(DESK_DONE, 0));
-    EXPECT(n[0] == 3 && n[1] == 4 && n[2] == 3);
-    EXPECT(f[0] == 2 && f[1] == 3 && f[2] == 3 && f[3] == 0 && f[DESK_FACTS] == 0);
-    EXPECT(c[0] == 1 && c[3] == 1 && c[4] == 0);
-    EXPECT(s[0] == 1 && s[64 + 1] == 1 && s[64 + 2] == 1 && s[128 + 3] == 1 && s[128] == 0);
-    EXPECT(desk_read(text, text_len, counts, DESK_COUNTS, TABLES) == word(DESK_DONE, 0));
-    EXPECT(memcmp(counts, n, sizeof n) == 0 && memcmp(facts, f, DESK_FACTS) == 0);
-}
 
 /* The initial state stands where the header says, and can be lent from there. */
 static void initial_state(void)
@@ -381,9 +315,11 @@ struct tables {
 static void all_short(struct tables t)
 {
     static uint32_t out[DESK_DISTANCES], words[DESK_RUN_WORDS], zeros[DESK_DISTANCES];
+    static uint8_t buffer[DESK_TEXT];
     uint8_t bytes[DESK_RUN_BYTES] = {0};
     const uint32_t all[4] = {0, 1, 2, 3};
 #define LENT COUNTED, t.facts, t.facts_len, t.costs, t.costs_len, t.shares, t.shares_len
+    EXPECT(desk_write(LENT, buffer, DESK_TEXT) == SHORT);
     EXPECT(desk_check(LENT) == SHORT);
     EXPECT(desk_distances(LENT, 0, out, DESK_DISTANCES) == SHORT);
     EXPECT(desk_distance_at(LENT, 0, init, 3) == SHORT);
@@ -394,6 +330,7 @@ static void all_short(struct tables t)
     EXPECT(desk_begin(LENT, init, 3, bytes, DESK_RUN_BYTES, words, DESK_RUN_WORDS) == SHORT);
     EXPECT(desk_offer(LENT, bytes, DESK_RUN_BYTES, words, DESK_RUN_WORDS, 1, 0) == SHORT);
     EXPECT(memcmp(out, zeros, sizeof out) == 0 && memcmp(words, zeros, sizeof words) == 0 && memcmp(bytes, zeros, sizeof bytes) == 0);
+    EXPECT(memcmp(buffer, zeros, sizeof buffer) == 0);
 }
 
 static void short_tables(void)
@@ -424,14 +361,11 @@ static void short_tables(void)
 
 int main(int argc, char **argv)
 {
-    FILE *f = argc == 2 ? fopen(argv[1], "rb") : NULL;
-    if (!f) {
+    if (argc != 2 || !text_from(argv[1])) {
         fprintf(stderr, "test TEXT-OF-CASE-A\n");
         return 2;
     }
-    text_len = fread(text, 1, sizeof text, f);
-    fclose(f);
-    reads();
+    EXPECT(desk_read(text, text_len, counts, DESK_COUNTS, TABLES) == word(DESK_DONE, 0));
     initial_state();
     checks();
     distances();

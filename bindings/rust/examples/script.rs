@@ -115,6 +115,10 @@ mod desk {
         }
     }
 
+    pub fn write(lent: Lent<'_>, buffer: &mut [u8]) -> Answer {
+        told(ffi::write(over(lent), buffer), "length", true)
+    }
+
     pub fn check(lent: Lent<'_>) -> Answer {
         told(ffi::check(over(lent)), "clean", false)
     }

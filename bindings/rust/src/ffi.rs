@@ -16,6 +16,7 @@ macro_rules! of_a_task {
 }
 
 of_a_task! {
+    desk_write(buffer: *mut u8, buffer_len: usize);
     desk_check();
     desk_distances(map: u32, out: *mut u32, out_len: usize);
     desk_distance_at(map: u32, state: *const u8, state_len: usize);
@@ -89,6 +90,10 @@ pub fn read(text: &[u8], counts: &mut [u32], facts: &mut [u8], costs: &mut [u32]
             shares.len(),
         )
     }
+}
+
+pub fn write(task: Lent<'_>, buffer: &mut [u8]) -> u64 {
+    call!(desk_write, task, buffer.as_mut_ptr(), buffer.len())
 }
 
 pub fn check(task: Lent<'_>) -> u64 {

@@ -1,4 +1,4 @@
-//! The sequence desk for Rust: a task read from its text, the least bench seconds any sequence still needs, sequences judged, and a run with its ledger.
+//! The sequence desk for Rust: a task read from its text and written back, the least bench seconds any sequence still needs, sequences judged, and a run with its ledger.
 //!
 //! Everything here goes to the proved desk (`libdesk_c.a`, x86-64 Linux) and comes back as it answered; this crate only gives the numbers types that can't be mixed up.
 //! A [`Refusal`] carries the desk's number and place, and then nothing was altered. What the desk's answers mean, and what is proved of them, is in the repository's
@@ -15,6 +15,9 @@ use std::fmt;
 pub const FACTS: usize = 1624;
 pub const COSTS: usize = 64;
 pub const SHARES: usize = 512;
+
+/// The bytes of a buffer for a task's text, whatever the task; no task's text has more than 10,449.
+pub const TEXT: usize = 16384;
 
 /// The places of a table of distances.
 pub const DISTANCES: usize = 4096;
@@ -102,6 +105,21 @@ fn numbers(list: &[Operator]) -> &[u32] {
     unsafe { std::slice::from_raw_parts(list.as_ptr().cast(), list.len()) }
 }
 
+/// Reads a task's text into lent tables of at least [`FACTS`], [`COSTS`] and [`SHARES`] places: its counts. Every place beyond the task's own is 0 then.
+pub fn read(text: &[u8], facts: &mut [u8], costs: &mut [u32], shares: &mut [u32]) -> Result<Counts, Refusal> {
+    let mut counts = [0; 3];
+    told(ffi::read(text, &mut counts, facts, costs, shares))?;
+    let [variables, operators, maps] = counts;
+    Ok(Counts { variables, operators, maps })
+}
+
+/// Writes the text of tables into a lent buffer of at least [`TEXT`] bytes: the text's length. Faulty tables are refused as by [`check`].
+///
+/// The bytes after the text are as they were. Places of the tables beyond the task's own aren't read: with whatever they hold, the text is the same.
+pub fn write(counts: Counts, facts: &[u8], costs: &[u32], shares: &[u32], buffer: &mut [u8]) -> Result<usize, Refusal> {
+    told(ffi::write(ffi::Lent { counts: counts.lent(), facts, costs, shares }, buffer)).map(|(_, length)| length as usize)
+}
+
 /// Checks tables by the rules of the text: they are a task's, or the first fault with the line that the same task's text would have.
 pub fn check(counts: Counts, facts: &[u8], costs: &[u32], shares: &[u32]) -> Result<(), Refusal> {
     told(ffi::check(ffi::Lent { counts: counts.lent(), facts, costs, shares })).map(|_| ())
@@ -128,12 +146,10 @@ impl State {
 impl Task {
     /// Reads a task's text.
     pub fn read(text: &[u8]) -> Result<Task, Refusal> {
-        let mut counts = [0; 3];
         let mut facts = [0; FACTS];
         let mut costs = [0; COSTS];
         let mut shares = [0; SHARES];
-        told(ffi::read(text, &mut counts, &mut facts, &mut costs, &mut shares))?;
-        let counts = Counts { variables: counts[0], operators: counts[1], maps: counts[2] };
+        let counts = read(text, &mut facts, &mut costs, &mut shares)?;
         Ok(Task { counts, facts, costs, shares })
     }
 
@@ -141,6 +157,16 @@ impl Task {
     pub fn of_tables(counts: Counts, facts: [u8; FACTS], costs: [u32; COSTS], shares: [u32; SHARES]) -> Result<Task, Refusal> {
         check(counts, &facts, &costs, &shares)?;
         Ok(Task { counts, facts, costs, shares })
+    }
+
+    /// Its text; each task has one. [`Task::read`] gives the same counts and tables for it, with 0 in every place beyond the task's own, and a task that was read has the text
+    /// that was read.
+    ///
+    /// There is nothing to refuse: a `Task` has tables that the desk has accepted, and [`write()`] refuses just what [`check`] refuses and a buffer of less than [`TEXT`] bytes.
+    pub fn to_text(&self) -> Vec<u8> {
+        let mut buffer = [0; TEXT];
+        let length = write(self.counts, &self.facts, &self.costs, &self.shares, &mut buffer).expect("tables that the desk has accepted");
+        buffer[..length].to_vec()
     }
 
     /// How many variables, operators and maps it has.

@@ -13,6 +13,8 @@ use Rattle.scan.specs.Own.{OwnSame, OwnState}
 use Rattle.scan.proofs.Unread.{own-alike}
 use Rattle.grammar.specs.declared.Reading.the-variants.{Accepted}
 use Rattle.grammar.specs.Grammar.{readText}
+use Rattle.grammar.specs.Writing.{writeText}
+use Rattle.grammar.proofs.Unread.{own-written}
 use Rattle.grammar.proofs.SpellLeft.{read-answer-same, read-accepted-same}
 use Rattle.views.specs.declared.DistancesAnswer.{DistancesAnswer}
 use Rattle.views.specs.declared.DistanceAnswer.{DistanceAnswer}
@@ -38,6 +40,9 @@ module _ (task f f′ c c′ s s′ : List ℕ) (p : length f ≡ length f′) (
 module _ (t u : Tables) (O : OwnSame t u) where
   pub check-own : tablesFault t ≡ tablesFault u
   check-own = own-alike t u O .fault
+
+  pub write-own : (buffer : List ℕ) → writeText t buffer ≡ writeText u buffer
+  write-own buffer = own-written t u O buffer
 
   pub distances-own : (map : ℕ) (out out′ : List ℕ) (x : DistancesAnswer) → DistancesGiven t map out x out′ → DistancesGiven u map out x out′
   distances-own map out out′ x = views.distances-given-alike (own-alike t u O) map out out′ x

@@ -9,6 +9,7 @@ use Rattle.tables.specs.Layout.{Tables}
 use Rattle.scan.specs.Scan.{tablesFault}
 use Rattle.grammar.specs.Fields.{Outcome}
 use Rattle.grammar.specs.Grammar.{readText}
+use Rattle.grammar.specs.Writing.{Page, writeText}
 use Rattle.views.specs.declared.DistanceAnswer.{DistanceAnswer}
 use Rattle.views.specs.declared.BoundAnswer.{BoundAnswer}
 use Rattle.views.specs.Entries.{DistancesGiven, DistanceGiven, BoundGiven}
@@ -27,6 +28,10 @@ use Rattle.ledger.specs.Ledger.{begun, offered}
 pub read-unique : (task facts costs shares : List ℕ) (x y : Outcome)
     → x ≡ readText task facts costs shares → y ≡ readText task facts costs shares → x ≡ y
 read-unique task facts costs shares x y p q = p ∙ sym q
+
+-- the answer and the lent buffer after a writing
+pub write-unique : (t : Tables) (buffer : List ℕ) (x y : Page) → x ≡ writeText t buffer → y ≡ writeText t buffer → x ≡ y
+write-unique t buffer x y p q = p ∙ sym q
 
 pub check-unique : (t : Tables) (x y : Found) → x ≡ tablesFault t → y ≡ tablesFault t → x ≡ y
 check-unique t x y p q = p ∙ sym q

@@ -4,3 +4,4 @@ pub mod Own
 pub mod Reading
 pub mod Bounding
 pub mod Watched
+pub mod Writing

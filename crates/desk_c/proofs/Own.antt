@@ -15,11 +15,14 @@ use Rattle.desk.proofs.Own as desk
 use Rattle.words.specs.Words.{foundWord, judgedWord, cheaperWord, openingWord}
 use Rattle.lent_runs.specs.Lent.{runIn}
 use Rattle.lent_runs.specs.Left.{unlessShort, beginHanded, offerHanded}
-use Rattle.desk_c.specs.Handing.{DistancesHanded, DistanceHanded, BoundHanded}
+use Rattle.desk_c.specs.Handing.{writeTold, writeHanded, DistancesHanded, DistanceHanded, BoundHanded}
 
 module _ (t u : Tables) (O : OwnSame t u) where
   pub check-own : foundWord (tablesFault t) ≡ foundWord (tablesFault u)
   check-own = ap foundWord (desk.check-own t u O)
+
+  pub write-own : (buffer : List ℕ) → writeHanded t buffer ≡ writeHanded u buffer
+  write-own buffer = ap writeTold (desk.write-own t u O buffer)
 
   pub distances-own : (map : ℕ) (out out′ : List ℕ) (w : ℕ) → DistancesHanded t map out w out′ → DistancesHanded u map out w out′
   distances-own map out out′ w h = (h .0, desk.distances-own t u O map out out′ (h .0) (h .1), h .2)

@@ -10,7 +10,7 @@ use Rattle.sequences.specs.Judging.{judgedOf}
 use Rattle.sequences.specs.Choosing.{cheaperOf, chosenOf}
 use Rattle.words.specs.Words.{foundWord, distancesWord, distanceWord, boundWord, judgedWord, cheaperWord, openingWord}
 use Rattle.lent_runs.specs.Left.{RunLeft, beginHanded, offerHanded}
-use Rattle.desk_c.specs.Handing.{ReadLeft, readHanded, DistancesHanded, DistanceHanded, BoundHanded}
+use Rattle.desk_c.specs.Handing.{ReadLeft, readHanded, WriteLeft, writeHanded, DistancesHanded, DistanceHanded, BoundHanded}
 
 pub check-unique : (t : Tables) (w v : ℕ) → w ≡ foundWord (tablesFault t) → v ≡ foundWord (tablesFault t) → w ≡ v
 check-unique t w v p q = p ∙ sym q
@@ -55,6 +55,10 @@ pub read-unique : (task counts facts costs shares : List ℕ) (x y : ReadLeft) �
     → y ≡ readHanded task counts facts costs shares
     → x ≡ y
 read-unique task counts facts costs shares x y p q = p ∙ sym q
+
+-- the word, and the lent buffer after a writing
+pub write-unique : (t : Tables) (buffer : List ℕ) (x y : WriteLeft) → x ≡ writeHanded t buffer → y ≡ writeHanded t buffer → x ≡ y
+write-unique t buffer x y p q = p ∙ sym q
 
 -- the word, and the lent bytes and words of the run
 pub begin-unique : (t : Tables) (start bytes words : List ℕ) (x y : RunLeft) → x ≡ beginHanded t start bytes words

@@ -13,7 +13,7 @@ use Rattle.grammar.specs.declared.Reading.{Reading}
 use Rattle.grammar.specs.declared.Reading.the-variants as reading
 use Rattle.grammar.specs.Fields.{Outcome}
 use Rattle.grammar.specs.Grammar.{readText}
-use Rattle.grammar.specs.Writing.{writeText}
+use Rattle.grammar.specs.Writing.{Page, writeText}
 use Rattle.views.specs.declared.DistancesAnswer.{DistancesAnswer}
 use Rattle.views.specs.declared.DistanceAnswer.{DistanceAnswer}
 use Rattle.views.specs.declared.BoundAnswer.{BoundAnswer}
@@ -59,8 +59,11 @@ pub record WriteLeft : Type 0 where
 abbrev pub writeLeft : ℕ → List ℕ → WriteLeft
 writeLeft w b = record { word = w; bytes = b }
 
+abbrev pub writeTold : Page → WriteLeft
+writeTold p = writeLeft (writtenWord (p .answer)) (p .bytes)
+
 abbrev pub writeHanded : Tables → List ℕ → WriteLeft
-writeHanded t buffer = writeLeft (writtenWord (writeText t buffer .answer)) (writeText t buffer .bytes)
+writeHanded t buffer = writeTold (writeText t buffer)
 
 -- DISTANCES, A DISTANCE, THE BOUND: the word of the answer that the desk gives
 abbrev pub DistancesHanded : Tables → ℕ → List ℕ → ℕ → List ℕ → Type 0

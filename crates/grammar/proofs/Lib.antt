@@ -23,4 +23,6 @@ pub mod SpellRead
 pub mod SpellBeyond
 pub mod SpellKinds
 pub mod SpellLeft
+pub mod Unread
 pub mod Writing
+pub mod RoundTrips

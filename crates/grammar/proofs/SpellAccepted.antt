@@ -193,7 +193,7 @@ pub record Spells (x : List ℕ) (T : Tables) : Type 0 where
   pub own : T ≡ canon T
   pub valid : Valid (taskOf T)
 
-own-roomy : (T : Tables) → T ≡ canon T → roomy T ≡ true
+pub own-roomy : (T : Tables) → T ≡ canon T → roomy T ≡ true
 own-roomy T p = ap roomy p ∙ canon-roomy T
 
 -- what an accepted text leaves passes the scan

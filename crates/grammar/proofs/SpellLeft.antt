@@ -78,7 +78,7 @@ module _ (x f c s : List ℕ) (n : Counts) (h : readText x f c s .answer ≡ Acc
   so : (o : Outcome) → readText x f c s ≡ o → o .answer ≡ Accepted n
   so o e = ap (λ (u : Outcome). u .answer) (sym e) ∙ h
 
-  rooms : (factsRoom ≤ length f) × (costsRoom ≤ length c) × (sharesRoom ≤ length s)
+  pub rooms : (factsRoom ≤ length f) × (costsRoom ≤ length c) × (sharesRoom ≤ length s)
   rooms =
       let a : factsRoom ≤ length f = by-order (length f) factsRoom (λ l. not-accepted (so _ (facts-short x f c s l))) (λ g. g) in
       let b : costsRoom ≤ length c = by-order (length c) costsRoom (λ l. not-accepted (so _ (costs-short x f c s a l))) (λ g. g) in

@@ -26,6 +26,9 @@ use Rattle.grammar.proofs.SpellOwn.{Small}
 use Rattle.grammar.proofs.SpellAccepted.{clean-small}
 use Rattle.grammar.proofs.SpellShort.{spelled-short}
 
+not-refused : {A : Type 0} {r : Refusal} {n : ℕ} → Length n ≡ Refused r → A
+not-refused p = let z : _≡_ {A = ℕ} 0 1 = cc in absurd (let n : ⊥ = omega arith in n)
+
 -- ---- a text in a buffer
 
 module _ (text b : List ℕ) where
@@ -77,3 +80,35 @@ module _ (t : Tables) (b : List ℕ) where
     pub tables-written : tablesFault t ≡ Clean → writeText t b ≡ page (Length (length (textOf edition t))) (over (textOf edition t) b)
     unfolding writeText writeFault onPage
     tables-written p = rw (le-leb textRoom (length b) h, p) refl
+
+  -- refused, for whatever number, 8 too: every place of the buffer is as it was
+  page-refused : (f : Found) (x : List ℕ) (r : Refusal) → onPage f x b .answer ≡ Refused r → onPage f x b ≡ page (Refused r) b
+  unfolding onPage
+  page-refused Clean x r e = not-refused e
+  page-refused (Fault q) x r e = let z : q ≡ r = cc in ap (λ (k : Refusal). page (Refused k) b) z
+
+  pub refused-leaves : (r : Refusal) → writeText t b .answer ≡ Refused r → writeText t b ≡ page (Refused r) b
+  unfolding writeText
+  refused-leaves r = page-refused (writeFault t b) (textOf edition t) r
+
+  -- written: the buffer has room, the tables are clean, and the number told is the text's length
+  pub record Wrote (n : ℕ) : Type 0 where
+    pub room : textRoom ≤ length b
+    pub clean : tablesFault t ≡ Clean
+    pub bytes : n ≡ length (textOf edition t)
+
+  page-written : (f : Found) (x : List ℕ) (n : ℕ) → onPage f x b .answer ≡ Length n → (f ≡ Clean) × (n ≡ length x)
+  unfolding onPage
+  page-written Clean x n e = (refl, let z : length x ≡ n = cc in sym z)
+  page-written (Fault r) x n e = not-refused (sym e)
+
+  pub wrote : (n : ℕ) → writeText t b .answer ≡ Length n → Wrote n
+  unfolding writeText writeFault
+  wrote n e =
+      let w = page-written (writeFault t b) (textOf edition t) n e in
+      let room = unless (leb textRoom (length b)) TableTooShort in
+      record {
+        room = leb-true textRoom (length b) (rule-held (leb textRoom (length b)) TableTooShort (clean-first room (tablesFault t) (w .0)));
+        clean = clean-next room (tablesFault t) (w .0);
+        bytes = w .1;
+      }

@@ -12,6 +12,8 @@ use Rattle.refusals.specs.declared.Refusal.the-variants as refusal
 use Rattle.refusals.specs.Listed.{numberOf, placeOf}
 use Rattle.scan.specs.declared.Found.{Found}
 use Rattle.scan.specs.declared.Found.the-variants.{Clean, Fault}
+use Rattle.grammar.specs.declared.Written.{Written}
+use Rattle.grammar.specs.declared.Written.the-variants as written
 use Rattle.views.specs.declared.DistancesAnswer.{DistancesAnswer}
 use Rattle.views.specs.declared.DistancesAnswer.the-variants as distances
 use Rattle.views.specs.declared.DistanceAnswer.{DistanceAnswer}
@@ -27,7 +29,7 @@ use Rattle.sequences.specs.declared.choosing.Choice.the-variants.{FirstPart, Se
 use Rattle.sequences.specs.Choosing.{listOf, stepsOf}
 use Rattle.ledger.specs.declared.Answer.{Answer}
 use Rattle.ledger.specs.declared.Answer.the-variants as ledger
-use Rattle.words.specs.Words.{word, done, first, second, refusedWord, foundWord, distancesWord, distanceWord, boundWord, judgedWord, cheaperWord, openingWord, answerWord}
+use Rattle.words.specs.Words.{word, done, first, second, refusedWord, foundWord, writtenWord, distancesWord, distanceWord, boundWord, judgedWord, cheaperWord, openingWord, answerWord}
 
 -- ---- a word
 
@@ -125,6 +127,17 @@ found-back (Fault r) = refused-back Fault clean r
 
 pub found-told : (a b : Found) → foundWord a ≡ foundWord b → a ≡ b
 found-told = told foundWord (readBack Fault clean) found-back
+
+-- how many bytes a text has
+abbrev pub bytes : ℕ → ℕ → Written
+bytes k x = written.Length x
+
+pub written-back : (a : Written) → readBack written.Refused bytes (writtenWord a) ≡ a
+written-back (written.Length n) = word-back written.Refused bytes done n (omega arith)
+written-back (written.Refused r) = refused-back written.Refused bytes r
+
+pub written-told : (a b : Written) → writtenWord a ≡ writtenWord b → a ≡ b
+written-told = told writtenWord (readBack written.Refused bytes) written-back
 
 -- the count of rounds
 abbrev pub rounds : ℕ → ℕ → DistancesAnswer
