@@ -1,6 +1,7 @@
 //! Writes vectors in the form of the script.
 
 use crate::limits::*;
+use crate::round_trips::with_round_trips;
 use crate::row::Record;
 use crate::run::Run;
 use crate::script::*;
@@ -42,12 +43,12 @@ pub fn text_of_task(task: &Task) -> Vec<u8> {
     text_of(Lent { counts: counts_of(task), facts: &tables.facts, costs: &tables.costs, shares: &tables.shares })
 }
 
-/// The script of the vectors, numbered from 1.
+/// The script of the vectors, numbered from 1, with the round trips of their readings.
 pub fn script_of(vectors: &[Vector]) -> Vec<u8> {
     let mut script = Vec::new();
     for (i, vector) in vectors.iter().enumerate() {
         script.extend_from_slice(format!("z\n# {} {}\n", i + 1, vector.title).as_bytes());
-        script.extend_from_slice(&vector.body);
+        script.extend_from_slice(&with_round_trips(&vector.body));
     }
     script
 }

@@ -2,6 +2,7 @@
 
 use crate::builder::{tables_of, text_of_task};
 use crate::limits::*;
+use crate::random::{task, FULL, LARGE, MEDIUM, SMALL, TINY};
 use crate::rng::Rng;
 use crate::script::{COSTS, FACTS, SHARES};
 use crate::task::Task;
@@ -42,6 +43,19 @@ pub fn idle_text(rng: &mut Rng, task: &Task) -> Vec<u8> {
         damaged(rng, &text)
     } else {
         text
+    }
+}
+
+/// The text of a task by chance, as often as not with something damaged.
+pub fn some_text(rng: &mut Rng) -> Vec<u8> {
+    let size = rng.pick(&[TINY, SMALL, MEDIUM, LARGE, FULL]);
+    let task = task(rng, size);
+    let text = text_of_task(&task);
+    match rng.below(6) {
+        0 => damaged(rng, &text),
+        1 => renumbered(rng, &text),
+        2 => idle_text(rng, &task),
+        _ => text,
     }
 }
 

@@ -8,11 +8,13 @@ use crate::space;
 use crate::tables::{counts_of, read_tables, room_for_tables, write_tables, Counts, Lent};
 use crate::task::{refuse, Fault, State, Task};
 use crate::text::read_text;
+use crate::writer::written;
 use std::fmt;
 
 #[derive(Clone, Debug, PartialEq, Eq)]
 pub enum Answer {
     Read(Counts),
+    Length(usize),
     Clean,
     Rounds(usize),
     Of(u64),
@@ -32,6 +34,7 @@ impl fmt::Display for Answer {
     fn fmt(&self, f: &mut fmt::Formatter) -> fmt::Result {
         match self {
             Answer::Read(counts) => write!(f, "accepted {} {} {}", counts.vars, counts.ops, counts.maps),
+            Answer::Length(length) => write!(f, "length {}", length),
             Answer::Clean => write!(f, "clean"),
             Answer::Rounds(rounds) => write!(f, "rounds {}", rounds),
             Answer::Of(number) => write!(f, "of {}", number),
@@ -86,6 +89,22 @@ pub fn read(text: &[u8], facts: &mut [u8], costs: &mut [u32], shares: &mut [u32]
         let task = read_text(text)?;
         write_tables(&task, facts, costs, shares);
         Ok(Answer::Read(counts_of(&task)))
+    }))
+}
+
+fn room_for_a_text(buffer: usize) -> Result<(), Fault> {
+    if buffer < BUFFER_ROOM {
+        return refuse(8, 0);
+    }
+    Ok(())
+}
+
+/// Bytes of the buffer after the text stay, and all of them if the tables are refused.
+pub fn write(lent: Lent, buffer: &mut [u8]) -> Answer {
+    told(room_for_a_text(buffer.len()).and_then(|()| {
+        let text = written(&read_tables(lent)?);
+        buffer[..text.len()].copy_from_slice(&text);
+        Ok(Answer::Length(text.len()))
     }))
 }
 
@@ -183,11 +202,24 @@ pub fn offer(run: &Run, lent: Lent, number: u32, op: u32) -> (Run, Answer) {
     }
 }
 
+/// The two lines of a refusal.
+fn refusal(fault: Fault) -> String {
+    format!("refused={}\nplace={}\n", fault.number, fault.place)
+}
+
+/// What the desk program writes for a text that is to be formatted: the task's text.
+pub fn format_program(text: &[u8]) -> Vec<u8> {
+    match read_text(text) {
+        Ok(task) => written(&task),
+        Err(fault) => refusal(fault).into_bytes(),
+    }
+}
+
 /// What the desk program writes for a text.
 pub fn program(text: &[u8]) -> String {
     let task = match read_text(text) {
         Ok(task) => task,
-        Err(fault) => return format!("refused={}\nplace={}\n", fault.number, fault.place),
+        Err(fault) => return refusal(fault),
     };
     let line = |name: &str, number: Option<u64>| match number {
         Some(number) => format!("{}={}\n", name, number),

@@ -52,7 +52,7 @@ fn on_off(length: usize) -> Vec<u32> {
 }
 
 /// Variables of eight values; the map keeps so many of them apart.
-fn wide(vars: usize, kept: usize) -> Task {
+pub fn wide(vars: usize, kept: usize) -> Task {
     let classes = |v: usize| (0..8).map(|value| if v < kept { value } else { 0 }).collect();
     let op = Op { cost: 5, pre: vec![None; vars], eff: vec![Some(7); vars] };
     Task {

@@ -14,6 +14,7 @@ use crate::script::*;
 use crate::steps;
 use crate::sums;
 use crate::task::{State, Task};
+use crate::writing;
 
 type Kind = fn(&mut Rng) -> Vector;
 
@@ -45,8 +46,18 @@ const KINDS: [Kind; 24] = [
 ];
 
 /// The kinds over a row of records, over sums of which some terms are none, over runs watched at every moment, over lists and
-/// runs of any length, and over an idle operator.
-const LATER_KINDS: [Kind; 6] = [rows::row_of_a_task, rows::damaged_row, sums::mixed, moments::watched, steps::any_length, idle::somewhere];
+/// runs of any length, over an idle operator, and over writing.
+const LATER_KINDS: [Kind; 9] = [
+    rows::row_of_a_task,
+    rows::damaged_row,
+    sums::mixed,
+    moments::watched,
+    steps::any_length,
+    idle::somewhere,
+    writing::rubbish_and_lengths,
+    writing::damaged_tables,
+    writing::damaged_text,
+];
 
 /// The i-th vector by chance: the kinds take turns.
 pub fn by_chance(rng: &mut Rng, i: usize) -> Vector {

@@ -25,6 +25,8 @@ pub const FACTS_ROOM: usize = 203 * ROW;
 pub const COSTS_ROOM: usize = OPS;
 pub const SHARES_ROOM: usize = OPS * MAPS;
 pub const OUT_ROOM: usize = STATES;
+/// The buffer has room for the longest text that may be read, whatever the task.
+pub const BUFFER_ROOM: usize = TEXT;
 
 /// Up to so many concrete states a view is built by looking at each of them.
 pub const ENUMERATED: usize = 20_000;

@@ -13,6 +13,7 @@ mod limits;
 mod moments;
 mod random;
 mod rng;
+mod round_trips;
 mod row;
 mod rows;
 mod run;
@@ -29,7 +30,11 @@ mod tests;
 mod tests_idle;
 #[cfg(test)]
 mod tests_moments;
+#[cfg(test)]
+mod tests_writing;
 mod text;
+mod writer;
+mod writing;
 
 use std::io::{Read, Write};
 
@@ -37,8 +42,10 @@ const USAGE: &str = "\
 judge vectors SEED COUNT   writes a script of so many vectors
 judge seeds FIRST COUNT    writes as many scripts of one vector by chance, one a seed, after one another
 judge long                 writes the script of the vectors that take long
+judge text SEED            writes a text by chance, a task's or a damaged one
 judge expect < SCRIPT      writes what the program of the vectors must print
 judge desk < TEXT          writes what the desk program must write
+judge format < TEXT        writes what it must write if the text is to be formatted
 ";
 
 fn input() -> Vec<u8> {
@@ -48,7 +55,7 @@ fn input() -> Vec<u8> {
 }
 
 /// The cases by name, then vectors by chance, as many as are asked for; then the small texts, the rows of records, the sums, the watched
-/// runs, the lists and runs of many steps, and the idle operators last.
+/// runs, the lists and runs of many steps, the idle operators, and those over writing last.
 fn vectors(seed: u64, count: usize) -> Vec<u8> {
     let mut vectors = cases::bench();
     vectors.extend(edges::edges());
@@ -64,6 +71,7 @@ fn vectors(seed: u64, count: usize) -> Vec<u8> {
     vectors.extend(moments::moments(seed));
     vectors.extend(steps::steps(seed));
     vectors.extend(idle::idle(seed));
+    vectors.extend(writing::writing(seed));
     builder::script_of(&vectors)
 }
 
@@ -79,8 +87,10 @@ fn output(words: &[&str]) -> Option<Vec<u8>> {
         ["vectors", seed, count] => Some(vectors(seed.parse().ok()?, count.parse().ok()?)),
         ["seeds", first, count] => Some(seeds(first.parse().ok()?, count.parse().ok()?)),
         ["long"] => Some(builder::script_of(&edges::long())),
+        ["text", seed] => Some(damages::some_text(&mut rng::Rng::new(seed.parse().ok()?))),
         ["expect"] => Some(script::expect(&input())),
         ["desk"] => Some(desk::program(&input()).into_bytes()),
+        ["format"] => Some(desk::format_program(&input())),
         _ => None,
     }
 }

@@ -141,7 +141,7 @@ fn eight_variables() -> Vector {
 fn places_of_the_row() -> Vec<Vector> {
     vec![
         Vector::new("a record's cost is a number and its facts are bytes").lines("s 13 17 4294967295 255 256 7; p 13 17; p 13 18; p 13 19; p 13 20; s 13 33 8 9 10; p 13 33; p 13 34; p 13 35; s 13 34 300 300; p 13 34; p 13 35"),
-        Vector::new("the row's places and its length have an end").lines("s 13 1359 5 6; p 13 1359; p 13 1360; e 13 77; p 13 0; p 13 1358; e 13 256; p 13 0; p 13 1; l 13 80; l 13 81; s 14 0 1; p 14 0; s 12 0 1; p 12 0; l 12 1; W 1; W"),
+        Vector::new("the row's places and its length have an end").lines("s 13 1359 5 6; p 13 1359; p 13 1360; e 13 77; p 13 0; p 13 1358; e 13 256; p 13 0; p 13 1; l 13 80; l 13 81; s 15 0 1; p 15 0; s 12 0 1; p 12 0; l 12 1; W 1; W"),
     ]
 }
 

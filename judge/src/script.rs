@@ -10,8 +10,8 @@ use crate::tables::{Counts, Lent};
 pub const LINE: usize = 200;
 /// The most numbers on a line.
 pub const NUMBERS: usize = 16;
-/// The room of the text buffer.
-pub const BUFFER: usize = 16_500;
+/// So many bytes of a text are kept, and so many the buffer has places for: more than a text may have.
+pub const TEXT_ROOM: usize = 16_500;
 /// The room of a list of steps: more than a sequence may have.
 pub const LIST: usize = 1_100;
 /// So many changed places of an array are printed one by one; a call's further ones make one line.
@@ -30,6 +30,7 @@ pub const LEN: u32 = 9;
 pub const NOW: u32 = 10;
 pub const COLUMN: u32 = 11;
 pub const RECORDS: u32 = 13;
+pub const BUFFER: u32 = 14;
 
 /// The places of a record: its cost, and a place a variable for its preconditions and for its effects.
 pub const RECORD: usize = 1 + 2 * VARS;
@@ -38,7 +39,7 @@ pub const ROW_ROOM: usize = 80;
 
 /// The arrays by number: name, places, places lent after a reset, greatest value. There is no array 12. Of a record only
 /// the cost goes so far; the others of its places are bytes.
-pub const ARRAYS: [(&str, usize, usize, u32); 14] = [
+pub const ARRAYS: [(&str, usize, usize, u32); 15] = [
     ("facts", 1_700, FACTS_ROOM, 255),
     ("costs", 80, COSTS_ROOM, u32::MAX),
     ("shares", 600, SHARES_ROOM, u32::MAX),
@@ -53,6 +54,7 @@ pub const ARRAYS: [(&str, usize, usize, u32); 14] = [
     ("column", MAPS + 1, MAPS + 1, u32::MAX),
     ("", 0, 0, 0),
     ("records", RECORD * ROW_ROOM, 0, u32::MAX),
+    ("buffer", TEXT_ROOM, BUFFER_ROOM, 255),
 ];
 
 /// The greatest value that a place can hold.
@@ -125,7 +127,7 @@ impl Bench {
     }
 
     /// Carries out one line and hands back what follows it.
-    fn line<'a>(&mut self, line: &[u8], after: &'a [u8]) -> &'a [u8] {
+    pub fn line<'a>(&mut self, line: &[u8], after: &'a [u8]) -> &'a [u8] {
         if line.len() <= LINE && line.first() == Some(&b'#') {
             self.printed.extend_from_slice(line);
             self.printed.push(b'\n');
@@ -145,7 +147,7 @@ impl Bench {
     /// The raw bytes of a text, and the byte after them.
     fn load<'a>(&mut self, length: usize, after: &'a [u8]) -> &'a [u8] {
         let text = &after[..length.min(after.len())];
-        self.text = text[..text.len().min(BUFFER)].to_vec();
+        self.text = text[..text.len().min(TEXT_ROOM)].to_vec();
         &after[after.len().min(length + 1)..]
     }
 
@@ -161,6 +163,8 @@ impl Bench {
                 self.write(*k as usize, 0, &vec![*value; places]);
             }
             (b'p', [k, place]) => self.show(*k as usize, *place as usize),
+            (b'b', []) => self.put_bytes(BUFFER, &self.text.clone()),
+            (b'u', [length]) => self.take_copy(*length as usize),
             (b'q', []) => {
                 let Counts { vars, ops, maps } = self.counts;
                 self.print(&format!("counts {} {} {}", vars, ops, maps));
@@ -173,7 +177,7 @@ impl Bench {
     /// Only what a caller lends has a length to set, and none is beyond its array. Of the row a record is counted as one.
     fn lend(&mut self, k: usize, length: usize) {
         let most = match k as u32 {
-            FACTS..=SECOND => ARRAYS[k].1,
+            FACTS..=SECOND | BUFFER => ARRAYS[k].1,
             RECORDS => ROW_ROOM,
             _ => return,
         };
@@ -228,6 +232,25 @@ impl Bench {
         self.arrays[k as usize][..values.len()].copy_from_slice(values);
     }
 
+    fn put_bytes(&mut self, k: u32, bytes: &[u8]) {
+        self.put(k, &bytes.iter().map(|byte| u32::from(*byte)).collect::<Vec<_>>());
+    }
+
+    /// The text is the first bytes of the buffer, those that aren't lent included.
+    fn take_copy(&mut self, length: usize) {
+        self.text = self.arrays[BUFFER as usize].iter().take(length).map(|byte| *byte as u8).collect();
+    }
+
+    /// The text that is read next.
+    pub fn text(&self) -> &[u8] {
+        &self.text
+    }
+
+    /// How many places of an array are lent.
+    pub fn length(&self, k: u32) -> usize {
+        self.lent[k as usize]
+    }
+
     fn run(&self) -> Run {
         Run {
             start: self.bytes(START).try_into().unwrap(),
@@ -267,6 +290,12 @@ impl Bench {
         let lent = Lent { counts: self.counts, facts: &facts, costs, shares };
         Some(match (letter, numbers) {
             (b'R', []) => self.read(),
+            (b'T', []) => {
+                let mut buffer = self.bytes(BUFFER);
+                let answer = desk::write(lent, &mut buffer);
+                self.put_bytes(BUFFER, &buffer);
+                answer
+            }
             (b'K', []) => desk::check(lent),
             (b'D', [map]) => {
                 let mut out = self.words(OUT).to_vec();
@@ -299,7 +328,7 @@ impl Bench {
     fn read(&mut self) -> Answer {
         let (mut facts, mut costs, mut shares) = (self.bytes(FACTS), self.words(COSTS).to_vec(), self.words(SHARES).to_vec());
         let answer = desk::read(&self.text, &mut facts, &mut costs, &mut shares);
-        self.put(FACTS, &facts.into_iter().map(u32::from).collect::<Vec<_>>());
+        self.put_bytes(FACTS, &facts);
         self.put(COSTS, &costs);
         self.put(SHARES, &shares);
         if let Answer::Read(counts) = answer {

@@ -127,8 +127,9 @@ pub fn parsed(line: Line) -> Command {
 // The letter is one of the script's, and has as many numbers as it takes.
 pub fn known(letter: u8, count: usize) -> bool {
     match letter {
-        b'z' | b'q' | b'R' | b'K' | b'B' | b'M' | b'J' | b'W' | b'C' | b'P' | b'G' => count == 0,
-        b't' | b'D' | b'A' => count == 1,
+        b'z' | b'q' | b'b' => count == 0,
+        b'R' | b'T' | b'K' | b'B' | b'M' | b'J' | b'W' | b'C' | b'P' | b'G' => count == 0,
+        b't' | b'u' | b'D' | b'A' => count == 1,
         b'l' | b'e' | b'p' | b'O' => count == 2,
         b'n' => count == 3,
         b's' => 2 < count,

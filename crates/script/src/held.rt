@@ -30,12 +30,14 @@ pub const COLUMN: u32 = 11;
 
 pub const RECORDS: u32 = 13;
 
+pub const BUFFER: u32 = 14;
+
 // The program's own: the lengths of the lent arrays, the counts of variables, operators and maps, and the length of the text. The script has no array 12.
 pub const LENT: u32 = 12;
 
-pub const COUNTS: u32 = 14;
+pub const COUNTS: u32 = 15;
 
-pub const TEXT: u32 = 15;
+pub const TEXT: u32 = 16;
 
 // How many places the lent arrays have: each more than the largest task or the longest list takes, so that lengths beyond can be tried.
 pub const FACTS_PLACES: usize = 1700;
@@ -57,6 +59,9 @@ pub const RECORD: usize = 17;
 
 const RECORDS_PLACES: usize = ROW_RECORDS * RECORD;
 
+// The buffer that a text is written into: more than a text may have, and as many bytes as are kept of the text that is read.
+pub const BUFFER_PLACES: usize = 16500;
+
 // The places of a run's arrays: a state, the log and the columns.
 pub const RUN_STATE: usize = 8;
 
@@ -65,7 +70,7 @@ pub const LOG_PLACES: usize = 1024;
 pub const COLUMNS: usize = 9;
 
 // The lengths of the lent arrays, each at its array's number, and the counts.
-const LENT_PLACES: usize = 14;
+const LENT_PLACES: usize = 15;
 
 const COUNTS_PLACES: usize = 3;
 
@@ -94,7 +99,9 @@ const COLUMN_AT: usize = NOW_AT + RUN_STATE;
 
 const RECORDS_AT: usize = COLUMN_AT + COLUMNS;
 
-const LENT_AT: usize = RECORDS_AT + RECORDS_PLACES;
+const BUFFER_AT: usize = RECORDS_AT + RECORDS_PLACES;
+
+const LENT_AT: usize = BUFFER_AT + BUFFER_PLACES;
 
 const COUNTS_AT: usize = LENT_AT + LENT_PLACES;
 
@@ -108,7 +115,7 @@ pub fn of_script(k: u32) -> bool {
     if k == LENT {
         return false;
     }
-    k <= RECORDS
+    k <= BUFFER
 }
 
 // How many places an array has. An array that isn't there has none.
@@ -125,6 +132,7 @@ pub fn places(k: u32) -> usize {
         LEN | TEXT => 1,
         COLUMN => COLUMNS,
         RECORDS => RECORDS_PLACES,
+        BUFFER => BUFFER_PLACES,
         LENT => LENT_PLACES,
         COUNTS => COUNTS_PLACES,
         _ => 0,
@@ -147,6 +155,7 @@ fn base(k: u32) -> usize {
         NOW => NOW_AT,
         COLUMN => COLUMN_AT,
         RECORDS => RECORDS_AT,
+        BUFFER => BUFFER_AT,
         LENT => LENT_AT,
         COUNTS => COUNTS_AT,
         TEXT => TEXT_AT,
@@ -157,7 +166,7 @@ fn base(k: u32) -> usize {
 // A place of an array holds a byte. Of a record all but the first does.
 pub fn of_bytes(k: u32, i: usize) -> bool {
     match k {
-        FACTS | STATE | START | NOW => true,
+        FACTS | STATE | START | NOW | BUFFER => true,
         RECORDS => i % RECORD != 0,
         _ => false,
     }
@@ -165,13 +174,11 @@ pub fn of_bytes(k: u32, i: usize) -> bool {
 
 // How many places of an array a call can be lent at most; of the row, how many records. What isn't lent by a length has none.
 pub fn most_lent(k: u32) -> usize {
-    if k == RECORDS {
-        return ROW_RECORDS;
+    match k {
+        RECORDS => ROW_RECORDS,
+        FACTS | COSTS | SHARES | OUT | STATE | FIRST | SECOND | BUFFER => places(k),
+        _ => 0,
     }
-    if k <= SECOND {
-        return places(k);
-    }
-    0
 }
 
 // The value of a place, and 0 where there is none.
@@ -248,6 +255,15 @@ pub fn eight_bytes(held: &[u32], k: u32, from: usize) -> [u8; 8] {
     row
 }
 
+// Puts bytes into an array, from its first place on; the places behind them stay. Nothing is printed.
+pub fn put_bytes(held: &mut [u32], k: u32, from: &[u8]) {
+    let mut i = 0;
+    while i < from.len() {
+        put(held, k, i, wide(from[i]));
+        i += 1;
+    }
+}
+
 // Compares a copy of an array of bytes with what is held: prints what has changed, and keeps it.
 pub fn save_bytes(held: &mut [u32], k: u32, from: &[u8]) {
     let mut tally = Tally::none();
@@ -286,6 +302,7 @@ pub fn named(k: u32) -> Line {
         LEN => line.word(b"len"),
         NOW => line.word(b"now"),
         COLUMN => line.word(b"column"),
+        BUFFER => line.word(b"buffer"),
         _ => line.word(b"records"),
     }
 }

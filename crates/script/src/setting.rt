@@ -1,5 +1,6 @@
 // The commands that set and show what the program holds.
 use crate::commands::Command;
+use crate::held::BUFFER;
 use crate::held::COSTS;
 use crate::held::COUNTS;
 use crate::held::FACTS;
@@ -17,7 +18,7 @@ use crate::held::value;
 use crate::lines::Line;
 use tables::Counts;
 
-// What calls are lent before the first line: the room for the largest task, for the distances of a map, and for a state.
+// What calls are lent before the first line: the room for the largest task, for the distances of a map, for a state, and for a text.
 const FACTS_LENT: u32 = 1624;
 
 const COSTS_LENT: u32 = 64;
@@ -27,6 +28,8 @@ const SHARES_LENT: u32 = 512;
 const OUT_LENT: u32 = 4096;
 
 const STATE_LENT: u32 = 8;
+
+const BUFFER_LENT: u32 = 16384;
 
 // The highest byte.
 const BYTE: u32 = 255;
@@ -48,6 +51,7 @@ pub fn reset(held: &mut [u32]) {
     put(held, LENT, SHARES as usize, SHARES_LENT);
     put(held, LENT, OUT as usize, OUT_LENT);
     put(held, LENT, STATE as usize, STATE_LENT);
+    put(held, LENT, BUFFER as usize, BUFFER_LENT);
 }
 
 // Puts a value where the array is one of the script's and has such places.

@@ -1,4 +1,5 @@
 // The desk's answers in the script's words.
+use grammar::Written;
 use ledger::Answer;
 use refusals::Refusal;
 use refusals::number;
@@ -16,6 +17,13 @@ use views::DistancesAnswer;
 pub fn say_refused(r: Refusal) {
     let line = Line::empty().word(b"refused").number(number(r) as u64);
     line.number(place(r) as u64).say()
+}
+
+pub fn say_written(answer: Written) {
+    match answer {
+        Written::Length(n) => say_number(b"length", n as u64),
+        Written::Refused(r) => say_refused(r),
+    }
 }
 
 pub fn say_found(found: Found) {

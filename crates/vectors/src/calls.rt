@@ -10,6 +10,7 @@ use crate::answers::say_judged;
 use crate::answers::say_offered;
 use crate::answers::say_opening;
 use crate::answers::say_refused;
+use crate::answers::say_written;
 use crate::runs::keep_run;
 use crate::runs::run_held;
 use desk::begin;
@@ -22,9 +23,12 @@ use desk::judge;
 use desk::offer;
 use desk::opening;
 use desk::read;
+use desk::write;
 use grammar::Reading;
 use meaning::OpNo;
 use script::commands::Command;
+use script::held::BUFFER;
+use script::held::BUFFER_PLACES;
 use script::held::COSTS;
 use script::held::COSTS_PLACES;
 use script::held::FACTS;
@@ -82,6 +86,16 @@ pub fn call_read(held: &mut [u32], text: &[u8]) {
     save_bytes(held, FACTS, &facts);
     save_words(held, COSTS, &costs);
     save_words(held, SHARES, &shares);
+}
+
+// `T`: writes the text of the tables into the buffer.
+fn call_write(held: &mut [u32], facts: &[u8], costs: &[u32], shares: &[u32]) {
+    let mut buffer = [0u8; BUFFER_PLACES];
+    load_bytes(held, BUFFER, &mut buffer);
+    let n = least(lent(held, BUFFER), BUFFER_PLACES);
+    let c = counts_held(held);
+    say_written(write(c, facts, costs, shares, &mut buffer[..n]));
+    save_bytes(held, BUFFER, &buffer);
 }
 
 // `D`: the distances of a map.
@@ -156,6 +170,7 @@ fn call_over(
     let letter = command.letter;
     let a = command.value(0);
     match letter {
+        b'T' => call_write(held, facts, costs, shares),
         b'K' => say_found(check(c, facts, costs, shares)),
         b'D' => call_distances(held, facts, costs, shares, a),
         b'A' => say_distance(distance_at(c, facts, costs, shares, a, state)),

@@ -4,45 +4,37 @@ mod answers;
 mod calls;
 mod rows;
 mod runs;
+mod texts;
 
 use crate::calls::call;
 use crate::calls::call_read;
 use crate::rows::call_row;
+use crate::texts::TEXT_BYTES;
+use crate::texts::copy_text;
+use crate::texts::take_copy;
+use crate::texts::take_text;
 use script::commands::Command;
 use script::commands::known;
 use script::commands::parsed;
 use script::held::PLACES;
-use script::held::TEXT;
-use script::held::put;
 use script::input::Input;
 use script::input::TURNS;
 use script::input::next_line;
-use script::input::next_text;
 use script::lines::Line;
 use script::lines::MOST;
 use script::lines::say;
-use script::parts::least;
 use script::setting::reset;
 use script::setting::set_or_show;
-
-// The most bytes of a text that are kept.
-const TEXT_BYTES: usize = 16500;
 
 // The bytes of the input that are read at a time.
 const READ_BYTES: usize = 4096;
 
-// `t`: the bytes that follow are the text.
-fn take_text(held: &mut [u32], text: &mut [u8], buf: &mut [u8], input: Input, n: u32) -> Input {
-    let took = next_text(buf, input, text, n as usize);
-    let len = least(took.len, TEXT_BYTES);
-    put(held, TEXT, 0, len as u32);
-    took.input
-}
-
 // A command of the form.
-fn obey(held: &mut [u32], text: &[u8], command: Command) {
+fn obey(held: &mut [u32], text: &mut [u8], command: Command) {
     let letter = command.letter;
     match letter {
+        b'b' => copy_text(held, text),
+        b'u' => take_copy(held, text, command.value(0)),
         b'R' => call_read(held, text),
         b'W' => call_row(held),
         b'z' | b'n' | b'l' | b's' | b'e' | b'p' | b'q' => set_or_show(held, command),
