@@ -43,7 +43,7 @@ module _ (t : Tables) (buffer : List ℕ) (w : Page) (h : w ≡ writeText t buff
 
   -- refused: the buffer is as it was
   pub write-refused : (r : Refusal) → w .answer ≡ Refused r → w .bytes ≡ buffer
-  write-refused r e = ap (λ (p : Page). p .bytes) (h ∙ writing.refused-leaves t buffer r (said (Refused r) e))
+  write-refused r e = ap (λ (p : Page). p .bytes) (h ∙ writing.refused-buffer t buffer r (said (Refused r) e))
 
   -- written exactly if the buffer has room and the tables are accepted: a task's text always fits
   pub write-exactly : ((n : ℕ) × (w .answer ≡ Length n)) ↔ ((textRoom ≤ length buffer) × (tablesFault t ≡ Clean))
@@ -87,12 +87,12 @@ module _ (t : Tables) (buffer : List ℕ) (w : Page) (h : w ≡ writeText t buff
 
       -- the same task: its counts, each of its own numbers in its place, 0 in every other place, and no table longer or shorter
       pub read-written : Named (taskOf t) facts costs shares x
-      read-written = subst (Named (taskOf t) facts costs shares) (sym reads) (trips.read-text t (wrote .clean) facts costs shares a b c)
+      read-written = subst (Named (taskOf t) facts costs shares) (sym reads) (trips.spelled-named t (wrote .clean) facts costs shares a b c)
 
       -- where the unused places were 0 already, and the tables are as long: exactly the same lent bytes
       pub read-written-same : UnusedZero t → length facts ≡ length (t .facts) → length costs ≡ length (t .costs) → length shares ≡ length (t .shares)
           → x ≡ leaves (Accepted (t .counts)) (t .facts) (t .costs) (t .shares)
-      read-written-same U p q r = reads ∙ trips.read-text-same t (wrote .clean) facts costs shares a b c U p q r
+      read-written-same U p q r = reads ∙ trips.spelled-same t (wrote .clean) facts costs shares a b c U p q r
 
     -- THE ONLY TEXT: whatever text a reading accepts as the same task is this one
     pub only-text : (y facts costs shares : List ℕ) (x : Outcome) → x ≡ readText y facts costs shares → (k : Counts) → x .answer ≡ Accepted k

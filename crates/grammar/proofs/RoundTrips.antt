@@ -151,10 +151,10 @@ module _ (t : Tables) (p : tablesFault t ≡ Clean) (f c s : List ℕ) (a : fact
   read-answer = ap (λ (o : Outcome). o .answer) (read-spelled f c s t p a b d)
 
   -- the counts, the task's own numbers, and 0 in every other place
-  pub read-text : Named (taskOf t) f c s (readText (textOf edition t) f c s)
-  read-text = accepted-named (textOf edition t) f c s (canon t .counts) read-answer (taskOf t) refl
+  pub spelled-named : Named (taskOf t) f c s (readText (textOf edition t) f c s)
+  spelled-named = accepted-named (textOf edition t) f c s (canon t .counts) read-answer (taskOf t) refl
 
   -- where the unused places were 0 already, exactly the same tables
-  pub read-text-same : UnusedZero t → length f ≡ length (t .facts) → length c ≡ length (t .costs) → length s ≡ length (t .shares)
+  pub spelled-same : UnusedZero t → length f ≡ length (t .facts) → length c ≡ length (t .costs) → length s ≡ length (t .shares)
       → readText (textOf edition t) f c s ≡ leaves (Accepted (t .counts)) (t .facts) (t .costs) (t .shares)
-  read-text-same U = same-bytes t f c s (readText (textOf edition t) f c s) read-text U
+  spelled-same U = same-bytes t f c s (readText (textOf edition t) f c s) spelled-named U

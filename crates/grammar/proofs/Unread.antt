@@ -19,7 +19,7 @@ use Rattle.grammar.specs.Fields.{edition}
 use Rattle.grammar.specs.Spelling.{textOf}
 use Rattle.grammar.specs.Writing.{textRoom, page, over, writeText}
 use Rattle.grammar.proofs.SpellAccepted.{Agree, agree-spelled}
-use Rattle.grammar.proofs.Writing.{short-buffer, tables-refused, tables-written}
+use Rattle.grammar.proofs.Writing.{short-buffer, fault-told, tables-written}
 
 module _ (t u : Tables) (O : OwnSame t u) where
   vars : t .counts .vars ≡ u .counts .vars
@@ -58,4 +58,4 @@ module _ (t u : Tables) (O : OwnSame t u) where
       found : textRoom ≤ length b → (f : Found) → tablesFault t ≡ f → writeText t b ≡ writeText u b
       found l Clean e =
           tables-written t b l e ∙ ap (λ (x : List ℕ). page (Length (length x)) (over x b)) own-text ∙ sym (tables-written u b l (same ∙ e))
-      found l (Fault r) e = tables-refused t b l r e ∙ sym (tables-refused u b l r (same ∙ e))
+      found l (Fault r) e = fault-told t b l r e ∙ sym (fault-told u b l r (same ∙ e))

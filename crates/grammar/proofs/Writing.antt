@@ -73,9 +73,9 @@ module _ (t : Tables) (b : List ℕ) where
   short-buffer h = rw (lt-leb textRoom (length b) h) refl
 
   module _ (h : textRoom ≤ length b) where
-    pub tables-refused : (r : Refusal) → tablesFault t ≡ Fault r → writeText t b ≡ page (Refused r) b
+    pub fault-told : (r : Refusal) → tablesFault t ≡ Fault r → writeText t b ≡ page (Refused r) b
     unfolding writeText writeFault onPage
-    tables-refused r p = rw (le-leb textRoom (length b) h, p) refl
+    fault-told r p = rw (le-leb textRoom (length b) h, p) refl
 
     pub tables-written : tablesFault t ≡ Clean → writeText t b ≡ page (Length (length (textOf edition t))) (over (textOf edition t) b)
     unfolding writeText writeFault onPage
@@ -87,9 +87,9 @@ module _ (t : Tables) (b : List ℕ) where
   page-refused Clean x r e = not-refused e
   page-refused (Fault q) x r e = let z : q ≡ r = cc in ap (λ (k : Refusal). page (Refused k) b) z
 
-  pub refused-leaves : (r : Refusal) → writeText t b .answer ≡ Refused r → writeText t b ≡ page (Refused r) b
+  pub refused-buffer : (r : Refusal) → writeText t b .answer ≡ Refused r → writeText t b ≡ page (Refused r) b
   unfolding writeText
-  refused-leaves r = page-refused (writeFault t b) (textOf edition t) r
+  refused-buffer r = page-refused (writeFault t b) (textOf edition t) r
 
   -- written: the buffer has room, the tables are clean, and the number told is the text's length
   pub record Wrote (n : ℕ) : Type 0 where

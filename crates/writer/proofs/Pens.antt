@@ -12,9 +12,9 @@ use Rattle.writer.specs.Inside.Pen.{Pen, pen, stroke, inked, Writes}
 
 -- ---- a byte
 
-pub written : (n : ℕ) (b : List ℕ) (x : ℕ) → n < length b → Writes (pen n b) (x ∷ []) (pen (n + 1) (set b n x))
+pub byte-put : (n : ℕ) (b : List ℕ) (x : ℕ) → n < length b → Writes (pen n b) (x ∷ []) (pen (n + 1) (set b n x))
 unfolding inked stroke
-written n b x h = record { leaves = rw (lt-ltb n (length b) h) refl }
+byte-put n b x h = record { leaves = rw (lt-ltb n (length b) h) refl }
 
 pub full : (n : ℕ) (b : List ℕ) (x : ℕ) → length b ≤ n → Writes (pen n b) (x ∷ []) (pen n b)
 unfolding inked stroke

@@ -12,7 +12,7 @@ use Rattle.grammar.specs.declared.Written.the-variants.{Length}
 use Rattle.grammar.specs.Fields.{edition}
 use Rattle.grammar.specs.Spelling.{textOf}
 use Rattle.grammar.specs.Writing.{textRoom, page, over}
-use Rattle.grammar.proofs.Writing.{tables-small, text-short, short-buffer, tables-refused, tables-written}
+use Rattle.grammar.proofs.Writing.{tables-small, text-short, short-buffer, fault-told, tables-written}
 use Rattle.writer.specs.Inside.Pen.{Pen, pen, Writes}
 use Rattle.writer.proofs.Pens.{pen-over}
 use Rattle.writer.proofs.write.Statement.{statement}
@@ -28,7 +28,7 @@ laid t {b = b} e h p =
 returns-2 : tie.Need-returns-2
 returns-2 c =
     let found = c .before .before .before in
-    sym (tables-refused _ _ (found .before .if1 .left) _ (sym (found .tables-fault .ensures) ∙ c .before .found .given .1))
+    sym (fault-told _ _ (found .before .if1 .left) _ (sym (found .tables-fault .ensures) ∙ c .before .found .given .1))
 
 put-task-requires : tie.Need-put-task-requires
 put-task-requires c κs =
