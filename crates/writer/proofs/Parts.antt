@@ -14,7 +14,7 @@ use Rattle.grammar.specs.Fields.{comma, dash}
 use Rattle.grammar.specs.Spelling.{digits, gap, joined, numbers, stacked, fact, anotherFact, moreFacts, firstFact, someFacts, shareText}
 use Rattle.grammar.proofs.Decimal.{one-digit, digits-more}
 use Rattle.writer.specs.Inside.Pen.{Pen, inked, Writes, factsLeft, commaIf, saidOf}
-use Rattle.writer.proofs.Pens.{nothing, whole, after, turn, done}
+use Rattle.writer.proofs.Pens.{nothing, whole, after, so, turn, done}
 
 -- n - i is n at the begin, then one more than n - (i + 1), and 0 at the end
 all-left : (n : ℕ) → n - 0 ≡ n
@@ -92,6 +92,25 @@ module _ (mark : ℕ) (f : ℕ → List ℕ) (n i : ℕ) where
 
   pub row-over : {p q : Pen} {y : List ℕ} → n ≤ i → Writes p (joined mark f (n - i) i) (inked q y) → Writes q y p
   row-over h = done (nothing _) (joined-over mark f n i h)
+
+-- a row of numbers under way, from p to q: the buffer is as long as it was, and what is left leaves what the whole row leaves
+pub record RowUnder (f : ℕ → ℕ) (n : ℕ) (p : Pen) (i : ℕ) (q : Pen) : Type 0 where
+  pub long : length (q .bytes) ≡ length (p .bytes)
+  pub left : Writes q (joined comma (λ k. digits (f k)) (n - i) i) (inked p (numbers f n))
+
+module _ (f : ℕ → ℕ) (n : ℕ) where
+  pub row-begins : (p : Pen) → RowUnder f n p 0 p
+  unfolding numbers
+  row-begins p = record { long = refl; left = row-whole comma (λ k. digits (f k)) n p }
+
+  -- one number more, and its comma
+  pub row-goes-on : {p q r s : Pen} (i x : ℕ) → i < n → x ≡ f i → Writes q (digits x) r → Writes r (gap comma (n - (i + 1))) s → length (s .bytes) ≡ length (q .bytes)
+      → RowUnder f n p i q
+      → RowUnder f n p (i + 1) s
+  row-goes-on i x h e a b l u = record { long = l ∙ u .long; left = row-turn comma (λ k. digits (f k)) n i h (so a (ap digits e)) b (u .left) }
+
+  pub row-ends : {p q : Pen} (i : ℕ) → n ≤ i → RowUnder f n p i q → Writes p (numbers f n) q
+  row-ends i h u = row-over comma (λ k. digits (f k)) n i h (u .left)
 
 -- what a map charges: a dash exactly if there are no operators
 pub shares-none : (share : ℕ → ℕ) (n : ℕ) → n ≡ 0 → dash ∷ [] ≡ shareText share n

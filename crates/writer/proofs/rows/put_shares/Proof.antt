@@ -1,44 +1,27 @@
--- `writer::rows::put_shares` meets its contract: the invariant is by what is left of the row. Assumes nothing.
-use Prim.Native.Nat.{_-_, _≤_}
+-- `writer::rows::put_shares` meets its contract: the invariant is that the row is under way. Assumes nothing.
+use Prim.Native.Nat.{_-_}
 use native.Mathlib.Omega.{arith}
-use mathlib.Core.Path.{_≡_, refl, ap, _∙_}
-use lib.ListN.{length}
+use mathlib.Core.Path.{_∙_}
 use borrow.Author.Needs.{needs}
 use Rattle.tables.specs.Layout.{shareAt}
-use Rattle.grammar.specs.Fields.{comma}
-use Rattle.grammar.specs.Spelling.{digits, joined, numbers}
-use Rattle.writer.specs.Inside.Pen.{pen, inked, Writes}
-use Rattle.writer.proofs.Pens.{so}
-use Rattle.writer.proofs.Parts.{row-whole, row-turn, row-over}
+use Rattle.writer.specs.Inside.Pen.{pen}
+use Rattle.writer.proofs.Parts.{RowUnder, row-begins, row-goes-on, row-ends}
 use Rattle.writer.proofs.rows.put_shares.Statement.{statement}
 use Rattle.writer.proofs.rows.put_shares.Tie as tie
 
 abbrev Inv-loop : tie.InvT-loop
-Inv-loop out₀ at shares m n next₀ o₀ out next o =
-    (o ≤ n)
-    × (length out ≡ length out₀)
-    × Writes (pen next out) (joined comma (λ k. digits (shareAt shares m k)) (n - o) o) (inked (pen next₀ out₀) (numbers (shareAt shares m) n))
+Inv-loop out₀ at shares m n next₀ o₀ out next o = RowUnder (shareAt shares m) n (pen next₀ out₀) o (pen next out)
 
 abbrev μ-loop : tie.MeasureT-loop
 μ-loop out₀ at shares m n next₀ o₀ out next o = n - o
-
-loop-holds : tie.Need-loop-holds Inv-loop μ-loop
-unfolding numbers
-loop-holds c = (omega arith, refl, row-whole comma _ _ _)
 
 loop-again : tie.Need-loop-again Inv-loop μ-loop
 loop-again c =
     let gap = c .before .before in
     let put = gap .before .before .before .before in
     let test = put .before .before .before .loop-test in
-    let run = put .before .before .before .before .loop in (
-      omega arith,
-      gap .put-gap .kept .0 ∙ put .put-number .kept .0 ∙ run .inv .1,
-      row-turn comma _ _ (run .o) (test .taken) (so (put .put-number .ensures) (ap digits (put .before .share-at .ensures))) (gap .put-gap .ensures) (run .inv .2),
-    )
-
-returns : tie.Need-returns Inv-loop μ-loop
-returns c = let run = c .before .loop in row-over comma _ _ (run .o) (c .loop-test .left) (run .inv .2)
+    let run = put .before .before .before .before .loop in
+    row-goes-on _ _ (run .o) _ (test .taken) (put .before .share-at .ensures) (put .put-number .ensures) (gap .put-gap .ensures) (gap .put-gap .kept .0 ∙ put .put-number .kept .0) (run .inv)
 
 pub put-shares-spec : {M : Type 1} → statement M
 put-shares-spec =
@@ -46,7 +29,7 @@ put-shares-spec =
     (tie.spec
     Inv-loop
     μ-loop
-    loop-holds
+    (λ c. row-begins _ _ _)
     (λ c κs. search needs)
     (λ c κs. search needs)
     (λ c. omega arith)
@@ -54,5 +37,5 @@ put-shares-spec =
     (λ c κs. search needs)
     (λ c. omega arith)
     loop-again
-    (λ c. c .before .loop .inv .1)
-    returns)
+    (λ c. c .before .loop .inv .long)
+    (λ c. let run = c .before .loop in row-ends _ _ (run .o) (c .loop-test .left) (run .inv)))
