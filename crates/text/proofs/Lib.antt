@@ -10,3 +10,4 @@ pub mod BridgeShares
 pub mod BridgeText
 pub mod Filling
 pub mod Laws
+pub mod Parts

@@ -1,4 +1,5 @@
 // One byte of the text.
+ghost use mathlib.Core.Bool.{false};
 ghost use mathlib.Core.Path.{_≡_};
 ghost use Prim.Native.Nat.{_-_};
 ghost use Rattle.grammar.specs.Fields.{lineEnd};
@@ -14,13 +15,17 @@ ghost use Rattle.text.specs.Inside.Steps.{
   listEnd,
   afterClass,
   afterVar,
-  afterValue,
+  nextFact,
   afterShare,
   afterNumber,
-  closed,
+  listOver,
+  afterPart,
+  runFault,
+  runKept,
+  partClosed,
   nothingRead,
   dashHere,
-  atNumber,
+  inValue,
   live,
   byteRead,
   feed,
@@ -69,7 +74,6 @@ use crate::names::KIND_SHARE;
 use crate::names::KIND_VAL;
 use crate::names::KIND_VAR;
 use crate::names::LINE_END;
-use crate::names::NO_BYTE;
 use crate::names::PART_AFTER_DASH;
 use crate::names::PART_KEY;
 use crate::names::PART_NUMBER;
@@ -238,23 +242,19 @@ pub fn field_before(f: u32) -> u32
     if 1 <= f { f - 1 } else { 0 }
 }
 
-pub fn after_value(c: Ctrl, w: &[u8], b: u32) -> Ctrl
-    ensures { λ r. ⌜ r ≡ afterValue c (was w) b ⌝ }
+pub fn next_fact(c: Ctrl) -> Ctrl
+    ensures { λ r. ⌜ r ≡ nextFact c ⌝ }
 {
-    if b == COMMA {
-        await_number(
-            c,
-            field_before(c.spot.field),
-            Turn {
-                var: 0,
-                least: one_more(c.turn.var),
-                item: 0,
-            },
-            NONE_SEEN,
-        )
-    } else {
-        list_end(c, w, b)
-    }
+    await_number(
+        c,
+        field_before(c.spot.field),
+        Turn {
+            var: 0,
+            least: one_more(c.turn.var),
+            item: 0,
+        },
+        NONE_SEEN,
+    )
 }
 
 pub fn after_share(c: Ctrl, b: u32) -> Ctrl
@@ -282,8 +282,23 @@ pub fn after_share(c: Ctrl, b: u32) -> Ctrl
     }
 }
 
-// The byte after a number, which is kept in the area.
+// A list of facts is over: after its dash, or after a value that no comma follows.
+pub fn list_over(c: Ctrl, b: u32) -> bool
+    ensures { λ r. ⌜ r ≡ listOver c b ⌝ }
+{
+    if c.spot.part == PART_AFTER_DASH {
+        return true;
+    }
+    if kind_of(c.spot.field) == KIND_VAL {
+        b != COMMA
+    } else {
+        false
+    }
+}
+
+// The byte after a number, which is kept in the area, where no list of facts is over.
 pub fn after_number(c: Ctrl, w: &[u8], b: u32) -> Ctrl
+    requires { ⌜ listOver c b ≡ false ⌝ }
     ensures { λ r. ⌜ r ≡ afterNumber c (was w) b ⌝ }
 {
     let k = kind_of(c.spot.field);
@@ -304,7 +319,7 @@ pub fn after_number(c: Ctrl, w: &[u8], b: u32) -> Ctrl
                 NONE_SEEN,
             ),
         ),
-        KIND_VAL => after_value(c, w, b),
+        KIND_VAL => next_fact(c),
         KIND_COST => expect(
             c,
             b,
@@ -317,14 +332,47 @@ pub fn after_number(c: Ctrl, w: &[u8], b: u32) -> Ctrl
     }
 }
 
-// A byte that is no digit ends the run.
-pub fn close_run(c: Ctrl, b: u32, w: &mut [u8]) -> Ctrl
-    ensures { λ r. ⌜ mk r (left w) ≡ closed c (was w) b ⌝ }
+// The byte after a number or a dash. The end of a list is asked for here alone: called from one place, it is inlined, and the control stays in registers.
+pub fn after_part(c: Ctrl, w: &[u8], b: u32) -> Ctrl
+    ensures { λ r. ⌜ r ≡ afterPart c (was w) b ⌝ }
 {
-    let k = fault_of(c, w);
-    if goes_on(k) {
+    if list_over(c, b) {
+        list_end(c, w, b)
+    } else {
+        after_number(c, w, b)
+    }
+}
+
+// The fault of the digit run that ends here, if one does.
+pub fn run_fault(c: Ctrl, w: &[u8]) -> Halt
+    ensures { λ r. ⌜ r ≡ runFault c (was w) ⌝ }
+{
+    if c.spot.part == PART_NUMBER {
+        fault_of(c, w)
+    } else {
+        Halt::Going
+    }
+}
+
+// The number of that run is kept.
+pub fn keep_run(c: Ctrl, w: &mut [u8]) -> Ctrl
+    ensures { λ r. ⌜ mk r (left w) ≡ runKept c (was w) ⌝ }
+{
+    if c.spot.part == PART_NUMBER {
         store(c, w);
-        after_number(note(c), w, b)
+        note(c)
+    } else {
+        c
+    }
+}
+
+// A byte that is no digit ends the run, or what follows a dash.
+pub fn close_part(c: Ctrl, b: u32, w: &mut [u8]) -> Ctrl
+    ensures { λ r. ⌜ mk r (left w) ≡ partClosed c (was w) b ⌝ }
+{
+    let k = run_fault(c, w);
+    if goes_on(k) {
+        after_part(keep_run(c, w), w, b)
     } else {
         stop(c, k)
     }
@@ -354,16 +402,19 @@ pub fn dash_here(c: Ctrl, b: u32) -> bool
     nothing_read(c)
 }
 
-pub fn at_number(c: Ctrl, b: u32, w: &mut [u8]) -> Ctrl
-    ensures { λ r. ⌜ mk r (left w) ≡ atNumber c (was w) b ⌝ }
+// At a number or after a dash.
+pub fn in_value(c: Ctrl, b: u32, w: &mut [u8]) -> Ctrl
+    ensures { λ r. ⌜ mk r (left w) ≡ inValue c (was w) b ⌝ }
 {
-    if is_digit(b) {
-        return add_digit(c, digit_of(b));
+    if c.spot.part == PART_NUMBER {
+        if is_digit(b) {
+            return add_digit(c, digit_of(b));
+        }
+        if dash_here(c, b) {
+            return take_dash(c);
+        }
     }
-    if dash_here(c, b) {
-        return take_dash(c);
-    }
-    close_run(c, b, w)
+    close_part(c, b, w)
 }
 
 pub fn live_step(c: Ctrl, b: u32, w: &mut [u8]) -> Ctrl
@@ -372,11 +423,8 @@ pub fn live_step(c: Ctrl, b: u32, w: &mut [u8]) -> Ctrl
     if c.spot.part == PART_KEY {
         return in_key(c, b);
     }
-    if c.spot.part == PART_NUMBER {
-        return at_number(c, b, w);
-    }
-    if c.spot.part == PART_AFTER_DASH {
-        return list_end(c, w, b);
+    if c.spot.part <= PART_AFTER_DASH {
+        return in_value(c, b, w);
     }
     expect(c, b, DASH, take_dash(c))
 }
@@ -402,12 +450,12 @@ pub fn feed_piece(c: Ctrl, s: &[u8], w: &mut [u8]) -> Ctrl
     k
 }
 
-// The end of the text: where not all lines were read it is as a byte that fits nowhere.
+// The end of the text: where not all lines were read it is as a byte that fits nowhere. It goes by a piece of one byte, so that `step_byte` is called from one place.
 pub fn end_text(c: Ctrl, w: &mut [u8]) -> Ctrl
     ensures { λ r. ⌜ mk r (left w) ≡ ended (mk c (was w)) ⌝ }
 {
     if c.spot.field == FIELD_END {
         return c;
     }
-    step_byte(c, NO_BYTE, w)
+    feed_piece(c, b"\xff", w)
 }
