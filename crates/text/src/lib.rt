@@ -4,6 +4,7 @@ ghost use Rattle.grammar.specs.Fields.{leaves};
 ghost use Rattle.grammar.specs.Grammar.{readText};
 ghost use Rattle.tables.specs.Task.{was, left};
 
+mod ahead;
 mod area;
 mod control;
 mod end;

@@ -35,6 +35,8 @@ use crate::Ctrl;
 use crate::Halt;
 use crate::Seen;
 use crate::Turn;
+use crate::ahead::items_ahead;
+use crate::ahead::number_due;
 use crate::area::word;
 use crate::control::FIRST_TURN;
 use crate::control::NONE_SEEN;
@@ -437,13 +439,20 @@ pub fn step_byte(c: Ctrl, b: u32, w: &mut [u8]) -> Ctrl
     if goes_on(k) { live_step(c, b, w) } else { c }
 }
 
-// A piece of the text.
+// A piece of the text: a byte at a time, after what can be read ahead.
 pub fn feed_piece(c: Ctrl, s: &[u8], w: &mut [u8]) -> Ctrl
     ensures { λ r. ⌜ mk r (left w) ≡ feed (mk c (was w)) (was s) ⌝ }
 {
     let mut k = c;
     let mut i = 0;
     while i < s.len() {
+        if number_due(k) {
+            let n = items_ahead(k, s, i, w);
+            let turn = n.turn;
+            let seen = n.seen;
+            k = await_number(k, k.spot.field, turn, seen);
+            i = n.at;
+        }
         k = step_byte(k, word(s[i]), w);
         i += 1;
     }

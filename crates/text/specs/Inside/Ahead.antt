@@ -1,0 +1,57 @@
+-- Numbers read ahead: what has to stand in a piece for that, and that the machine goes on after them as it would have gone on before them.
+use Prim.Native.Nat.{ℕ, _+_, _-_, _≤_, _<_}
+use mathlib.Core.Path.{_≡_}
+use mathlib.Core.List.{List}
+use mathlib.Core.Bool.{cond}
+use lib.ListN.{length, getD, drop}
+use lib.Dec.{eqb}
+use Rattle.tables.specs.Layout.{goalPlace, prePlace, effPlace}
+use Rattle.grammar.specs.Fields.{isDigit, comma, colon}
+use Rattle.text.specs.declared.Ctrl.{Ctrl}
+use Rattle.text.specs.declared.Halt.the-variants.{Going}
+use Rattle.text.specs.Inside.Area.{domIn}
+use Rattle.text.specs.Inside.Control.{St, mk, turnOf, noneSeen, due, partNumber, runNone, fieldGoalVar, fieldPreVar, fieldEffVar}
+use Rattle.text.specs.Inside.Steps.{feed}
+
+-- the machine that stands in y before place j of s goes on as that which stands in x before place i; j is not the end
+pub record Onward (s : List ℕ) (x : St) (i : ℕ) (y : St) (j : ℕ) : Type 0 where
+  pub on : i ≤ j
+  pub within : j < length s
+  pub same : feed y (drop j s) ≡ feed x (drop i s)
+
+-- a number is due, and nothing of it is read
+pub record Due (c : Ctrl) : Type 0 where
+  pub halt : c .halt ≡ Going
+  pub part : c .spot .part ≡ partNumber
+  pub key : c .spot .key ≡ 0
+  pub run : c .digits .run ≡ runNone
+  pub val : c .digits .val ≡ 0
+
+-- no variable's classes are read
+pub record NoneSeen (c : Ctrl) : Type 0 where
+  pub var : c .turn .var ≡ 0
+  pub mask : c .seen .mask ≡ 0
+  pub prod : c .seen .prod ≡ 1
+
+-- the digit at a place, 10 where none stands
+unfoldable pub digitAt : List ℕ → ℕ → ℕ
+digitAt s i = cond (isDigit (getD s i 0)) (getD s i 0 - 48) 10
+
+-- ---- facts: a variable of the list is due, m or a later one; where its facts begin in the area, 0 for other fields
+abbrev pub dueVar : Ctrl → ℕ → Ctrl
+dueVar c m = due c (c .spot .field) (turnOf 0 m 0) noneSeen
+
+unfoldable pub factsPlace : ℕ → ℕ → ℕ
+factsPlace f o =
+    cond (eqb f fieldGoalVar) (goalPlace 0) (cond (eqb f fieldPreVar) (prePlace o 0) (cond (eqb f fieldEffVar) (effPlace o 0) 0))
+
+-- a fact of one digit each, in range and order, its comma, and a byte more
+pub record FactHere (s : List ℕ) (i : ℕ) (w : List ℕ) (vars least : ℕ) : Type 0 where
+  pub room : i + 5 ≤ length s
+  pub var : digitAt s i < 10
+  pub colon : getD s (i + 1) 0 ≡ colon
+  pub value : digitAt s (i + 2) < 10
+  pub comma : getD s (i + 3) 0 ≡ comma
+  pub known : digitAt s i < vars
+  pub rising : least ≤ digitAt s i
+  pub fits : digitAt s (i + 2) < domIn w (digitAt s i)
