@@ -6,31 +6,53 @@ ghost use Prim.Native.Nat.{_≤_, _<_};
 ghost use lib.ListN.{length, drop};
 ghost use Rattle.tables.specs.Task.{was, left};
 ghost use Rattle.text.specs.declared.Ctrl.{Ctrl};
-ghost use Rattle.text.specs.Inside.Ahead.{Onward, Due, NoneSeen, digitAt, dueVar, factsPlace, FactHere};
-ghost use Rattle.text.specs.Inside.Control.{mk, due};
+ghost use Rattle.text.specs.Inside.Ahead.{
+  Onward,
+  Due,
+  NoneSeen,
+  digitAt,
+  dueVar,
+  factsPlace,
+  FactHere,
+  dueClass,
+  ClassHere,
+  dueShare,
+  DigitHere,
+  Longer,
+  Numbered,
+  ShareHere,
+};
+ghost use Rattle.text.specs.Inside.Control.{mk, due, fieldClass, fieldShare};
 ghost use Rattle.text.specs.Inside.Steps.{feed};
 use crate::Ctrl;
 use crate::Seen;
 use crate::Turn;
 use crate::area::put_byte;
+use crate::area::put_word;
 use crate::area::values_of;
 use crate::area::wide;
 use crate::area::word;
 use crate::control::NONE_SEEN;
 use crate::control::goes_on;
 use crate::control::one_more;
+use crate::mask::add_class;
 use crate::names::COLON;
 use crate::names::COMMA;
+use crate::names::FIELD_CLASS;
 use crate::names::FIELD_EFF_VAR;
 use crate::names::FIELD_GOAL_VAR;
 use crate::names::FIELD_PRE_VAR;
+use crate::names::FIELD_SHARE;
 use crate::names::PART_NUMBER;
 use crate::names::RUN_NONE;
 use crate::names::digit_of;
 use crate::names::is_digit;
+use crate::places::class_place;
 use crate::places::eff_place;
 use crate::places::goal_place;
 use crate::places::pre_place;
+use crate::places::share_byte;
+use meaning::limits::COST_MOST;
 
 // No digit: above all digits.
 const NO_DIGIT: u32 = 10;
@@ -42,10 +64,17 @@ pub struct Ahead {
     pub seen: Seen,
 }
 
-// How far the items of a loop reach, and the next of them.
+// How far the items of a loop reach, the next of them, and the classes seen.
 pub struct Items {
     pub at: usize,
     pub next: u32,
+    pub mask: u32,
+}
+
+// Where the digits of a number end, and their value.
+pub struct Run {
+    pub at: usize,
+    pub val: u32,
 }
 
 pub fn number_due(c: Ctrl) -> bool
@@ -154,7 +183,11 @@ pub fn facts_ahead(s: &[u8], i: usize, w: &mut [u8], place: usize, vars: u32, le
         next = one_more(v);
         at += 4;
     }
-    Items { at: at, next: next }
+    Items {
+        at: at,
+        next: next,
+        mask: 0,
+    }
 }
 
 pub fn facts_due(c: Ctrl, s: &[u8], i: usize, w: &mut [u8]) -> Ahead
@@ -180,14 +213,193 @@ pub fn facts_due(c: Ctrl, s: &[u8], i: usize, w: &mut [u8]) -> Ahead
     }
 }
 
+pub fn class_here(s: &[u8], i: usize, values: u32, item: u32) -> bool
+    requires { ⌜ i < length (now s) ⌝ }
+    ensures { λ r. ⌜ (r ≡ true → ClassHere (was s) i values item) ⌝ }
+{
+    if s.len() - i < 3 {
+        return false;
+    }
+    let x = digit_at(s, i);
+    if NO_DIGIT <= x {
+        return false;
+    }
+    if word(s[i + 1]) != COMMA {
+        return false;
+    }
+    if values <= x {
+        return false;
+    }
+    one_more(item) < values
+}
+
+// The classes of a variable from that of value `item` on, after those of the mask `seen`.
+pub fn classes_ahead(
+    s: &[u8],
+    i: usize,
+    w: &mut [u8],
+    row: u32,
+    var: u32,
+    item: u32,
+    seen: u32,
+) -> Items
+    requires { ⌜ i < length (now s) ⌝ }
+    ensures { λ r. ⌜ ((c : Ctrl) → c .spot .row ≡ row → c .turn .var ≡ var → Onward (was s) (mk (dueClass c item seen) (was w)) i (mk (dueClass c (r .next) (r .mask)) (left w)) (r .at)) ⌝ }
+{
+    let mut at = i;
+    let mut next = item;
+    let mut mask = seen;
+    while class_here(s, at, values_of(w, var), next) {
+        let x = digit_at(s, at);
+        put_byte(w, class_place(row, var, next), x);
+        mask = add_class(mask, x);
+        next = one_more(next);
+        at += 2;
+    }
+    Items {
+        at: at,
+        next: next,
+        mask: mask,
+    }
+}
+
+pub fn classes_due(c: Ctrl, s: &[u8], i: usize, w: &mut [u8]) -> Ahead
+    requires { ⌜ Due c × (c .spot .field ≡ fieldClass) × (i < length (now s)) ⌝ }
+    ensures { λ r. ⌜ Onward (was s) (mk c (was w)) i (mk (due c (c .spot .field) (r .turn) (r .seen)) (left w)) (r .at) ⌝ }
+{
+    if c.turn.least != 0 {
+        return stay(c, i);
+    }
+    let n = classes_ahead(s, i, w, c.spot.row, c.turn.var, c.turn.item, c.seen.mask);
+    Ahead {
+        at: n.at,
+        turn: Turn {
+            var: c.turn.var,
+            least: 0,
+            item: n.next,
+        },
+        seen: Seen {
+            mask: n.mask,
+            prod: c.seen.prod,
+        },
+    }
+}
+
+pub fn digit_here(s: &[u8], i: usize, v: u32) -> bool
+    ensures { λ r. ⌜ (r ≡ true → DigitHere (was s) i v) ⌝ }
+{
+    if s.len() <= i {
+        return false;
+    }
+    if COST_MOST < v {
+        return false;
+    }
+    digit_at(s, i) < NO_DIGIT
+}
+
+// The digits from i on, after one that is no 0 and whose value is v; past every range they need not be read to their end.
+pub fn longer_from(s: &[u8], i: usize, v: u32) -> Run
+    requires { ⌜ i ≤ length (now s) ⌝ }
+    ensures { λ r. ⌜ Longer (was s) i v (r .at) (r .val) ⌝ }
+{
+    let mut at = i;
+    let mut val = v;
+    while digit_here(s, at, val) {
+        val = 10 * val + digit_at(s, at);
+        at += 1;
+    }
+    Run { at: at, val: val }
+}
+
+pub fn number_from(s: &[u8], i: usize) -> Run
+    requires { ⌜ i < length (now s) ⌝ }
+    ensures { λ r. ⌜ Numbered (was s) i (r .at) (r .val) ⌝ }
+{
+    let d = digit_at(s, i);
+    if NO_DIGIT <= d {
+        return Run { at: i, val: 0 };
+    }
+    if d == 0 {
+        Run { at: i + 1, val: 0 }
+    } else {
+        longer_from(s, i + 1, d)
+    }
+}
+
+pub fn share_here(s: &[u8], i: usize, r: Run, item: u32, ops: u32) -> bool
+    requires { ⌜ Numbered (now s) i (r .at) (r .val) ⌝ }
+    ensures { λ a. ⌜ (a ≡ true → ShareHere (was s) i (r .at) (r .val) item ops) ⌝ }
+{
+    let j = r.at;
+    if j == i {
+        return false;
+    }
+    if s.len() - j < 2 {
+        return false;
+    }
+    if word(s[j]) != COMMA {
+        return false;
+    }
+    if COST_MOST < r.val {
+        return false;
+    }
+    one_more(item) < ops
+}
+
+// The shares of a row from that of operator `item` on.
+pub fn shares_ahead(s: &[u8], i: usize, w: &mut [u8], row: u32, ops: u32, item: u32) -> Items
+    requires { ⌜ i < length (now s) ⌝ }
+    ensures { λ r. ⌜ ((c : Ctrl) → c .spot .row ≡ row → c .counts .ops ≡ ops → Onward (was s) (mk (dueShare c item) (was w)) i (mk (dueShare c (r .next)) (left w)) (r .at)) ⌝ }
+{
+    let mut at = i;
+    let mut next = item;
+    let mut r = number_from(s, i);
+    while share_here(s, at, r, next, ops) {
+        put_word(w, share_byte(row, next), r.val);
+        next = one_more(next);
+        at = r.at + 1;
+        r = number_from(s, at);
+    }
+    Items {
+        at: at,
+        next: next,
+        mask: 0,
+    }
+}
+
+pub fn shares_due(c: Ctrl, s: &[u8], i: usize, w: &mut [u8]) -> Ahead
+    requires { ⌜ Due c × NoneSeen c × (c .spot .field ≡ fieldShare) × (i < length (now s)) ⌝ }
+    ensures { λ r. ⌜ Onward (was s) (mk c (was w)) i (mk (due c (c .spot .field) (r .turn) (r .seen)) (left w)) (r .at) ⌝ }
+{
+    if c.turn.least != 0 {
+        return stay(c, i);
+    }
+    let n = shares_ahead(s, i, w, c.spot.row, c.counts.ops, c.turn.item);
+    Ahead {
+        at: n.at,
+        turn: Turn {
+            var: 0,
+            least: 0,
+            item: n.next,
+        },
+        seen: NONE_SEEN,
+    }
+}
+
 // What can be read ahead where a number is due.
 pub fn items_ahead(c: Ctrl, s: &[u8], i: usize, w: &mut [u8]) -> Ahead
     requires { ⌜ Due c × (i < length (now s)) ⌝ }
     ensures { λ r. ⌜ Onward (was s) (mk c (was w)) i (mk (due c (c .spot .field) (r .turn) (r .seen)) (left w)) (r .at) ⌝ }
 {
-    if none_seen(c) {
-        facts_due(c, s, i, w)
+    if c.spot.field == FIELD_CLASS {
+        return classes_due(c, s, i, w);
+    }
+    if !none_seen(c) {
+        return stay(c, i);
+    }
+    if c.spot.field == FIELD_SHARE {
+        shares_due(c, s, i, w)
     } else {
-        stay(c, i)
+        facts_due(c, s, i, w)
     }
 }

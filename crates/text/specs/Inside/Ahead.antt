@@ -5,12 +5,31 @@ use mathlib.Core.List.{List}
 use mathlib.Core.Bool.{cond}
 use lib.ListN.{length, getD, drop}
 use lib.Dec.{eqb}
+use Rattle.meaning.specs.Limits.{mostCost}
 use Rattle.tables.specs.Layout.{goalPlace, prePlace, effPlace}
 use Rattle.grammar.specs.Fields.{isDigit, comma, colon}
 use Rattle.text.specs.declared.Ctrl.{Ctrl}
 use Rattle.text.specs.declared.Halt.the-variants.{Going}
 use Rattle.text.specs.Inside.Area.{domIn}
-use Rattle.text.specs.Inside.Control.{St, mk, turnOf, noneSeen, due, partNumber, runNone, fieldGoalVar, fieldPreVar, fieldEffVar}
+use Rattle.text.specs.Inside.Control.{
+  St,
+  mk,
+  up,
+  turnOf,
+  seenOf,
+  noneSeen,
+  due,
+  withDigit,
+  partNumber,
+  runNone,
+  runZero,
+  runOn,
+  fieldGoalVar,
+  fieldPreVar,
+  fieldEffVar,
+  fieldClass,
+  fieldShare,
+}
 use Rattle.text.specs.Inside.Steps.{feed}
 
 -- the machine that stands in y before place j of s goes on as that which stands in x before place i; j is not the end
@@ -55,3 +74,49 @@ pub record FactHere (s : List ℕ) (i : ℕ) (w : List ℕ) (vars least : ℕ) :
   pub known : digitAt s i < vars
   pub rising : least ≤ digitAt s i
   pub fits : digitAt s (i + 2) < domIn w (digitAt s i)
+
+-- ---- classes: that of the variable's value i is due, with the mask m
+abbrev pub dueClass : Ctrl → ℕ → ℕ → Ctrl
+dueClass c i m = due c fieldClass (turnOf (c .turn .var) 0 i) (seenOf m (c .seen .prod))
+
+-- a class of one digit, in range and not the variable's last, its comma, and a byte more
+pub record ClassHere (s : List ℕ) (i values item : ℕ) : Type 0 where
+  pub room : i + 3 ≤ length s
+  pub class : digitAt s i < 10
+  pub comma : getD s (i + 1) 0 ≡ comma
+  pub fits : digitAt s i < values
+  pub more : up item < values
+
+-- ---- shares: that of operator i is due
+abbrev pub dueShare : Ctrl → ℕ → Ctrl
+dueShare c i = due c fieldShare (turnOf 0 0 i) noneSeen
+
+-- a digit stands at i, and a value u leaves room for it
+pub record DigitHere (s : List ℕ) (i u : ℕ) : Type 0 where
+  pub room : i < length s
+  pub low : u ≤ mostCost
+  pub digit : digitAt s i < 10
+
+-- the digits from i to j make v of u, where no leading zero was read
+pub record Longer (s : List ℕ) (i u j v : ℕ) : Type 0 where
+  pub on : i ≤ j
+  pub within : j ≤ length s
+  pub grows : u ≤ v
+  pub same : (c : Ctrl) (w : List ℕ) → feed (mk (withDigit c runOn v) w) (drop j s) ≡ feed (mk (withDigit c runOn u) w) (drop i s)
+
+-- a number from i to j, if j is not i, whose value is v
+abbrev pub runOf : ℕ → ℕ
+runOf v = cond (eqb v 0) runZero runOn
+
+pub record Numbered (s : List ℕ) (i j v : ℕ) : Type 0 where
+  pub on : i ≤ j
+  pub within : j ≤ length s
+  pub same : i < j → (c : Ctrl) (w : List ℕ) → feed (mk (withDigit c (runOf v) v) w) (drop j s) ≡ feed (mk (withDigit c 0 0) w) (drop i s)
+
+-- it is a share and not the row's last, with its comma and a byte more
+pub record ShareHere (s : List ℕ) (i j v item ops : ℕ) : Type 0 where
+  pub some : i < j
+  pub room : j + 2 ≤ length s
+  pub comma : getD s j 0 ≡ comma
+  pub fits : v ≤ mostCost
+  pub more : up item < ops

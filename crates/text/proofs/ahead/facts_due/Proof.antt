@@ -1,5 +1,5 @@
 -- `text::ahead::facts_due` meets its contract: where a list's variable is due the control is that of the loop. Assumes nothing.
-use Rattle.text.proofs.Onward.{stays, list-due}
+use Rattle.text.proofs.Onward.{stays, as-due, list-due}
 use Rattle.text.specs.Inside.Control.{due}
 use borrow.Author.Needs.{needs}
 use mathlib.Core.Path.{_∙_, refl}
@@ -13,7 +13,7 @@ returns-3 c =
     let placed = read .before .before .before .before .before in
     let start = placed .before .before .before in
     let place = placed .facts-place .ensures .0 in
-    rw (← list-due _ (start .pre .0) (start .pre .1) (read .before .before .if2 .left))
+    as-due (list-due _ (start .pre .0) (start .pre .1) (read .before .before .if2 .left)) refl
     (read .facts-ahead .ensures (start .args .c) (λ z. read .before .before .before .before .if1 .left (place ∙ z)) place refl)
 
 pub facts-due-spec : {M : Type 1} → statement M
