@@ -36,7 +36,30 @@ use Rattle.text.specs.Inside.Ahead.{
   ShareHere,
 }
 use Rattle.text.specs.Inside.Area.{putByte, putWord, shareByte, domIn}
-use Rattle.text.specs.Inside.Control.{St, mk, going, up, partNumber, runNone, spotAt, digitsOf, turnOf, seenOf, noneSeen, due, withDigit, fieldClass, fieldGoalVar, fieldGoalVal, fieldPreVar, fieldPreVal, fieldEffVar, fieldEffVal, fieldShare, runOn}
+use Rattle.text.specs.Inside.Control.{
+  St,
+  mk,
+  going,
+  up,
+  partNumber,
+  runNone,
+  runOn,
+  spotAt,
+  digitsOf,
+  turnOf,
+  seenOf,
+  noneSeen,
+  due,
+  withDigit,
+  fieldClass,
+  fieldGoalVar,
+  fieldGoalVal,
+  fieldPreVar,
+  fieldPreVal,
+  fieldEffVar,
+  fieldEffVal,
+  fieldShare,
+}
 use Rattle.text.specs.Inside.Fields.{leasts, limit, withClass, countsWith, seenWith, noted, lastClass, before, fault, stored, kind}
 use Rattle.text.specs.Inside.Steps.{more, runWith, mark, afterClass, afterValue, afterShare, afterNumber, byteRead, feed}
 use Rattle.grammar.proofs.Runs.{clash, other}
@@ -96,7 +119,8 @@ share-due c d n e f =
 
 pub class-due : (c : Ctrl) → Due c → c .turn .least ≡ 0 → c .spot .field ≡ fieldClass → dueClass c (c .turn .item) (c .seen .mask) ≡ c
 class-due c d e f =
-    ap (λ (x : ℕ). due c x (turnOf (c .turn .var) 0 (c .turn .item)) (c .seen)) (sym f) ∙ ap (λ (m : ℕ). due c (c .spot .field) (turnOf (c .turn .var) m (c .turn .item)) (c .seen)) (sym e) ∙ due-same c d
+    ap (λ (x : ℕ). due c x (turnOf (c .turn .var) 0 (c .turn .item)) (c .seen)) (sym f)
+    ∙ ap (λ (m : ℕ). due c (c .spot .field) (turnOf (c .turn .var) m (c .turn .item)) (c .seen)) (sym e) ∙ due-same c d
 
 -- ---- bytes
 module _ (s : List ℕ) where
@@ -217,7 +241,8 @@ class-next l v i r m p n z x w h =
     rw (e, ne-eqb (up i) (domIn w v) (λ q. omega arith))
 
 pub class-ahead : (c : Ctrl) (i item m : ℕ) (s w : List ℕ) → ClassHere s i (domIn w (c .turn .var)) item
-    → feed (mk (dueClass c (up item) (withClass m (digitAt s i))) (putByte w (classPlace (c .spot .row) (c .turn .var) item) (digitAt s i))) (drop (i + 2) s) ≡ feed (mk (dueClass c item m) w) (drop i s)
+    → feed (mk (dueClass c (up item) (withClass m (digitAt s i))) (putByte w (classPlace (c .spot .row) (c .turn .var) item) (digitAt s i))) (drop (i + 2) s)
+    ≡ feed (mk (dueClass c item m) w) (drop i s)
 unfolding due withDigit isDigit
 class-ahead c i item m s w h =
     let x = digitAt s i in
@@ -233,7 +258,8 @@ more-plain : (u d : ℕ) → u ≤ mostCost → d < 10 → more u d ≡ 10 * u +
 unfolding more
 more-plain u d h g = omega arith
 
-pub digit-more : (s : List ℕ) (i u : ℕ) → DigitHere s i u → (c : Ctrl) (w : List ℕ) → feed (mk (withDigit c runOn (10 * u + digitAt s i)) w) (drop (i + 1) s) ≡ feed (mk (withDigit c runOn u) w) (drop i s)
+pub digit-more : (s : List ℕ) (i u : ℕ) → DigitHere s i u → (c : Ctrl) (w : List ℕ)
+    → feed (mk (withDigit c runOn (10 * u + digitAt s i)) w) (drop (i + 1) s) ≡ feed (mk (withDigit c runOn u) w) (drop i s)
 digit-more s i u h c w =
     let q = digit-there s i (h .digit) in
     one-byte s _ _ i (i + 1) (h .room) refl

@@ -2,28 +2,11 @@
 // words; what is in doubt, a fault or the last of a list, is left to the step of one byte.
 ghost use mathlib.Core.Bool.{true};
 ghost use mathlib.Core.Path.{_≡_};
-ghost use Prim.Native.Nat.{_≤_, _<_};
-ghost use lib.ListN.{length, drop};
+ghost use Prim.Native.Nat.{_<_};
+ghost use lib.ListN.{length};
 ghost use Rattle.tables.specs.Task.{was, left};
-ghost use Rattle.text.specs.declared.Ctrl.{Ctrl};
-ghost use Rattle.text.specs.Inside.Ahead.{
-  Onward,
-  Due,
-  NoneSeen,
-  digitAt,
-  dueVar,
-  factsPlace,
-  FactHere,
-  dueClass,
-  ClassHere,
-  dueShare,
-  DigitHere,
-  Longer,
-  Numbered,
-  ShareHere,
-};
+ghost use Rattle.text.specs.Inside.Ahead.{Onward, Due, NoneSeen, factsPlace, FactsRead, FactHere, ClassesRead, ClassHere, SharesRead, Numbered, ShareHere};
 ghost use Rattle.text.specs.Inside.Control.{mk, due, fieldClass, fieldShare};
-ghost use Rattle.text.specs.Inside.Steps.{feed};
 use crate::Ctrl;
 use crate::Seen;
 use crate::Turn;
@@ -45,17 +28,16 @@ use crate::names::FIELD_PRE_VAR;
 use crate::names::FIELD_SHARE;
 use crate::names::PART_NUMBER;
 use crate::names::RUN_NONE;
-use crate::names::digit_of;
-use crate::names::is_digit;
+use crate::numbers::NO_DIGIT;
+use crate::numbers::Run;
+use crate::numbers::digit_at;
+use crate::numbers::number_from;
 use crate::places::class_place;
 use crate::places::eff_place;
 use crate::places::goal_place;
 use crate::places::pre_place;
 use crate::places::share_byte;
 use meaning::limits::COST_MOST;
-
-// No digit: above all digits.
-const NO_DIGIT: u32 = 10;
 
 // How far was read ahead, and whose number is due there.
 pub struct Ahead {
@@ -71,12 +53,7 @@ pub struct Items {
     pub mask: u32,
 }
 
-// Where the digits of a number end, and their value.
-pub struct Run {
-    pub at: usize,
-    pub val: u32,
-}
-
+// A number is due, and nothing of it is read.
 pub fn number_due(c: Ctrl) -> bool
     ensures { λ r. ⌜ (r ≡ true → Due c) ⌝ }
 {
@@ -96,6 +73,7 @@ pub fn number_due(c: Ctrl) -> bool
     c.spot.key == 0
 }
 
+// No variable's classes are read.
 pub fn none_seen(c: Ctrl) -> bool
     ensures { λ r. ⌜ (r ≡ true → NoneSeen c) ⌝ }
 {
@@ -121,14 +99,7 @@ pub fn stay(c: Ctrl, i: usize) -> Ahead
     }
 }
 
-pub fn digit_at(s: &[u8], i: usize) -> u32
-    requires { ⌜ i < length (now s) ⌝ }
-    ensures { λ r. ⌜ r ≡ digitAt (was s) i ⌝ }
-{
-    let b = word(s[i]);
-    if is_digit(b) { digit_of(b) } else { NO_DIGIT }
-}
-
+// Where the facts of a list begin in the area, by the field of its variables; 0 for all other fields.
 pub fn facts_place(f: u32, o: u32) -> usize
     ensures { λ r. ⌜ (r ≡ factsPlace f o) × (r < 1099511627776) ⌝ }
 {
@@ -140,6 +111,7 @@ pub fn facts_place(f: u32, o: u32) -> usize
     }
 }
 
+// A fact of one digit each, in range and order, its comma, and a byte more.
 pub fn fact_here(s: &[u8], i: usize, w: &[u8], vars: u32, least: u32) -> bool
     requires { ⌜ i < length (now s) ⌝ }
     ensures { λ r. ⌜ (r ≡ true → FactHere (was s) i (was w) vars least) ⌝ }
@@ -170,10 +142,11 @@ pub fn fact_here(s: &[u8], i: usize, w: &[u8], vars: u32, least: u32) -> bool
     x < values_of(w, v)
 }
 
-// The facts of a list from i on, the first of them of a variable from `least` on.
+// The facts of a list from i on, the first of them of a variable from `least` on. Here and below the loop has words of its own, and not the control: so they
+// stay in registers.
 pub fn facts_ahead(s: &[u8], i: usize, w: &mut [u8], place: usize, vars: u32, least: u32) -> Items
     requires { ⌜ (i < length (now s)) × (place < 1099511627776) ⌝ }
-    ensures { λ r. ⌜ ((c : Ctrl) → (factsPlace (c .spot .field) (c .spot .row) ≡ 0 → ⊥) → place ≡ factsPlace (c .spot .field) (c .spot .row) → c .counts .vars ≡ vars → Onward (was s) (mk (dueVar c least) (was w)) i (mk (dueVar c (r .next)) (left w)) (r .at)) ⌝ }
+    ensures { λ r. ⌜ FactsRead (was s) place vars i least (was w) (r .at) (r .next) (left w) ⌝ }
 {
     let mut at = i;
     let mut next = least;
@@ -213,6 +186,7 @@ pub fn facts_due(c: Ctrl, s: &[u8], i: usize, w: &mut [u8]) -> Ahead
     }
 }
 
+// A class of one digit, in range and not its variable's last, its comma, and a byte more.
 pub fn class_here(s: &[u8], i: usize, values: u32, item: u32) -> bool
     requires { ⌜ i < length (now s) ⌝ }
     ensures { λ r. ⌜ (r ≡ true → ClassHere (was s) i values item) ⌝ }
@@ -244,7 +218,7 @@ pub fn classes_ahead(
     seen: u32,
 ) -> Items
     requires { ⌜ i < length (now s) ⌝ }
-    ensures { λ r. ⌜ ((c : Ctrl) → c .spot .row ≡ row → c .turn .var ≡ var → Onward (was s) (mk (dueClass c item seen) (was w)) i (mk (dueClass c (r .next) (r .mask)) (left w)) (r .at)) ⌝ }
+    ensures { λ r. ⌜ ClassesRead (was s) row var i item seen (was w) (r .at) (r .next) (r .mask) (left w) ⌝ }
 {
     let mut at = i;
     let mut next = item;
@@ -285,47 +259,7 @@ pub fn classes_due(c: Ctrl, s: &[u8], i: usize, w: &mut [u8]) -> Ahead
     }
 }
 
-pub fn digit_here(s: &[u8], i: usize, v: u32) -> bool
-    ensures { λ r. ⌜ (r ≡ true → DigitHere (was s) i v) ⌝ }
-{
-    if s.len() <= i {
-        return false;
-    }
-    if COST_MOST < v {
-        return false;
-    }
-    digit_at(s, i) < NO_DIGIT
-}
-
-// The digits from i on, after one that is no 0 and whose value is v; past every range they need not be read to their end.
-pub fn longer_from(s: &[u8], i: usize, v: u32) -> Run
-    requires { ⌜ i ≤ length (now s) ⌝ }
-    ensures { λ r. ⌜ Longer (was s) i v (r .at) (r .val) ⌝ }
-{
-    let mut at = i;
-    let mut val = v;
-    while digit_here(s, at, val) {
-        val = 10 * val + digit_at(s, at);
-        at += 1;
-    }
-    Run { at: at, val: val }
-}
-
-pub fn number_from(s: &[u8], i: usize) -> Run
-    requires { ⌜ i < length (now s) ⌝ }
-    ensures { λ r. ⌜ Numbered (was s) i (r .at) (r .val) ⌝ }
-{
-    let d = digit_at(s, i);
-    if NO_DIGIT <= d {
-        return Run { at: i, val: 0 };
-    }
-    if d == 0 {
-        Run { at: i + 1, val: 0 }
-    } else {
-        longer_from(s, i + 1, d)
-    }
-}
-
+// The number from i on is a share and not its row's last, with its comma and a byte more.
 pub fn share_here(s: &[u8], i: usize, r: Run, item: u32, ops: u32) -> bool
     requires { ⌜ Numbered (now s) i (r .at) (r .val) ⌝ }
     ensures { λ a. ⌜ (a ≡ true → ShareHere (was s) i (r .at) (r .val) item ops) ⌝ }
@@ -349,7 +283,7 @@ pub fn share_here(s: &[u8], i: usize, r: Run, item: u32, ops: u32) -> bool
 // The shares of a row from that of operator `item` on.
 pub fn shares_ahead(s: &[u8], i: usize, w: &mut [u8], row: u32, ops: u32, item: u32) -> Items
     requires { ⌜ i < length (now s) ⌝ }
-    ensures { λ r. ⌜ ((c : Ctrl) → c .spot .row ≡ row → c .counts .ops ≡ ops → Onward (was s) (mk (dueShare c item) (was w)) i (mk (dueShare c (r .next)) (left w)) (r .at)) ⌝ }
+    ensures { λ r. ⌜ SharesRead (was s) row ops i item (was w) (r .at) (r .next) (left w) ⌝ }
 {
     let mut at = i;
     let mut next = item;

@@ -4,6 +4,7 @@ ghost use Rattle.grammar.specs.Fields.{leaves};
 ghost use Rattle.grammar.specs.Grammar.{readText};
 ghost use Rattle.tables.specs.Task.{was, left};
 
+mod after;
 mod ahead;
 mod area;
 mod control;
@@ -12,6 +13,7 @@ mod fields;
 mod fill;
 mod mask;
 mod names;
+mod numbers;
 mod places;
 mod step;
 mod whole;

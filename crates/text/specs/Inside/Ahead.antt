@@ -64,6 +64,12 @@ unfoldable pub factsPlace : ℕ → ℕ → ℕ
 factsPlace f o =
     cond (eqb f fieldGoalVar) (goalPlace 0) (cond (eqb f fieldPreVar) (prePlace o 0) (cond (eqb f fieldEffVar) (effPlace o 0) 0))
 
+-- facts were read from i to j, whatever the control of the list: of a variable from `least` on first, from `next` on then
+abbrev pub FactsRead : List ℕ → ℕ → ℕ → ℕ → ℕ → List ℕ → ℕ → ℕ → List ℕ → Type 0
+FactsRead s place vars i least w j next u =
+    (c : Ctrl) → (factsPlace (c .spot .field) (c .spot .row) ≡ 0 → ⊥) → place ≡ factsPlace (c .spot .field) (c .spot .row) → c .counts .vars ≡ vars
+    → Onward s (mk (dueVar c least) w) i (mk (dueVar c next) u) j
+
 -- a fact of one digit each, in range and order, its comma, and a byte more
 pub record FactHere (s : List ℕ) (i : ℕ) (w : List ℕ) (vars least : ℕ) : Type 0 where
   pub room : i + 5 ≤ length s
@@ -79,6 +85,11 @@ pub record FactHere (s : List ℕ) (i : ℕ) (w : List ℕ) (vars least : ℕ) :
 abbrev pub dueClass : Ctrl → ℕ → ℕ → Ctrl
 dueClass c i m = due c fieldClass (turnOf (c .turn .var) 0 i) (seenOf m (c .seen .prod))
 
+-- classes were read from i to j, whatever the control of the variable in that row
+abbrev pub ClassesRead : List ℕ → ℕ → ℕ → ℕ → ℕ → ℕ → List ℕ → ℕ → ℕ → ℕ → List ℕ → Type 0
+ClassesRead s row var i item seen w j next mask u =
+    (c : Ctrl) → c .spot .row ≡ row → c .turn .var ≡ var → Onward s (mk (dueClass c item seen) w) i (mk (dueClass c next mask) u) j
+
 -- a class of one digit, in range and not the variable's last, its comma, and a byte more
 pub record ClassHere (s : List ℕ) (i values item : ℕ) : Type 0 where
   pub room : i + 3 ≤ length s
@@ -90,6 +101,10 @@ pub record ClassHere (s : List ℕ) (i values item : ℕ) : Type 0 where
 -- ---- shares: that of operator i is due
 abbrev pub dueShare : Ctrl → ℕ → Ctrl
 dueShare c i = due c fieldShare (turnOf 0 0 i) noneSeen
+
+-- shares were read from i to j, whatever the control of that row
+abbrev pub SharesRead : List ℕ → ℕ → ℕ → ℕ → ℕ → List ℕ → ℕ → ℕ → List ℕ → Type 0
+SharesRead s row ops i item w j next u = (c : Ctrl) → c .spot .row ≡ row → c .counts .ops ≡ ops → Onward s (mk (dueShare c item) w) i (mk (dueShare c next) u) j
 
 -- a digit stands at i, and a value u leaves room for it
 pub record DigitHere (s : List ℕ) (i u : ℕ) : Type 0 where

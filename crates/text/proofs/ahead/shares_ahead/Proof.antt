@@ -51,7 +51,10 @@ shares-ahead-spec =
     (λ c κs. search needs)
     (λ c. let if = c .before .before .before .before .before .before .before in omega (arith, if .before .share-here .ensures (if .if1 .taken) .room))
     (λ c κs. let if = c .before .before .before .before .before .before .before in omega (arith, if .before .share-here .ensures (if .if1 .taken) .room))
-    (λ c. let asked = c .before .before .before .before .before .before .before .before .before in let here = asked .share-here .ensures (c .before .before .before .before .before .before .before .before .if1 .taken) in omega (arith, here .some, here .room))
+    (λ c.
+    let test = c .before .before .before .before .before .before .before .before in
+    let here = test .before .share-here .ensures (test .if1 .taken) in
+    omega (arith, here .some, here .room))
     loop-again
     (λ c. c .before .before .loop .inv .2)
     (λ c. let run = c .before .before .loop in λ k o n. record { on = run .inv .0; within = run .inv .1; same = run .inv .4 k o n }))

@@ -24,7 +24,10 @@ returns-2 c =
 returns-3 : tie.Need-returns-3
 returns-3 c =
     c .before .before .close-part .ensures
-    ∙ ⊎-elim (λ w. value-closed _ _ _ (w .0 .taken) (sym (w .1 .ensures) ∙ w .2 .left) (sym (w .3 .ensures) ∙ w .4 .left)) (λ w. value-past _ _ _ (w .left)) (c .before .before .before .before .if1 .came)
+    ∙ ⊎-elim
+    (λ w. value-closed _ _ _ (w .0 .taken) (sym (w .1 .ensures) ∙ w .2 .left) (sym (w .3 .ensures) ∙ w .4 .left))
+    (λ w. value-past _ _ _ (w .left))
+    (c .before .before .before .before .if1 .came)
 
 pub in-value-spec : {M : Type 1} → statement M
 in-value-spec =
