@@ -59,7 +59,7 @@ more-zero : (d : ℕ) → d ≡ 0 → more 0 d ≡ 0
 unfolding more
 more-zero d e = omega arith
 
-run-two : (r d : ℕ) → (r + d ≡ 0 → ⊥) → runWith r d ≡ runOn
+pub run-two : (r d : ℕ) → (r + d ≡ 0 → ⊥) → runWith r d ≡ runOn
 run-two r d h = simp (ne-eqb (r + d) 0 h)
 
 run-one : (d : ℕ) → d ≡ 0 → runWith 0 d ≡ runZero
@@ -130,7 +130,7 @@ unfolding withDigit
 run-of c r v = refl
 
 module _ (c : Ctrl) (w : List ℕ) where
-  digit-step : (r v b : ℕ) → isDigit b ≡ true → (r ≡ 1 → ⊥)
+  pub digit-step : (r v b : ℕ) → isDigit b ≡ true → (r ≡ 1 → ⊥)
       → byteRead (mk (withDigit c r v) w) b ≡ mk (withDigit c (runWith r (b - 48)) (more v (b - 48))) w
   unfolding byteRead live atNumber digitRead withDigit
   digit-step r v b e h = simp (e, ne-eqb r 1 h)

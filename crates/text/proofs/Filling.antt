@@ -10,6 +10,7 @@ use lib.ListN.{length, getD, set, replicate, length-set, length-append, length-r
 use lib.Seq.{ext-getD, getD-set-same, getD-set-other, getD-append-add}
 use Rattle.grammar.specs.Fields.{filled}
 use Rattle.text.specs.Inside.Area.{wordIn, threes}
+use Rattle.text.specs.Inside.End.{FilledTo}
 
 -- past the numbers, a place of the zeros
 zero-at : (n i : ℕ) → i < n → getD {A = ℕ} (replicate n 0) i 0 ≡ 0
@@ -42,12 +43,7 @@ module _ (room : ℕ) (xs lent : List ℕ) (size : length xs ≡ room) where
           ∙ zero-at (length lent - room) (i - length xs) (omega arith)
           ∙ sym (List·getD-eq-default xs 0 p)
 
--- the loop that fills a table: its first i places hold what stands in xs
-pub record FilledTo (xs lent out : List ℕ) (i : ℕ) : Type 0 where
-  pub fits : i ≤ length lent
-  pub same : length out ≡ length lent
-  pub holds : (k : ℕ) → k < i → getD out k 0 ≡ getD xs k 0
-
+-- the loop that fills a table
 pub filled-none : (xs lent : List ℕ) → FilledTo xs lent lent 0
 filled-none xs lent = record { fits = omega arith; same = refl; holds = λ k h. let z : ⊥ = omega arith in absurd z }
 
@@ -63,6 +59,9 @@ fill-turn xs lent out i v done h e =
     go : (k : ℕ) → (k ≡ i) ⊎ (k < i) → getD (set out i v) k 0 ≡ getD xs k 0
     go k (inl q) = rw q (getD-set-same out i v 0 h ∙ e)
     go k (inr q) = getD-set-other out i k v 0 (λ z. let f : ⊥ = omega arith in f) ∙ done .holds k q
+
+pub filled-as-far : {xs lent out : List ℕ} {i j : ℕ} → FilledTo xs lent out i → i ≡ j → FilledTo xs lent out j
+filled-as-far done e = rw (← e) done
 
 -- all places are filled
 pub fill-end : (room : ℕ) (xs lent out : List ℕ) (i : ℕ) → length xs ≡ room → room ≤ length lent → FilledTo xs lent out i → length lent ≤ i

@@ -10,3 +10,5 @@ pub mod BridgeShares
 pub mod BridgeText
 pub mod Filling
 pub mod Laws
+pub mod Onward
+pub mod Parts

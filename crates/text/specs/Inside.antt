@@ -4,4 +4,5 @@ pub mod Area
 pub mod Control
 pub mod Fields
 pub mod Steps
+pub mod Ahead
 pub mod End

@@ -23,6 +23,7 @@ ghost use Rattle.text.specs.Inside.Fields.{
 use crate::Ctrl;
 use crate::Halt;
 use crate::Seen;
+use crate::area::byte_at;
 use crate::area::put_byte;
 use crate::area::put_word;
 use crate::area::values_of;
@@ -40,12 +41,16 @@ use crate::names::EDITION;
 use crate::names::FIELD_CLASS;
 use crate::names::FIELD_COST;
 use crate::names::FIELD_DOM;
+use crate::names::FIELD_EDITION;
 use crate::names::FIELD_EFF_VAL;
+use crate::names::FIELD_EFF_VAR;
 use crate::names::FIELD_GOAL_VAL;
+use crate::names::FIELD_GOAL_VAR;
 use crate::names::FIELD_INIT;
 use crate::names::FIELD_MAPS;
 use crate::names::FIELD_OPS;
 use crate::names::FIELD_PRE_VAL;
+use crate::names::FIELD_PRE_VAR;
 use crate::names::FIELD_SHARE;
 use crate::names::FIELD_VARS;
 use crate::names::KIND_CLASS;
@@ -71,81 +76,71 @@ use meaning::limits::VALUES_MOST;
 use meaning::limits::VARS_MOST;
 use tables::Counts;
 
-// The keyword of each field that begins a line, 8 bytes a field.
-const KEYS: [u8; 120] =
-    *b"edition=vars=   dom=    init=   goal=           ops=    op=                                     maps=   map=    share=  ";
+// Of these four, the first takes its bytes from a literal that is lent, and the others match: a constant array that is indexed is made anew each time.
 
-const LEASTS: [u32; 16] = [1, 1, 1, 0, 0, 0, 0, 0, 0, 0, 0, 0, 1, 0, 0, 0];
-
-// The first number beyond a field's range.
-const LIMITS: [u32; 16] = [
-    EDITION + 1,
-    VARS_MOST + 1,
-    VALUES_MOST + 1,
-    BY_VALUES,
-    BY_VARS,
-    BY_VALUES,
-    OPS_MOST + 1,
-    COST_MOST + 1,
-    BY_VARS,
-    BY_VALUES,
-    BY_VARS,
-    BY_VALUES,
-    MAPS_MOST + 1,
-    BY_VALUES,
-    COST_MOST + 1,
-    BY_VALUES,
-];
-
-const KINDS: [u32; 16] = [
-    KIND_LINE,
-    KIND_LINE,
-    KIND_ROW,
-    KIND_ROW,
-    KIND_VAR,
-    KIND_VAL,
-    KIND_LINE,
-    KIND_COST,
-    KIND_VAR,
-    KIND_VAL,
-    KIND_VAR,
-    KIND_VAL,
-    KIND_LINE,
-    KIND_CLASS,
-    KIND_SHARE,
-    KIND_LINE,
-];
-
+// The keywords of the fields that begin a line, 8 bytes a field.
 pub fn key_byte(f: u32, k: u32) -> u32
     ensures { λ r. ⌜ r ≡ keyByte f k ⌝ }
 {
     let i = wide(f) * 8 + wide(k);
-    if i < 120 { word(KEYS[i]) } else { 256 }
-}
-
-// A number of a table, 0 past its end.
-pub fn entry(t: &[u32], i: usize) -> u32
-    ensures { λ r. ⌜ r ≡ getD (was t) i 0 ⌝ }
-{
-    if i < t.len() { t[i] } else { 0 }
+    if i < 120 {
+        word(byte_at(
+            b"edition=vars=   dom=    init=   goal=           ops=    op=                                     maps=   map=    share=  ",
+            i,
+        ))
+    } else {
+        256
+    }
 }
 
 pub fn least_of(f: u32) -> u32
     ensures { λ r. ⌜ r ≡ getD leasts f 0 ⌝ }
 {
-    entry(&LEASTS, wide(f))
+    match f {
+        FIELD_EDITION => 1,
+        FIELD_VARS => 1,
+        FIELD_DOM => 1,
+        FIELD_MAPS => 1,
+        _ => 0,
+    }
 }
 
+// The first number beyond a field's range.
 pub fn bound_of(f: u32) -> u32
     ensures { λ r. ⌜ r ≡ getD limits f 0 ⌝ }
 {
-    entry(&LIMITS, wide(f))
+    match f {
+        FIELD_EDITION => EDITION + 1,
+        FIELD_VARS => VARS_MOST + 1,
+        FIELD_DOM => VALUES_MOST + 1,
+        FIELD_GOAL_VAR => BY_VARS,
+        FIELD_OPS => OPS_MOST + 1,
+        FIELD_COST => COST_MOST + 1,
+        FIELD_PRE_VAR => BY_VARS,
+        FIELD_EFF_VAR => BY_VARS,
+        FIELD_MAPS => MAPS_MOST + 1,
+        FIELD_SHARE => COST_MOST + 1,
+        _ => BY_VALUES,
+    }
 }
 
 pub fn kind_of(f: u32) -> u32
     ensures { λ r. ⌜ r ≡ kind f ⌝ }
 {
-    entry(&KINDS, wide(f))
+    match f {
+        FIELD_DOM => KIND_ROW,
+        FIELD_INIT => KIND_ROW,
+        FIELD_GOAL_VAR => KIND_VAR,
+        FIELD_GOAL_VAL => KIND_VAL,
+        FIELD_COST => KIND_COST,
+        FIELD_PRE_VAR => KIND_VAR,
+        FIELD_PRE_VAL => KIND_VAL,
+        FIELD_EFF_VAR => KIND_VAR,
+        FIELD_EFF_VAL => KIND_VAL,
+        FIELD_CLASS => KIND_CLASS,
+        FIELD_SHARE => KIND_SHARE,
+        _ => KIND_LINE,
+    }
 }
 
 pub fn limit_of(c: Ctrl, w: &[u8]) -> u32

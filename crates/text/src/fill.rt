@@ -1,29 +1,45 @@
 // The lent tables of an accepted task: its numbers in their first places, and 0 in every place beyond.
 ghost use mathlib.Core.Path.{_≡_};
-ghost use Prim.Native.Nat.{_≤_};
+ghost use mathlib.Core.List.{List};
+ghost use Prim.Native.Nat.{ℕ, _≤_};
 ghost use lib.ListN.{length, getD, take};
 ghost use Rattle.grammar.specs.Fields.{filled};
 ghost use Rattle.tables.specs.Layout.{sharesRoom};
 ghost use Rattle.text.specs.Inside.Area.{threes, sharesByte};
+ghost use Rattle.text.specs.Inside.End.{FilledTo};
 ghost use Rattle.tables.specs.Task.{was, left};
-use crate::area::byte_at;
 use crate::area::word_at;
 
-pub fn nth_byte(w: &[u8], n: usize, i: usize) -> u8
-    ensures { λ r. ⌜ r ≡ getD (take n (was w)) i 0 ⌝ }
+// The first n bytes, in a loop of their own: nothing is asked at each.
+pub fn copy_bytes(w: &[u8], n: usize, out: &mut [u8])
+    requires { ⌜ (n ≤ length (now w)) × (n ≤ length (now out)) ⌝ }
+    ensures { λ r. ⌜ FilledTo (take n (was w)) (was out) (left out) n ⌝ }
 {
-    if i < n { byte_at(w, i) } else { 0 }
+    let mut i = 0;
+    while i < n {
+        out[i] = w[i];
+        i += 1;
+    }
+}
+
+// The bytes beyond them.
+pub fn clear_bytes(n: usize, out: &mut [u8])
+    requires { ⌜ n ≤ length (now out) ⌝ }
+    ensures { λ r. ⌜ ((xs lent : List ℕ) → length xs ≤ n → FilledTo xs lent (was out) n → FilledTo xs lent (left out) (length lent)) ⌝ }
+{
+    let mut i = n;
+    while i < out.len() {
+        out[i] = 0;
+        i += 1;
+    }
 }
 
 pub fn fill_bytes(w: &[u8], n: usize, out: &mut [u8])
     requires { ⌜ (n ≤ length (now w)) × (n ≤ length (now out)) ⌝ }
     ensures { λ r. ⌜ left out ≡ filled n (take n (was w)) (was out) ⌝ }
 {
-    let mut i = 0;
-    while i < out.len() {
-        out[i] = nth_byte(w, n, i);
-        i += 1;
-    }
+    copy_bytes(w, n, out);
+    clear_bytes(n, out);
 }
 
 pub fn nth_word(w: &[u8], n: usize, at: usize, i: usize) -> u32

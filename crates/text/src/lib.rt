@@ -4,6 +4,8 @@ ghost use Rattle.grammar.specs.Fields.{leaves};
 ghost use Rattle.grammar.specs.Grammar.{readText};
 ghost use Rattle.tables.specs.Task.{was, left};
 
+mod after;
+mod ahead;
 mod area;
 mod control;
 mod end;
@@ -11,6 +13,7 @@ mod fields;
 mod fill;
 mod mask;
 mod names;
+mod numbers;
 mod places;
 mod step;
 mod whole;
@@ -57,15 +60,15 @@ pub struct Seen {
     pub prod: u32,
 }
 
-// Where the reading stands between two bytes.
+// Where the reading stands between two bytes. The one field that is no word stands last: before others it would leave a gap, and each copy would be in pieces.
 pub struct Ctrl {
-    pub halt: Halt,
     pub line: u32,
     pub spot: Spot,
     pub digits: Digits,
     pub turn: Turn,
     pub seen: Seen,
     pub counts: Counts,
+    pub halt: Halt,
 }
 
 // Reads a task text into the lent tables: the task's counts, or why not. What is left behind is what the grammar says.

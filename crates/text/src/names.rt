@@ -22,6 +22,8 @@ pub const FIELD_DOM: u32 = 2;
 
 pub const FIELD_INIT: u32 = 3;
 
+pub const FIELD_GOAL_VAR: u32 = 4;
+
 pub const FIELD_GOAL_VAL: u32 = 5;
 
 pub const FIELD_OPS: u32 = 6;
@@ -97,9 +99,6 @@ pub const SEMICOLON: u32 = b';' as u32;
 pub const ZERO: u32 = b'0' as u32;
 
 pub const NINE: u32 = b'9' as u32;
-
-// No byte: the end of the text is read as this.
-pub const NO_BYTE: u32 = 256;
 
 // The edition of the text.
 pub const EDITION: u32 = 1;

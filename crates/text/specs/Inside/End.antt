@@ -1,7 +1,8 @@
 -- What the end of the text says, and the whole text by the machine.
-use Prim.Native.Nat.{ℕ, min}
+use Prim.Native.Nat.{ℕ, _≤_, _<_, min}
+use mathlib.Core.Path.{_≡_}
 use mathlib.Core.List.{List}
-use lib.ListN.{take, replicate}
+use lib.ListN.{length, getD, take, replicate}
 use lib.Dec.{leb}
 use Rattle.refusals.specs.declared.Refusal.the-variants.{
   OffForm,
@@ -56,6 +57,12 @@ written s f c h =
     (filled factsRoom (take factsRoom (s .area)) f)
     (filled costsRoom (threes costsRoom costsByte (s .area)) c)
     (filled sharesRoom (threes sharesRoom sharesByte (s .area)) h)
+
+-- while one is filled: its first i places hold what stands in xs
+pub record FilledTo (xs lent out : List ℕ) (i : ℕ) : Type 0 where
+  pub fits : i ≤ length lent
+  pub same : length out ≡ length lent
+  pub holds : (k : ℕ) → k < i → getD out k 0 ≡ getD xs k 0
 
 -- the end of the text: the lent tables are written on acceptance only
 abbrev pub leftBehind : Found → St → List ℕ → List ℕ → List ℕ → Outcome

@@ -2,12 +2,13 @@
 use Prim.Native.Nat.{ℕ, _+_, _-_, _*_, min}
 use Prim.Native.Char.{code}
 use mathlib.Core.List.{List, [], _∷_}
-use mathlib.Core.Bool.{Bool, false, cond}
+use mathlib.Core.Bool.{Bool, true, false, cond, not}
 use lib.Dec.{eqb}
 use Rattle.grammar.specs.Fields.{isDigit, lineEnd, comma, dash, slash, colon, semicolon}
 use Rattle.text.specs.declared.Ctrl.{Ctrl}
 use Rattle.tables.specs.Steps.{isIdle}
-use Rattle.text.specs.declared.Halt.the-variants.{Form, Idle}
+use Rattle.text.specs.declared.Halt.{Halt}
+use Rattle.text.specs.declared.Halt.the-variants.{Going, Form, Idle}
 use Rattle.text.specs.Inside.Control.{
   St,
   mk,
@@ -110,9 +111,12 @@ afterVar c b =
     (mark c b lineEnd (nextLine c))
     (mark c b comma (due c (c .spot .field) (turnOf (up (c .turn .var)) 0 0) noneSeen))
 
+-- the byte after a fact's value: a comma means one more fact, with a later variable
+abbrev pub nextFact : Ctrl → Ctrl
+nextFact c = due c (c .spot .field - 1) (turnOf 0 (up (c .turn .var)) 0) noneSeen
+
 unfoldable pub afterValue : Ctrl → List ℕ → ℕ → Ctrl
-afterValue c w b =
-    cond (eqb b comma) (due c (c .spot .field - 1) (turnOf 0 (up (c .turn .var)) 0) noneSeen) (listEnd c w b)
+afterValue c w b = cond (eqb b comma) (nextFact c) (listEnd c w b)
 
 unfoldable pub afterShare : Ctrl → ℕ → Ctrl
 afterShare c b =
@@ -151,6 +155,25 @@ unfoldable pub atNumber : Ctrl → List ℕ → ℕ → St
 atNumber c w b =
     cond (isDigit b) (mk (digitRead c (b - 48)) w) (cond (dashHere c b) (mk (dashed c) w) (closed c w b))
 
+-- the same by what stands before the byte, in the order in which the code asks: whether a list of facts is over, what is kept of a run, the byte after it
+unfoldable pub listOver : Ctrl → ℕ → Bool
+listOver c b = cond (eqb (c .spot .part) partAfterDash) true (cond (eqb (kind (c .spot .field)) kindVal) (not (eqb b comma)) false)
+
+unfoldable pub afterPart : Ctrl → List ℕ → ℕ → Ctrl
+afterPart c w b = cond (eqb (c .spot .part) partAfterDash) (listEnd c w b) (afterNumber c w b)
+
+unfoldable pub runFault : Ctrl → List ℕ → Halt
+runFault c w = cond (eqb (c .spot .part) partNumber) (fault c w) Going
+
+unfoldable pub runKept : Ctrl → List ℕ → St
+runKept c w = cond (eqb (c .spot .part) partNumber) (mk (noted c) (stored c w)) (mk c w)
+
+unfoldable pub partClosed : Ctrl → List ℕ → ℕ → St
+partClosed c w b = cond (eqb (c .spot .part) partNumber) (closed c w b) (mk (afterPart c w b) w)
+
+unfoldable pub inValue : Ctrl → List ℕ → ℕ → St
+inValue c w b = cond (eqb (c .spot .part) partNumber) (atNumber c w b) (mk (afterPart c w b) w)
+
 unfoldable pub live : Ctrl → List ℕ → ℕ → St
 live c w b =
     cond (eqb (c .spot .part) partKey)
@@ -170,7 +193,7 @@ feed s (b ∷ t) = feed (byteRead s b) t
 
 -- THE END OF THE TEXT: where not all lines were read it is as a byte that fits nowhere
 abbrev pub noByte : ℕ
-noByte = 256
+noByte = 255
 
 unfoldable pub ended : St → St
 ended s = cond (eqb (s .ctrl .spot .field) fieldEnd) s (byteRead s noByte)

@@ -10,9 +10,10 @@ use Rattle.text.proofs.fields.key_byte.Tie as tie
 returns : tie.Need-returns
 unfolding keyByte
 returns c =
-    let place = c .before .before in
-    let known = simp (place .before .wide .ensures, place .wide2 .ensures) at (c .before .if1 .taken) in
-    c .word .ensures .0 ∙ simp (place .before .wide .ensures, place .wide2 .ensures) (getD-any keys _ 0 256 known)
+    let lent = c .before in
+    let place = lent .before .before .before in
+    let known = simp (place .before .wide .ensures, place .wide2 .ensures) at (lent .before .before .if1 .taken) in
+    c .word .ensures .0 ∙ lent .byte-at .ensures ∙ simp (place .before .wide .ensures, place .wide2 .ensures) (getD-any keys _ 0 256 known)
 
 pub key-byte-spec : {M : Type 1} → statement M
 unfolding keyByte
@@ -24,6 +25,7 @@ key-byte-spec =
     (λ c κs. search needs)
     (λ c. search needs)
     (λ c. search needs)
+    (λ c κs. search needs)
     (λ c κs. search needs)
     returns
     (λ c. sym (simp (← c .before .before .wide .ensures, ← c .before .wide2 .ensures) (List·getD-eq-default keys 256 (c .if1 .left)))))

@@ -1,7 +1,8 @@
 -- `text::fill::fill_words` meets its contract: the invariant is what stands in the places passed. Assumes nothing.
 use Prim.Native.Nat.{_-_, _<_}
-use Rattle.text.proofs.Filling.{FilledTo, filled-none, fill-turn, fill-end, threes-length}
+use Rattle.text.proofs.Filling.{filled-none, fill-turn, fill-end, threes-length}
 use Rattle.text.specs.Inside.Area.{threes}
+use Rattle.text.specs.Inside.End.{FilledTo}
 use borrow.Author.Needs.{needs}
 use lib.ListN.{length}
 use native.Mathlib.Omega.{arith}
