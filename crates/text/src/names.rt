@@ -100,9 +100,6 @@ pub const ZERO: u32 = b'0' as u32;
 
 pub const NINE: u32 = b'9' as u32;
 
-// The edition of the text.
-pub const EDITION: u32 = 1;
-
 // The caps: of a digit run's value, above every range; of lines, rows and turns, above every count; of abstract states, one too many.
 pub const VALUE_CAP: u32 = 4294967295;
 

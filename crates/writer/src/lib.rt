@@ -12,6 +12,7 @@ mod lines;
 mod pen;
 mod rows;
 
+use grammar::EDITION;
 use grammar::Written;
 use lines::put_count;
 use lines::put_goal;
@@ -26,9 +27,6 @@ use scan::tables_fault;
 use tables::Counts;
 use tables::readers::DOM_ROW;
 use tables::readers::INIT_ROW;
-
-// The edition of the text.
-const EDITION: u32 = 1;
 
 // The whole text, from the buffer's first place on.
 fn put_task(out: &mut [u8], c: Counts, facts: &[u8], costs: &[u32], shares: &[u32]) -> usize

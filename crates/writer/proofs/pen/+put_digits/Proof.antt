@@ -31,7 +31,7 @@ module _ (t : ℕ) where
   alone : lts.Need-returns (last.Asked, last.Learnt, put.Asked, put.Learnt, below, reads.Post) given reads.Post
   alone c =
       let one = c .before .before in
-      so (so (one .put .ensures) (byte (one .before .last-digit .ensures))) (digit-alone _ (one .before .before .before .if1 .taken))
+      so (so (one .put .ensures) (byte (one .before .last-digit .ensures))) (let h = one .before .before .before .if1 .taken in digit-alone _ (omega arith))
 
   two : lts.Need-returns-2 (last.Asked, last.Learnt, put.Asked, put.Learnt, below, reads.Post) given reads.Post
   two c =

@@ -1,4 +1,5 @@
 -- `writer::pen::put_number` meets its contract: by whether there is one digit. Assumes nothing.
+use native.Mathlib.Omega.{arith}
 use borrow.Author.Needs.{needs}
 use Rattle.writer.proofs.Pens.{so}
 use Rattle.writer.proofs.Parts.{byte, digit-alone}
@@ -8,7 +9,7 @@ use Rattle.writer.proofs.pen.put_number.Tie as tie
 returns : tie.Need-returns
 returns c =
     let one = c .before .before in
-    so (so (one .put .ensures) (byte (one .before .last-digit .ensures))) (digit-alone _ (one .before .before .before .if1 .taken))
+    so (so (one .put .ensures) (byte (one .before .last-digit .ensures))) (let h = one .before .before .before .if1 .taken in digit-alone _ (omega arith))
 
 pub put-number-spec : {M : Type 1} → statement M
 put-number-spec =
