@@ -42,6 +42,10 @@ settled-judged (Fault r) T = refl
 
 -- ---- the lines of one kind
 
+-- ten of them, one after another or each before all that follow it
+in-a-row : (a b c d e f g h i j : List ℕ) → a ++ b ++ c ++ d ++ e ++ f ++ g ++ h ++ i ++ j ≡ a ++ (b ++ (c ++ (d ++ (e ++ (f ++ (g ++ (h ++ (i ++ (j ++ [])))))))))
+in-a-row a b c d e f g h i j = simp (append-assoc, append-nil)
+
 abbrev pub made : ℕ → ℕ → ℕ → List ℕ → List ℕ → List ℕ → Tables
 made v o m f c h = record { counts = record { vars = v; ops = o; maps = m }; facts = f; costs = c; shares = h }
 
@@ -137,8 +141,11 @@ module _ (τ : Task) where
   linesText = headText (opsText ++ (keyed "maps=" (digits (τ .maps)) ++ (mapsText ++ (sharesText ++ []))))
 
   pub spelled-lines : spelled edition τ ≡ linesText
-  unfolding spelled
-  spelled-lines = simp (append-assoc, append-nil)
+  unfolding spelled keyed
+  spelled-lines =
+      in-a-row (keyed "edition=" (digits edition)) (keyed "vars=" (digits (τ .sas .vars))) (keyed "dom=" (numbers (τ .sas .dom) (τ .sas .vars)))
+      (keyed "init=" (numbers (τ .sas .init) (τ .sas .vars))) (keyed "goal=" (someFacts (τ .sas .goal) (τ .sas .vars) 0)) (keyed "ops=" (digits (τ .sas .ops))) opsText
+      (keyed "maps=" (digits (τ .maps))) mapsText sharesText
 
 -- ---- the whole text
 
