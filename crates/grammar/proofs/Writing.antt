@@ -34,7 +34,7 @@ not-refused p = let z : _≡_ {A = ℕ} 0 1 = cc in absurd (let n : ⊥ = omega 
 module _ (text b : List ℕ) where
   pub over-text : take (length text) (over text b) ≡ text
   unfolding over
-  over-text = take-append-seam text (drop (length text) b)
+  over-text = take-append-seam text _
 
   -- the bytes after it stay
   pub over-rest : (p : ℕ) → length text ≤ p → getD (over text b) p 0 ≡ getD b p 0
