@@ -133,15 +133,20 @@ module _ (f : ℕ → List ℕ) (n i : ℕ) where
   unfolding stacked
   stacked-over h = rw (none-left n i h) refl
 
-pub lines-whole : (f : ℕ → List ℕ) (n : ℕ) (p : Pen) → Writes p (stacked f (n - 0) 0) (inked p (stacked f n 0))
-lines-whole f n p = rw (all-left n) (whole p (stacked f n 0))
+-- lines under way, from p to q, as a row is
+pub record LinesUnder (f : ℕ → List ℕ) (n : ℕ) (p : Pen) (i : ℕ) (q : Pen) : Type 0 where
+  pub long : length (q .bytes) ≡ length (p .bytes)
+  pub left : Writes q (stacked f (n - i) i) (inked p (stacked f n 0))
 
-module _ (f : ℕ → List ℕ) (n i : ℕ) where
-  pub lines-turn : {p q w : Pen} → i < n → Writes p (f i) q → Writes p (stacked f (n - i) i) w → Writes q (stacked f (n - (i + 1)) (i + 1)) w
-  lines-turn h e = turn e (stacked-turn f n i h)
+module _ (f : ℕ → List ℕ) (n : ℕ) where
+  pub lines-begin : (p : Pen) → LinesUnder f n p 0 p
+  lines-begin p = record { long = refl; left = rw (all-left n) (whole p (stacked f n 0)) }
 
-  pub lines-over : {p q : Pen} {y : List ℕ} → n ≤ i → Writes p (stacked f (n - i) i) (inked q y) → Writes q y p
-  lines-over h = done (nothing _) (stacked-over f n i h)
+  pub lines-go-on : {p q r : Pen} (i : ℕ) → i < n → Writes q (f i) r → length (r .bytes) ≡ length (q .bytes) → LinesUnder f n p i q → LinesUnder f n p (i + 1) r
+  lines-go-on i h e l u = record { long = l ∙ u .long; left = turn e (stacked-turn f n i h) (u .left) }
+
+  pub lines-end : {p q : Pen} (i : ℕ) → n ≤ i → LinesUnder f n p i q → Writes p (stacked f n 0) q
+  lines-end i h u = done (nothing _) (stacked-over f n i h) (u .left)
 
 -- ---- facts
 

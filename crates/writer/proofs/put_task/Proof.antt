@@ -17,17 +17,10 @@ returns c =
     let init = goal .before .before .before .before in
     let dom = init .before .before .before .before .before in
     let vars = dom .before .before .before .before .before in
-    after
-    (after
-    (after
-    (after
-    (after
-    (after (after (after (after (vars .before .before .before .before .before .put-count .ensures) (vars .put-count2 .ensures)) (dom .put-values .ensures)) (init .put-values2 .ensures)) (goal .put-goal .ensures))
-    (number .put-count3 .ensures))
-    (ops .put-ops .ensures))
-    (count .put-count4 .ensures))
-    (maps .put-maps .ensures))
-    (c .before .before .put-split .ensures)
+    let first = vars .before .before .before .before .before in
+    let head = after (after (after (first .put-count .ensures) (vars .put-count2 .ensures)) (dom .put-values .ensures)) (init .put-values2 .ensures) in
+    let body = after (after (after head (goal .put-goal .ensures)) (number .put-count3 .ensures)) (ops .put-ops .ensures) in
+    after (after (after body (count .put-count4 .ensures)) (maps .put-maps .ensures)) (c .before .before .put-split .ensures)
 
 same-length : tie.Need-same-length
 same-length c =
@@ -39,8 +32,24 @@ same-length c =
     let init = goal .before .before .before .before in
     let dom = init .before .before .before .before .before in
     let vars = dom .before .before .before .before .before in
+    let first = vars .before .before .before .before .before in
     c .before .before .put-split .kept .0 ∙ maps .put-maps .kept .0 ∙ count .put-count4 .kept .0 ∙ ops .put-ops .kept .0 ∙ number .put-count3 .kept .0
-    ∙ goal .put-goal .kept .0 ∙ init .put-values2 .kept .0 ∙ dom .put-values .kept .0 ∙ vars .put-count2 .kept .0 ∙ vars .before .before .before .before .before .put-count .kept .0
+    ∙ goal .put-goal .kept .0 ∙ init .put-values2 .kept .0 ∙ dom .put-values .kept .0 ∙ vars .put-count2 .kept .0 ∙ first .put-count .kept .0
+
+put-ops-requires : tie.Need-put-ops-requires
+put-ops-requires c κs =
+    let goal = c .before .before .before .before .before .before .before .before in
+    let dom = goal .before .before .before .before .before .before .before .before .before in
+    let first = dom .before .before .before .before .before .before .before .before .before .before in
+    first .before .before .before .before .before .before .before .pre .1
+
+put-maps-requires : tie.Need-put-maps-requires
+put-maps-requires c κs =
+    let ops = c .before .before .before .before .before .before .before .before in
+    let goal = ops .before .before .before .before .before .before .before .before .before in
+    let dom = goal .before .before .before .before .before .before .before .before .before in
+    let p = dom .before .before .before .before .before .before .before .before .before .before .before .before .before .before .before .before .before .pre in
+    (p .0, p .2)
 
 pub put-task-spec : {M : Type 1} → statement M
 put-task-spec =
@@ -57,10 +66,10 @@ put-task-spec =
     (λ c κs. search needs)
     (λ c. search needs)
     (λ c κs. search needs)
-    (λ c κs. c .before .before .before .before .before .before .before .before .before .before .before .before .before .before .before .before .before .before .before .before .before .before .before .before .before .before .before .before .before .before .before .before .before .before .pre .1)
+    put-ops-requires
     (λ c. search needs)
     (λ c κs. search needs)
-    (λ c κs. let p = c .before .before .before .before .before .before .before .before .before .before .before .before .before .before .before .before .before .before .before .before .before .before .before .before .before .before .before .before .before .before .before .before .before .before .before .before .before .before .before .before .before .before .before .pre in (p .0, p .2))
+    put-maps-requires
     (λ c κs. search needs)
     same-length
     returns)
