@@ -7,7 +7,7 @@ use lib.Dec.{eqb}
 use borrow.Author.Tests.{lt-ltb, le-ltb, eq-eqb, ne-eqb, eqb-true}
 use Rattle.meaning.specs.Limits.{mostCost}
 use Rattle.meaning.specs.Split.{Task, Valid, sum}
-use Rattle.meaning.specs.Columns.{unshared, costColumns, rest, gain}
+use Rattle.meaning.specs.Columns.{unshared, costColumns, storedTests, rest, gain}
 use Rattle.meaning.proofs.Facts.{by-cases, by-order}
 
 -- ---- sums, as a counting loop asks for them
@@ -60,7 +60,15 @@ module _ (T : Task) where
   unfolding gain
   gain-unused c o h l =
       let n : c ≡ unshared → ⊥ = λ e. omega arith in
-      rw (le-ltb c (T .maps) h, ne-eqb c unshared n) refl
+      let m : c ≡ storedTests → ⊥ = λ e. omega arith in
+      rw (le-ltb c (T .maps) h, ne-eqb c unshared n, ne-eqb c storedTests m) refl
+
+  -- a count is no payment: to the stored tests a step adds its mark, and nothing of its cost
+  pub gain-stored : (c o : ℕ) → T .maps ≤ c → c ≡ storedTests → gain T c o ≡ T .mark o
+  unfolding gain
+  gain-stored c o h e =
+      let n : c ≡ unshared → ⊥ = λ d. omega arith in
+      rw (le-ltb c (T .maps) h, ne-eqb c unshared n, eq-eqb c storedTests e) refl
 
   pub rest-is : (o x y : ℕ) → x ≡ T .sas .cost o → y ≡ sum (λ m. T .share m o) (T .maps) → x - y ≡ rest T o
   unfolding rest
@@ -80,7 +88,9 @@ module _ (T : Task) where
         by-order c (T .maps) (λ l. omega (arith, gain-map c o l, valid .shares c o l exists))
         (λ g.
         by-cases (eqb c unshared) (λ d. omega (arith, gain-rest c o g (eqb-true c unshared d), rest-small))
-        (λ d. rw (le-ltb c (T .maps) g, d) (omega arith)))
+        (λ d.
+        by-cases (eqb c storedTests) (λ e. omega (arith, gain-stored c o g (eqb-true c storedTests e), valid .marks o exists))
+        (λ e. rw (le-ltb c (T .maps) g, d, e) (omega arith))))
 
     -- the columns of the cost together grow by the cost: the maps' by the shares, those of no map by nothing, the unshared one by the rest
     pub gain-all : sum (λ c. gain T c o) costColumns ≡ T .sas .cost o

@@ -10,4 +10,5 @@ pub mod Bounds
 pub mod Falling
 pub mod Theorems
 pub mod Columns
+pub mod Quota
 pub mod Unread

@@ -3,7 +3,7 @@
 use mathlib.Core.Path.{_≡_, sym, ap, _∙_}
 use mathlib.Core.Logic.{_↔_}
 use mathlib.Core.Bool.{true}
-use mathlib.Core.List.{List}
+use mathlib.Core.List.{List, _++_}
 use Prim.Native.Nat.{ℕ, _+_, _≤_, _<_}
 use Rattle.graph.specs.Cost.{Cost, none, fin, _⊑_}
 use Rattle.graph.specs.Graph.{to, Leads}
@@ -13,6 +13,7 @@ use Rattle.meaning.specs.Sas.{State, Sas, IsState, MayRun, Transition, a
 use Rattle.meaning.specs.Views.{α, abstractStates, AbstractStep, AbstractGoal, AbstractlyLeads, IsDistanceAt, IsRounds, space, viewGraph}
 use Rattle.meaning.specs.Split.{Task, sum, view, Valid}
 use Rattle.meaning.specs.Bound.{distance, away, summed, bound}
+use Rattle.meaning.specs.Quota.{KeepsQuota, StoresWithin, PassesWithin}
 use Rattle.meaning.proofs.Numbers as numbers
 use Rattle.meaning.proofs.Space as spaces
 use Rattle.meaning.proofs.Induced as induced
@@ -21,6 +22,7 @@ use Rattle.meaning.proofs.Rounds as rounds
 use Rattle.meaning.proofs.Sums as sums
 use Rattle.meaning.proofs.Bounds as bounds
 use Rattle.meaning.proofs.Falling as falling
+use Rattle.meaning.proofs.Quota as quota
 
 -- ---- numbering, for any list of radices
 
@@ -144,10 +146,20 @@ pub bound-at-most-cost : (T : Task) → Valid T → (os : List ℕ) (s : State) 
     → bound T s ⊑ paid (T .sas .cost) os
 bound-at-most-cost T ok os s h p = bounds.admissible T ok os s h p
 
+-- so it is for those that keep the quota, each counting its own storing steps from 0: the bound ignores the quota
+pub bound-at-most-cost-within : (T : Task) → Valid T → (os : List ℕ) (s : State) → IsState (T .sas) s → PassesWithin T os s
+    → bound T s ⊑ paid (T .sas .cost) os
+bound-at-most-cost-within T ok os s h p = bounds.admissible T ok os s h (p .0)
+
 -- where the sum says none there is no sequence
 pub none-so-no-sequence : (T : Task) → Valid T → (s : State) → IsState (T .sas) s → bound T s ≡ none
     → (os : List ℕ) → Passes (T .sas) os s → ⊥
 none-so-no-sequence T ok s h e os p = bounds.none-so-none T ok s h e os p
+
+-- and so none that keeps the quota
+pub none-so-no-sequence-within : (T : Task) → Valid T → (s : State) → IsState (T .sas) s → bound T s ≡ none
+    → (os : List ℕ) → PassesWithin T os s → ⊥
+none-so-no-sequence-within T ok s h e os p = bounds.none-so-none T ok s h e os (p .0)
 
 -- nor is there where one map says none
 pub one-none-so-no-sequence : (T : Task) → Valid T → (s : State) → IsState (T .sas) s → (m : ℕ) → m < T .maps → away T s m ≡ none
@@ -163,3 +175,17 @@ sequence-so-every-number T ok os s h p m l = bounds.reached-so-number T ok os s 
 pub sequence-lowers-bound : (T : Task) → Valid T → (os : List ℕ) (s : State) (c : ℕ) → IsState (T .sas) s → Runs (T .sas) os s
     → bound T (end (T .sas) os s) ⊑ c → bound T s ⊑ sum (λ m. paid (T .share m) os) (T .maps) + c
 sequence-lowers-bound T ok os s c h r d = falling.bound-falls T ok os s h r c d
+
+-- ---- the quota of stored tests
+
+-- a sequence keeps the quota exactly if no step of it stores beyond the quota
+pub keeps-exactly-each-step : (T : Task) (os : List ℕ) → KeepsQuota T os ↔ StoresWithin T 0 os
+keeps-exactly-each-step T os = quota.keeps-exactly T os
+
+-- every part of a sequence that keeps the quota keeps it
+pub parts-keep : (T : Task) (os qs : List ℕ) → KeepsQuota T (os ++ qs) → KeepsQuota T os × KeepsQuota T qs
+parts-keep T os qs h = (quota.front-keeps T os qs h, quota.back-keeps T os qs h)
+
+-- where no operator stores a test, every sequence keeps it
+pub unmarked-keeps-quota : (T : Task) → ((o : ℕ) → T .mark o ≡ 0) → (os : List ℕ) → KeepsQuota T os
+unmarked-keeps-quota T h os = quota.unmarked-keeps T h os

@@ -6,14 +6,15 @@ use mathlib.Core.Bool.{cond}
 use Prim.Native.Nat.{ℕ, zero, suc, _+_, _-_, _*_, _/_, _%_, _<_, max}
 use native.Mathlib.Nat.{le-refl}
 use native.Mathlib.Omega.{arith}
-use lib.Dec.{ltb, eqb}
+use lib.Dec.{ltb, leb, eqb}
 use borrow.Author.Tests.{ltb-true}
 use Rattle.graph.specs.Cost.{Cost, _⊑_}
 use Rattle.meaning.specs.Numbering.{size, number, digit}
 use Rattle.meaning.specs.Sas.{State, Facts, Sas, IsState, Holds, Complies, Transition, paid}
 use Rattle.meaning.specs.Views.{View, α, abstractStates, AbstractStep, AbstractGoal, AbstractlyLeads, IsLeastAt, UnchangedAt, IsRounds, holds, every, complies}
 use Rattle.meaning.specs.Split.{Task, countOf, view}
-use Rattle.meaning.specs.Columns.{unshared, rest, gain}
+use Rattle.meaning.specs.Columns.{unshared, storedTests, rest, gain}
+use Rattle.meaning.specs.Quota.{mayStore}
 use Rattle.meaning.proofs.Facts.{by-cases, every-same}
 use Rattle.meaning.proofs.Columns.{sum-same}
 
@@ -183,6 +184,9 @@ pub record SameTask (T U : Task) : Type 0 where
   pub maps : T .maps ≡ U .maps
   pub class : (m v x : ℕ) → m < T .maps → v < T .sas .vars → x < T .sas .dom v → T .class m v x ≡ U .class m v x
   pub share : (m o : ℕ) → m < T .maps → o < T .sas .ops → T .share m o ≡ U .share m o
+  pub edition : T .edition ≡ U .edition
+  pub quota : T .quota ≡ U .quota
+  pub mark : (o : ℕ) → o < T .sas .ops → T .mark o ≡ U .mark o
 
 pub task-back : {T U : Task} → SameTask T U → SameTask U T
 task-back {T = T} E =
@@ -194,6 +198,9 @@ task-back {T = T} E =
           let g : v < T .sas .vars = omega (arith, E .sas .vars) in
           sym (E .class m v x (omega (arith, E .maps)) g (omega (arith, E .sas .dom v g)));
       share = λ m o lm l. sym (E .share m o (omega (arith, E .maps)) (omega (arith, E .sas .ops)));
+      edition = sym (E .edition);
+      quota = sym (E .quota);
+      mark = λ o l. sym (E .mark o (omega (arith, E .sas .ops)));
     }
 
 pub view-alike : {T U : Task} → SameTask T U → (m : ℕ) → m < T .maps → SameView (T .sas) (view T m) (view U m)
@@ -211,4 +218,9 @@ unfolding gain rest
 gain-alike {T = T} {U = U} E c o lo =
     let rests = ap₂ _-_ (E .sas .cost o lo) (sum-same (λ m. T .share m o) (λ m. U .share m o) (T .maps) (λ m l. E .share m o l lo)) in
     by-cases (ltb c (T .maps)) (λ e. rw (← E .maps, e) (E .share c o (ltb-true c (T .maps) e) lo))
-    (λ e. rw (← E .maps, e) (ap (λ (x : ℕ). cond (eqb c unshared) x 0) rests))
+    (λ e. rw (← E .maps, e) (ap₂ (λ (x y : ℕ). cond (eqb c unshared) x (cond (eqb c storedTests) y 0)) rests (E .mark o lo)))
+
+-- after as many stored tests it may store, or not
+pub may-store-alike : {T U : Task} → SameTask T U → (n o : ℕ) → o < T .sas .ops → mayStore T n o ≡ mayStore U n o
+unfolding mayStore
+may-store-alike E n o lo = ap₂ (λ (x q : ℕ). leb (n + x) q) (E .mark o lo) (E .quota)

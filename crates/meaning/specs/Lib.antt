@@ -5,3 +5,4 @@ pub mod Views
 pub mod Split
 pub mod Bound
 pub mod Columns
+pub mod Quota

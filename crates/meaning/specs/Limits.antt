@@ -1,9 +1,15 @@
--- The limits of document 01, and the step limit of document 02, each said once. `limits` in src/ has the same numbers for the code.
+-- The limits of document 01, and of document 02 the editions, the quota and the step limit, each said once. `limits` in src/ has the same numbers for the code.
 use Prim.Native.Nat.{ℕ}
 
--- a text, in bytes
+-- a text, in bytes, and its editions: 1, and 2, which alone has a quota and marks
 abbrev pub mostBytes : ℕ
 mostBytes = 16384
+
+abbrev pub mostEdition : ℕ
+mostEdition = 2
+
+abbrev pub quotaEdition : ℕ
+quotaEdition = 2
 
 -- variables, and values of a variable
 abbrev pub mostVars : ℕ
@@ -29,3 +35,10 @@ mostStates = 4096
 -- steps of a sequence or a run
 unfoldable pub mostSteps : ℕ
 mostSteps = 1024
+
+-- the quota of stored tests, and an operator's mark: 1 if it stores one
+abbrev pub mostQuota : ℕ
+mostQuota = 1024
+
+abbrev pub mostMark : ℕ
+mostMark = 1

@@ -19,3 +19,12 @@ pub const COST_MOST: u32 = 1000000;
 pub const STATES_MOST: u32 = 4096;
 
 pub const STATES_ROOM: usize = 4096;
+
+// The highest edition, the one that has a quota and marks, the highest quota of stored tests, and the highest mark.
+pub const EDITION_MOST: u32 = 2;
+
+pub const QUOTA_EDITION: u32 = 2;
+
+pub const QUOTA_MOST: u32 = 1024;
+
+pub const MARK_MOST: u32 = 1;

@@ -6,7 +6,7 @@ use lib.Dec.{leb}
 use borrow.Author.Tests.{lt-leb, le-leb}
 use Rattle.refusals.specs.declared.Refusal.{Refusal}
 use Rattle.refusals.specs.declared.Refusal.the-variants.{OutOfRange, TooManyStates, IdleOperator}
-use Rattle.meaning.specs.Limits.{mostCost, mostMaps, mostStates}
+use Rattle.meaning.specs.Limits.{mostCost, mostMaps, mostStates, mostMark}
 use Rattle.meaning.specs.Views.{abstractStates, idle}
 use Rattle.meaning.specs.Split.{Task, view}
 use Rattle.scan.specs.declared.Found.{Found}
@@ -17,39 +17,47 @@ use Rattle.scan.proofs.Walks.{then-then, tests, one-walk, walk-here}
 use Rattle.tables.specs.Lines.{lineOfOp, lineOfMaps, lineOfMap}
 
 module _ (T : Task) where
-  -- ---- an operator's line: its cost, then its facts, then whether it is idle
+  -- ---- an operator's line: its cost, then its facts, then its mark, then whether it is idle
 
-  pub cost-decides : (o : ℕ) → mostCost < T .sas .cost o → operatorFault T o ≡ Fault (OutOfRange (lineOfOp o))
+  abbrev line : ℕ → ℕ
+  line o = lineOfOp (T .edition) o
+
+  pub cost-decides : (o : ℕ) → mostCost < T .sas .cost o → operatorFault T o ≡ Fault (OutOfRange (line o))
   unfolding operatorFault
   cost-decides o h = rw (lt-leb (T .sas .cost o) mostCost h)
 
-  -- its facts in one walk, and then whether it is idle
+  -- its facts in one walk
+  abbrev factsWalked : ℕ → Found
+  factsWalked o =
+      each (tests (λ v. leb (T .sas .pre o v) (T .sas .dom v) && leb (T .sas .eff o v) (T .sas .dom v)) (λ v. OutOfRange (line o))) (T .sas .vars) 0
+
   in-one-walk : (o : ℕ) → T .sas .cost o ≤ mostCost
       → operatorFault T o
-      ≡ each (tests (λ v. leb (T .sas .pre o v) (T .sas .dom v) && leb (T .sas .eff o v) (T .sas .dom v)) (λ v. OutOfRange (lineOfOp o))) (T .sas .vars) 0
-      then unless (not (idle (T .sas) o)) (IdleOperator (lineOfOp o))
+      ≡ factsWalked o
+      then unless (leb (T .mark o) mostMark) (OutOfRange (line o))
+      then unless (not (idle (T .sas) o)) (IdleOperator (line o))
   unfolding operatorFault factsFault
   in-one-walk o h =
-      let end = unless (not (idle (T .sas) o)) (IdleOperator (lineOfOp o)) in
+      let end = unless (leb (T .mark o) mostMark) (OutOfRange (line o)) then unless (not (idle (T .sas) o)) (IdleOperator (line o)) in
       rw (le-leb (T .sas .cost o) mostCost h)
-      (sym (then-then (factsFault T (T .sas .pre o) (lineOfOp o)) (factsFault T (T .sas .eff o) (lineOfOp o)) end)
+      (sym (then-then (factsFault T (T .sas .pre o) (line o)) (factsFault T (T .sas .eff o) (line o)) end)
       ∙ ap (λ (f : Found). f then end)
-      (one-walk (λ v. leb (T .sas .pre o v) (T .sas .dom v)) (λ v. leb (T .sas .eff o v) (T .sas .dom v)) (OutOfRange (lineOfOp o)) (T .sas .vars)))
+      (one-walk (λ v. leb (T .sas .pre o v) (T .sas .dom v)) (λ v. leb (T .sas .eff o v) (T .sas .dom v)) (OutOfRange (line o)) (T .sas .vars)))
 
   module _ (o : ℕ) (h : T .sas .cost o ≤ mostCost) where
-    pub fact-decides : (r : Refusal)
-        → each (tests (λ v. leb (T .sas .pre o v) (T .sas .dom v) && leb (T .sas .eff o v) (T .sas .dom v)) (λ v. OutOfRange (lineOfOp o))) (T .sas .vars) 0 ≡ Fault r
-        → operatorFault T o ≡ Fault r
+    pub fact-decides : (r : Refusal) → factsWalked o ≡ Fault r → operatorFault T o ≡ Fault r
     fact-decides r p = in-one-walk o h ∙ rw p refl
 
-    pub idle-decides : {b : Bool}
-        → each (tests (λ v. leb (T .sas .pre o v) (T .sas .dom v) && leb (T .sas .eff o v) (T .sas .dom v)) (λ v. OutOfRange (lineOfOp o))) (T .sas .vars) 0 ≡ Clean
-        → b ≡ idle (T .sas) o → operatorFault T o ≡ unless (not b) (IdleOperator (lineOfOp o))
-    idle-decides p q = in-one-walk o h ∙ rw (p, ← q) refl
+    pub mark-decides : factsWalked o ≡ Clean → mostMark < T .mark o → operatorFault T o ≡ Fault (OutOfRange (line o))
+    mark-decides p l = in-one-walk o h ∙ rw (p, lt-leb (T .mark o) mostMark l) refl
+
+    pub idle-decides : {b : Bool} → factsWalked o ≡ Clean → T .mark o ≤ mostMark → b ≡ idle (T .sas) o
+        → operatorFault T o ≡ unless (not b) (IdleOperator (line o))
+    idle-decides p l q = in-one-walk o h ∙ rw (p, le-leb (T .mark o) mostMark l, ← q) refl
 
   -- ---- a map's line: its variables, then how many abstract states
 
-  module _ (m : ℕ) {line : ℕ} (at : line ≡ lineOfMap (T .sas .ops) m) where
+  module _ (m : ℕ) {line : ℕ} (at : line ≡ lineOfMap (T .edition) (T .sas .ops) m) where
     pub classes-decide : (r : Refusal) → each (classesFault T m line) (T .sas .vars) 0 ≡ Fault r → Fault r ≡ mapFault T m
     unfolding mapFault
     classes-decide r p = sym (rw (← at, p))
@@ -67,7 +75,7 @@ module _ (T : Task) where
   operator-decides o r p l h = rw (walk-here (operatorFault T) (T .sas .ops) o r p l h)
 
   module _ (operators : each (operatorFault T) (T .sas .ops) 0 ≡ Clean) where
-    pub count-decides : within 1 mostMaps (T .maps) ≡ false → linesFault T ≡ Fault (OutOfRange (lineOfMaps (T .sas .ops)))
+    pub count-decides : within 1 mostMaps (T .maps) ≡ false → linesFault T ≡ Fault (OutOfRange (lineOfMaps (T .edition) (T .sas .ops)))
     unfolding linesFault
     count-decides q = rw (operators, q)
 

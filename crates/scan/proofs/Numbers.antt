@@ -5,7 +5,7 @@ use mathlib.Core.Bool.{Bool, true, false, not}
 use mathlib.Core.Logic.{_⊎_, inl, inr}
 use native.Mathlib.Omega.{arith}
 use lib.Dec.{leb, ltb}
-use Rattle.meaning.specs.Limits.{mostVars, mostValues, mostOps, mostCost, mostMaps, mostStates}
+use Rattle.meaning.specs.Limits.{mostVars, mostValues, mostOps, mostCost, mostMaps, mostStates, mostEdition, mostQuota, mostMark}
 use Rattle.refusals.specs.declared.Refusal.{Refusal}
 use Rattle.refusals.specs.declared.Refusal.the-variants.{OutOfRange, ClassMissing, SharesAboveCost, TooManyStates, TableTooShort, IdleOperator}
 use Rattle.refusals.specs.Listed.{numberOf}
@@ -15,7 +15,7 @@ use Rattle.meaning.specs.Split.{Task, sum, view}
 use Rattle.tables.specs.Layout.{Tables}
 use Rattle.tables.specs.Task.{taskOf}
 use Rattle.tables.specs.Classes.{noneMissing}
-use Rattle.tables.specs.Lines.{lineOfOp, lineOfMaps, lineOfMap, lineOfShares, lineOfVars, lineOfDom, lineOfInit, lineOfGoal, lineOfOps}
+use Rattle.tables.specs.Lines.{lineOfOp, lineOfMaps, lineOfMap, lineOfShares, lineOfEdition, lineOfVars, lineOfDom, lineOfInit, lineOfGoal, lineOfQuota, lineOfOps}
 use Rattle.scan.specs.declared.Found.{Found}
 use Rattle.scan.specs.declared.Found.the-variants.{Clean, Fault}
 use Rattle.scan.specs.Scan.{unless, _then_, each, within, factsFault, operatorFault, classesFault, mapFault, sharesFault, splitFault, taskFault, roomy, tablesFault}
@@ -59,9 +59,11 @@ module _ (T : Task) where
   of-operator : (o : ℕ) → Kind (operatorFault T o)
   unfolding operatorFault
   of-operator o =
-      both _ _ (range (leb (T .sas .cost o) mostCost) (lineOfOp o))
-      (both _ _ (of-facts (T .sas .pre o) (lineOfOp o))
-      (both _ _ (of-facts (T .sas .eff o) (lineOfOp o)) (rule (not (idle (T .sas) o)) (IdleOperator (lineOfOp o)) (inr (inr (inr (inr refl)))))))
+      let l = lineOfOp (T .edition) o in
+      both _ _ (range (leb (T .sas .cost o) mostCost) l)
+      (both _ _ (of-facts (T .sas .pre o) l)
+      (both _ _ (of-facts (T .sas .eff o) l)
+      (both _ _ (range (leb (T .mark o) mostMark) l) (rule (not (idle (T .sas) o)) (IdleOperator l) (inr (inr (inr (inr refl))))))))
 
   of-classes : (m l v : ℕ) → Kind (classesFault T m l v)
   unfolding classesFault
@@ -72,31 +74,33 @@ module _ (T : Task) where
   of-map : (m : ℕ) → Kind (mapFault T m)
   unfolding mapFault
   of-map m =
-      let l = lineOfMap (T .sas .ops) m in
+      let l = lineOfMap (T .edition) (T .sas .ops) m in
       let few = leb (abstractStates (T .sas) (view T m)) mostStates in
       both _ _ (walk (classesFault T m l) (of-classes m l) (T .sas .vars) 0)
       (rule few (TooManyStates l) (inr (inr (inr (inl refl)))))
 
   of-shares : (m : ℕ) → Kind (sharesFault T m)
   unfolding sharesFault
-  of-shares m = ranges (λ o. leb (T .share m o) mostCost) (lineOfShares (T .sas .ops) (T .maps) m) (T .sas .ops)
+  of-shares m = ranges (λ o. leb (T .share m o) mostCost) (lineOfShares (T .edition) (T .sas .ops) (T .maps) m) (T .sas .ops)
 
   of-split : (o : ℕ) → Kind (splitFault T o)
   unfolding splitFault
-  of-split o = rule (leb (sum (λ m. T .share m o) (T .maps)) (T .sas .cost o)) (SharesAboveCost (lineOfOp o)) (inr (inr (inl refl)))
+  of-split o = rule (leb (sum (λ m. T .share m o) (T .maps)) (T .sas .cost o)) (SharesAboveCost (lineOfOp (T .edition) o)) (inr (inr (inl refl)))
 
   of-task : Kind (taskFault T)
   unfolding taskFault
   of-task =
-      both _ _ (range (within 1 mostVars (T .sas .vars)) lineOfVars)
+      both _ _ (range (within 1 mostEdition (T .edition)) lineOfEdition)
+      (both _ _ (range (within 1 mostVars (T .sas .vars)) lineOfVars)
       (both _ _ (ranges (λ v. within 1 mostValues (T .sas .dom v)) lineOfDom (T .sas .vars))
       (both _ _ (ranges (λ v. ltb (T .sas .init v) (T .sas .dom v)) lineOfInit (T .sas .vars))
       (both _ _ (of-facts (T .sas .goal) lineOfGoal)
-      (both _ _ (range (leb (T .sas .ops) mostOps) lineOfOps)
+      (both _ _ (range (leb (T .quota) mostQuota) lineOfQuota)
+      (both _ _ (range (leb (T .sas .ops) mostOps) (lineOfOps (T .edition)))
       (both _ _ (walk (operatorFault T) of-operator (T .sas .ops) 0)
-      (both _ _ (range (within 1 mostMaps (T .maps)) (lineOfMaps (T .sas .ops)))
+      (both _ _ (range (within 1 mostMaps (T .maps)) (lineOfMaps (T .edition) (T .sas .ops)))
       (both _ _ (walk (mapFault T) of-map (T .maps) 0)
-      (both _ _ (walk (sharesFault T) of-shares (T .maps) 0) (walk (splitFault T) of-split (T .sas .ops) 0)))))))))
+      (both _ _ (walk (sharesFault T) of-shares (T .maps) 0) (walk (splitFault T) of-split (T .sas .ops) 0)))))))))))
 
 -- ---- THE NUMBERS OF A TASK AND OF TABLES
 

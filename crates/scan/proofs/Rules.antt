@@ -9,7 +9,7 @@ use lib.Dec.{leb, ltb}
 use borrow.Author.Tests.{leb-true, le-leb, ltb-true, ltb-false, lt-ltb, eqb-true, eq-eqb}
 use Rattle.refusals.specs.declared.Refusal.the-variants.{OutOfRange, ClassMissing, SharesAboveCost, TooManyStates, IdleOperator}
 use Rattle.meaning.specs.Sas.{Facts, IsState, Idle}
-use Rattle.meaning.specs.Limits.{mostVars, mostValues, mostOps, mostCost, mostMaps, mostStates}
+use Rattle.meaning.specs.Limits.{mostVars, mostValues, mostOps, mostCost, mostMaps, mostStates, mostEdition, mostQuota, mostMark}
 use Rattle.meaning.specs.Views.{abstractStates}
 use Rattle.meaning.specs.Split.{Task, countOf, sum, view}
 use Rattle.meaning.proofs.Facts.{and-left, and-right, every-true, true-every, by-cases}
@@ -19,7 +19,7 @@ use Rattle.scan.specs.Scan.{_then_, within, factsFault, operatorFault, c
 use Rattle.scan.specs.Inside.Parts.{headFault, linesFault, chargesFault, bodyFault}
 use Rattle.scan.proofs.Walks.{then-then, rule-is, then-is, walk-is}
 use Rattle.tables.specs.Classes.{someHas, noneMissing}
-use Rattle.tables.specs.Lines.{lineOfVars, lineOfDom, lineOfInit, lineOfGoal, lineOfOps, lineOfOp, lineOfMaps, lineOfMap, lineOfShares}
+use Rattle.tables.specs.Lines.{lineOfEdition, lineOfVars, lineOfDom, lineOfInit, lineOfGoal, lineOfQuota, lineOfOps, lineOfOp, lineOfMaps, lineOfMap, lineOfShares}
 
 -- ---- tests and what they say
 
@@ -68,7 +68,9 @@ module _ (T : Task) where
   FactsOk F = (v : ℕ) → v < T .sas .vars → F v ≤ T .sas .dom v
 
   abbrev pub OperatorOk : ℕ → Type 0
-  OperatorOk o = (T .sas .cost o ≤ mostCost) × (FactsOk (T .sas .pre o) × (FactsOk (T .sas .eff o) × (Idle (T .sas) o → ⊥)))
+  OperatorOk o =
+      (T .sas .cost o ≤ mostCost)
+      × (FactsOk (T .sas .pre o) × (FactsOk (T .sas .eff o) × ((T .mark o ≤ mostMark) × (Idle (T .sas) o → ⊥))))
 
   abbrev pub ClassesOk : ℕ → ℕ → Type 0
   ClassesOk m v =
@@ -80,9 +82,10 @@ module _ (T : Task) where
 
   abbrev pub HeadOk : Type 0
   HeadOk =
-      ((1 ≤ T .sas .vars) × (T .sas .vars ≤ mostVars))
+      ((1 ≤ T .edition) × (T .edition ≤ mostEdition))
+      × (((1 ≤ T .sas .vars) × (T .sas .vars ≤ mostVars))
       × (((v : ℕ) → v < T .sas .vars → (1 ≤ T .sas .dom v) × (T .sas .dom v ≤ mostValues))
-      × (IsState (T .sas) (T .sas .init) × (FactsOk (T .sas .goal) × (T .sas .ops ≤ mostOps))))
+      × (IsState (T .sas) (T .sas .init) × (FactsOk (T .sas .goal) × ((T .quota ≤ mostQuota) × (T .sas .ops ≤ mostOps))))))
 
   abbrev pub LinesOk : Type 0
   LinesOk =
@@ -103,9 +106,10 @@ module _ (T : Task) where
   operator-is : (o : ℕ) → (operatorFault T o ≡ Clean) ↔ OperatorOk o
   unfolding operatorFault
   operator-is o =
-      let line = lineOfOp o in
+      let line = lineOfOp (T .edition) o in
       then-is (rule-is (OutOfRange line) (le-is (T .sas .cost o) mostCost))
-      (then-is (facts-is (T .sas .pre o) line) (then-is (facts-is (T .sas .eff o) line) (rule-is (IdleOperator line) (not-idle-is (T .sas) o))))
+      (then-is (facts-is (T .sas .pre o) line) (then-is (facts-is (T .sas .eff o) line)
+      (then-is (rule-is (OutOfRange line) (le-is (T .mark o) mostMark)) (rule-is (IdleOperator line) (not-idle-is (T .sas) o)))))
 
   classes-is : (m line v : ℕ) → (classesFault T m line v ≡ Clean) ↔ ClassesOk m v
   unfolding classesFault
@@ -116,28 +120,30 @@ module _ (T : Task) where
   map-is : (m : ℕ) → (mapFault T m ≡ Clean) ↔ MapOk m
   unfolding mapFault
   map-is m =
-      let line = lineOfMap (T .sas .ops) m in
+      let line = lineOfMap (T .edition) (T .sas .ops) m in
       then-is (walk-is _ (T .sas .vars) (classes-is m line)) (rule-is (TooManyStates line) (le-is (abstractStates (T .sas) (view T m)) mostStates))
 
   head-is : (headFault T ≡ Clean) ↔ HeadOk
   unfolding headFault
   head-is =
-      then-is (rule-is (OutOfRange lineOfVars) (within-is 1 mostVars (T .sas .vars)))
+      then-is (rule-is (OutOfRange lineOfEdition) (within-is 1 mostEdition (T .edition)))
+      (then-is (rule-is (OutOfRange lineOfVars) (within-is 1 mostVars (T .sas .vars)))
       (then-is (walk-is _ (T .sas .vars) (λ v. rule-is (OutOfRange lineOfDom) (within-is 1 mostValues (T .sas .dom v))))
       (then-is (walk-is _ (T .sas .vars) (λ v. rule-is (OutOfRange lineOfInit) (lt-is (T .sas .init v) (T .sas .dom v))))
-      (then-is (facts-is (T .sas .goal) lineOfGoal) (rule-is (OutOfRange lineOfOps) (le-is (T .sas .ops) mostOps)))))
+      (then-is (facts-is (T .sas .goal) lineOfGoal)
+      (then-is (rule-is (OutOfRange lineOfQuota) (le-is (T .quota) mostQuota)) (rule-is (OutOfRange (lineOfOps (T .edition))) (le-is (T .sas .ops) mostOps)))))))
 
   lines-is : (linesFault T ≡ Clean) ↔ LinesOk
   unfolding linesFault
   lines-is =
       then-is (walk-is _ (T .sas .ops) operator-is)
-      (then-is (rule-is (OutOfRange (lineOfMaps (T .sas .ops))) (within-is 1 mostMaps (T .maps))) (walk-is _ (T .maps) map-is))
+      (then-is (rule-is (OutOfRange (lineOfMaps (T .edition) (T .sas .ops))) (within-is 1 mostMaps (T .maps))) (walk-is _ (T .maps) map-is))
 
   charges-is : (chargesFault T ≡ Clean) ↔ ChargesOk
   unfolding sharesFault splitFault
   charges-is =
-      then-is (walk-is _ (T .maps) (λ m. walk-is _ (T .sas .ops) (λ o. rule-is (OutOfRange (lineOfShares (T .sas .ops) (T .maps) m)) (le-is (T .share m o) mostCost))))
-      (walk-is _ (T .sas .ops) (λ o. rule-is (SharesAboveCost (lineOfOp o)) (le-is (sum (λ m. T .share m o) (T .maps)) (T .sas .cost o))))
+      then-is (walk-is _ (T .maps) (λ m. walk-is _ (T .sas .ops) (λ o. rule-is (OutOfRange (lineOfShares (T .edition) (T .sas .ops) (T .maps) m)) (le-is (T .share m o) mostCost))))
+      (walk-is _ (T .sas .ops) (λ o. rule-is (SharesAboveCost (lineOfOp (T .edition) o)) (le-is (sum (λ m. T .share m o) (T .maps)) (T .sas .cost o))))
 
   -- ---- THE WHOLE TASK IS ITS PARTS
 
@@ -152,13 +158,13 @@ module _ (T : Task) where
 
   module _ (head : headFault T ≡ Clean) where
     pub few-vars : T .sas .vars ≤ mostVars
-    few-vars = head-is .0 head .0 .1
+    few-vars = head-is .0 head .1 .0 .1
 
     pub few-values : (v : ℕ) → v < T .sas .vars → T .sas .dom v ≤ mostValues
-    few-values v l = head-is .0 head .1 .0 v l .1
+    few-values v l = head-is .0 head .1 .1 .0 v l .1
 
     pub few-ops : T .sas .ops ≤ mostOps
-    few-ops = head-is .0 head .1 .1 .1 .1
+    few-ops = head-is .0 head .1 .1 .1 .1 .1 .1
 
   pub few-maps : linesFault T ≡ Clean → T .maps ≤ mostMaps
   few-maps p = lines-is .0 p .1 .0 .1

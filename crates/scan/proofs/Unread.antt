@@ -10,18 +10,19 @@ use lib.ListN.{length}
 use borrow.Author.Tests.{leb-true}
 use Rattle.refusals.specs.declared.Refusal.{Refusal}
 use Rattle.refusals.specs.declared.Refusal.the-variants.{OutOfRange, ClassMissing, SharesAboveCost, TooManyStates, TableTooShort, ValueOutside, IdleOperator}
-use Rattle.meaning.specs.Limits.{mostVars, mostValues, mostOps, mostCost, mostMaps, mostStates}
+use Rattle.meaning.specs.Limits.{mostVars, mostValues, mostOps, mostCost, mostMaps, mostStates, mostEdition, mostQuota, mostMark}
 use Rattle.meaning.specs.Sas.{Facts}
 use Rattle.meaning.specs.Views.{every, asked, idle}
 use Rattle.meaning.specs.Split.{Task, countOf, Valid}
-use Rattle.meaning.proofs.Facts.{every-same}
+use Rattle.meaning.proofs.Facts.{by-cases, every-same}
 use Rattle.meaning.proofs.Columns.{sum-same}
 use Rattle.meaning.proofs.Unread.{size-alike, count-alike, SameTask, task-back}
 use Rattle.tables.specs.declared.Counts.{Counts}
-use Rattle.tables.specs.Layout.{Tables, domAt, initAt, goalAt, preAt, effAt, classAt, costAt, shareAt}
+use Rattle.tables.specs.Layout.{Tables, domAt, initAt, goalAt, preAt, effAt, classAt, costAt, shareAt, quotaOf, markAt, markOf}
+use Rattle.tables.specs.Editions.{hasQuota, readIn}
 use Rattle.tables.specs.Task.{tables, taskOf, stateOf}
 use Rattle.tables.specs.Classes.{someHas, noneMissing}
-use Rattle.tables.specs.Lines.{lineOfVars, lineOfDom, lineOfInit, lineOfGoal, lineOfOps, lineOfOp, lineOfMaps, lineOfMap, lineOfShares}
+use Rattle.tables.specs.Lines.{lineOfEdition, lineOfVars, lineOfDom, lineOfInit, lineOfGoal, lineOfQuota, lineOfOps, lineOfOp, lineOfMaps, lineOfMap, lineOfShares}
 use Rattle.scan.specs.declared.Found.{Found}
 use Rattle.scan.specs.declared.Found.the-variants.{Clean, Fault}
 use Rattle.scan.specs.Scan.{unless, _then_, each, within, factsFault, operatorFault, classesFault, mapFault, sharesFault, splitFault, taskFault, roomy}
@@ -70,9 +71,10 @@ values T =
     each (λ v. unless (within 1 mostValues (T .sas .dom v)) (OutOfRange lineOfDom)) (T .sas .vars) 0
     then each (λ v. unless (ltb (T .sas .init v) (T .sas .dom v)) (OutOfRange lineOfInit)) (T .sas .vars) 0
     then factsFault T (T .sas .goal) lineOfGoal
-    then unless (leb (T .sas .ops) mostOps) (OutOfRange lineOfOps)
+    then unless (leb (T .quota) mostQuota) (OutOfRange lineOfQuota)
+    then unless (leb (T .sas .ops) mostOps) (OutOfRange (lineOfOps (T .edition)))
     then each (operatorFault T) (T .sas .ops) 0
-    then unless (within 1 mostMaps (T .maps)) (OutOfRange (lineOfMaps (T .sas .ops)))
+    then unless (within 1 mostMaps (T .maps)) (OutOfRange (lineOfMaps (T .edition) (T .sas .ops)))
     then each (mapFault T) (T .maps) 0
     then each (sharesFault T) (T .maps) 0
     then each (splitFault T) (T .sas .ops) 0
@@ -87,6 +89,7 @@ pub record Agree (c : Counts) (f f′ k k′ s s′ : List ℕ) : Type 0 where
   pub class : (m v x : ℕ) → m < c .maps → m < mostMaps → v < c .vars → x < domAt f v → x < mostValues → classAt f m v x ≡ classAt f′ m v x
   pub cost : (o : ℕ) → o < c .ops → o < mostOps → costAt k o ≡ costAt k′ o
   pub share : (m o : ℕ) → m < c .maps → o < c .ops → shareAt s m o ≡ shareAt s′ m o
+  pub mark : (o : ℕ) → o < c .ops → o < mostOps → markOf c f o ≡ markOf c f′ o
 
 module _ (c : Counts) (f f′ k k′ s s′ : List ℕ) (A : Agree c f f′ k k′ s s′) where
   abbrev T : Task
@@ -109,10 +112,12 @@ module _ (c : Counts) (f f′ k k′ s s′ : List ℕ) (A : Agree c f f′ k k�
   operator-same : (o : ℕ) → o < c .ops → o < mostOps → operatorFault T o ≡ operatorFault T′ o
   unfolding operatorFault
   operator-same o l few =
-      ap₂ _then_ (ap (λ (x : ℕ). unless (leb x mostCost) (OutOfRange (lineOfOp o))) (A .cost o l few))
-      (ap₂ _then_ (facts-same (T .sas .pre o) (T′ .sas .pre o) (lineOfOp o) (λ v g. A .pre o v l few g))
-      (ap₂ _then_ (facts-same (T .sas .eff o) (T′ .sas .eff o) (lineOfOp o) (λ v g. A .eff o v l few g))
-      (ap (λ (b : Bool). unless (not b) (IdleOperator (lineOfOp o))) (idle-same o l few))))
+      let line = lineOfOp (c .edition) o in
+      ap₂ _then_ (ap (λ (x : ℕ). unless (leb x mostCost) (OutOfRange line)) (A .cost o l few))
+      (ap₂ _then_ (facts-same (T .sas .pre o) (T′ .sas .pre o) line (λ v g. A .pre o v l few g))
+      (ap₂ _then_ (facts-same (T .sas .eff o) (T′ .sas .eff o) line (λ v g. A .eff o v l few g))
+      (ap₂ _then_ (ap (λ (x : ℕ). unless (leb x mostMark) (OutOfRange line)) (A .mark o l few))
+      (ap (λ (b : Bool). unless (not b) (IdleOperator line)) (idle-same o l few)))))
 
   -- the rules of a variable's classes, by its number of values
   abbrev rules : (ℕ → ℕ) → ℕ → ℕ → Found
@@ -136,7 +141,7 @@ module _ (c : Counts) (f f′ k k′ s s′ : List ℕ) (A : Agree c f f′ k k�
     map-same : mapFault T m ≡ mapFault T′ m
     unfolding mapFault
     map-same =
-        let line = lineOfMap (c .ops) m in
+        let line = lineOfMap (c .edition) (c .ops) m in
         ap₂ _then_ (walk-same (classesFault T m line) (classesFault T′ m line) (c .vars) (λ v l. classes-same v line l))
         (ap (λ (x : ℕ). unless (leb x mostStates) (TooManyStates line))
         (size-alike (λ v. countOf (T .class m v) (T .sas .dom v)) (λ v. countOf (T′ .class m v) (T′ .sas .dom v)) (c .vars)
@@ -145,14 +150,14 @@ module _ (c : Counts) (f f′ k k′ s s′ : List ℕ) (A : Agree c f f′ k k�
   shares-same : (m : ℕ) → m < c .maps → sharesFault T m ≡ sharesFault T′ m
   unfolding sharesFault
   shares-same m lm =
-      let r = OutOfRange (lineOfShares (c .ops) (c .maps) m) in
+      let r = OutOfRange (lineOfShares (c .edition) (c .ops) (c .maps) m) in
       walk-same (λ o. unless (leb (T .share m o) mostCost) r) (λ o. unless (leb (T′ .share m o) mostCost) r) (c .ops)
       (λ o l. ap (λ (x : ℕ). unless (leb x mostCost) r) (A .share m o lm l))
 
   split-same : (o : ℕ) → o < c .ops → o < mostOps → splitFault T o ≡ splitFault T′ o
   unfolding splitFault
   split-same o l few =
-      ap₂ (λ (x y : ℕ). unless (leb x y) (SharesAboveCost (lineOfOp o)))
+      ap₂ (λ (x y : ℕ). unless (leb x y) (SharesAboveCost (lineOfOp (c .edition) o)))
       (sum-same (λ m. T .share m o) (λ m. T′ .share m o) (c .maps) (λ m g. A .share m o g l)) (A .cost o l few)
 
   values-same : values T ≡ values T′
@@ -165,17 +170,18 @@ module _ (c : Counts) (f f′ k k′ s s′ : List ℕ) (A : Agree c f f′ k k�
       (walk-same (λ v. unless (ltb (T .sas .init v) (T .sas .dom v)) (OutOfRange lineOfInit)) (λ v. unless (ltb (T′ .sas .init v) (T′ .sas .dom v)) (OutOfRange lineOfInit)) (c .vars)
       (λ v l. ap₂ (λ (x d : ℕ). unless (ltb x d) (OutOfRange lineOfInit)) (A .init v l) (A .dom v l)))
       (ap₂ _then_ (facts-same (T .sas .goal) (T′ .sas .goal) lineOfGoal (A .goal))
+      (ap (λ (g : Found). unless (leb (quotaOf c) mostQuota) (OutOfRange lineOfQuota) then g)
       (then-same _ _ _ _ refl
       (λ b.
-      let ops : c .ops ≤ mostOps = leb-true (c .ops) mostOps (rule-held (leb (c .ops) mostOps) (OutOfRange lineOfOps) b) in
+      let ops : c .ops ≤ mostOps = leb-true (c .ops) mostOps (rule-held (leb (c .ops) mostOps) (OutOfRange (lineOfOps (c .edition))) b) in
       ap₂ _then_ (walk-same (operatorFault T) (operatorFault T′) (c .ops) (λ o l. operator-same o l (omega arith)))
       (then-same _ _ _ _ refl
       (λ g.
-      let maps = within-says 1 mostMaps (c .maps) (rule-held (within 1 mostMaps (c .maps)) (OutOfRange (lineOfMaps (c .ops))) g) .1 in
+      let maps = within-says 1 mostMaps (c .maps) (rule-held (within 1 mostMaps (c .maps)) (OutOfRange (lineOfMaps (c .edition) (c .ops))) g) .1 in
       let fits : (v : ℕ) → v < c .vars → domAt f v ≤ mostValues = λ v h. within-says 1 mostValues (domAt f v)
       (tests-held (λ v. within 1 mostValues (domAt f v)) (λ v. OutOfRange lineOfDom) (c .vars) v e h) .1 in
       ap₂ _then_ (walk-same (mapFault T) (mapFault T′) (c .maps) (λ m l. map-same m l (omega (arith, maps)) fits))
-      (ap₂ _then_ (walk-same (sharesFault T) (sharesFault T′) (c .maps) shares-same) (walk-same (splitFault T) (splitFault T′) (c .ops) (λ o l. split-same o l (omega arith))))))))))
+      (ap₂ _then_ (walk-same (sharesFault T) (sharesFault T′) (c .maps) shares-same) (walk-same (splitFault T) (splitFault T′) (c .ops) (λ o l. split-same o l (omega arith)))))))))))
 
   -- a valid task's tables spell the same task
   task-alike : Valid T → SameTask T T′
@@ -194,6 +200,9 @@ module _ (c : Counts) (f f′ k k′ s s′ : List ℕ) (A : Agree c f f′ k k�
         maps = refl;
         class = λ m v x lm l h. A .class m v x lm (omega (arith, ok .maps .1)) l h (omega (arith, ok .values v l));
         share = A .share;
+        edition = refl;
+        quota = refl;
+        mark = λ o l. A .mark o l (omega (arith, ok .ops));
       }
 
 -- t and u are read alike: the same first fault, and where there is none, the same task
@@ -213,7 +222,9 @@ module _ (c : Counts) (f f′ k k′ s s′ : List ℕ) (room : roomy (tables c 
 
   task-same : roomy (tables c f k s) ≡ true → taskFault (taskOf (tables c f k s)) ≡ taskFault (taskOf (tables c f′ k′ s′))
   unfolding taskFault
-  task-same e = then-same _ _ _ _ refl (λ g. values-same c f f′ k k′ s s′ (A e (few g)))
+  task-same e =
+      ap (λ (g : Found). unless (within 1 mostEdition (c .edition)) (OutOfRange lineOfEdition) then g)
+      (then-same _ _ _ _ refl (λ g. values-same c f f′ k k′ s s′ (A e (few g))))
 
   tables-same : tablesFault (tables c f k s) ≡ tablesFault (tables c f′ k′ s′)
   unfolding tablesFault
@@ -225,7 +236,10 @@ module _ (c : Counts) (f f′ k k′ s s′ : List ℕ) (room : roomy (tables c 
   unfolding tablesFault taskFault
   clean-agree e =
       A (rule-held (roomy (tables c f k s)) TableTooShort (clean-first _ _ e))
-      (few (clean-first _ _ (clean-next (unless (roomy (tables c f k s)) TableTooShort) _ e)))
+      (few
+      (clean-first _ _
+      (clean-next (unless (within 1 mostEdition (c .edition)) (OutOfRange lineOfEdition)) _
+      (clean-next (unless (roomy (tables c f k s)) TableTooShort) _ e))))
 
   pub read-alike : ReadAlike (tables c f k s) (tables c f′ k′ s′)
   read-alike =
@@ -233,13 +247,35 @@ module _ (c : Counts) (f f′ k k′ s s′ : List ℕ) (room : roomy (tables c 
 
 -- ---- OWN PLACES ALONE ARE READ
 
+-- a task is told by the counts that are read, and the tables
+abbrev told : ℕ → ℕ → ℕ → ℕ → ℕ → Tables → Task
+told vars ops maps e q t =
+    taskOf (tables (record { vars = vars; ops = ops; maps = maps; edition = e; quota = q }) (t .facts) (t .costs) (t .shares))
+
+-- the quota that is read is the one that is read of it again
+twice-read : (e x : ℕ) → readIn e (readIn e x) ≡ readIn e x
+twice-read e x = by-cases (hasQuota e) (λ h. rw h refl) (λ h. rw h refl)
+
+told-is : (t : Tables) → told (t .counts .vars) (t .counts .ops) (t .counts .maps) (t .counts .edition) (quotaOf (t .counts)) t ≡ taskOf t
+told-is t = ap (λ (q : ℕ). withQuota q (taskOf t)) (twice-read (t .counts .edition) (t .counts .quota))
+  where
+    withQuota : ℕ → Task → Task
+    withQuota q T =
+        record { sas = T .sas; maps = T .maps; class = T .class; share = T .share; edition = T .edition; quota = q; mark = T .mark }
+
 module _ (t u : Tables) (O : OwnSame t u) where
-  -- u's tables with the counts of t
+  -- u's tables with the counts of t spell u's task
   abbrev beside : Tables
   beside = tables (t .counts) (u .facts) (u .costs) (u .shares)
 
-  beside-is : beside ≡ u
-  beside-is = ap (λ (c : Counts). tables c (u .facts) (u .costs) (u .shares)) (O .counts)
+  beside-is : taskOf beside ≡ taskOf u
+  beside-is =
+      let c = O .counts in
+      sym (told-is beside)
+      ∙ ap (λ (v : ℕ). told v (t .counts .ops) (t .counts .maps) (t .counts .edition) (quotaOf (t .counts)) u) (c .vars)
+      ∙ ap₂ (λ (o m : ℕ). told (u .counts .vars) o m (t .counts .edition) (quotaOf (t .counts)) u) (c .ops) (c .maps)
+      ∙ ap₂ (λ (e q : ℕ). told (u .counts .vars) (u .counts .ops) (u .counts .maps) e q u) (c .edition) (c .quota)
+      ∙ told-is u
 
   own-agree : Agree (t .counts) (t .facts) (u .facts) (t .costs) (u .costs) (t .shares) (u .shares)
   own-agree =
@@ -252,12 +288,21 @@ module _ (t u : Tables) (O : OwnSame t u) where
         class = λ m v x lm few l h fits. O .class m v x lm l h;
         cost = λ o l few. O .cost o l;
         share = O .share;
+        mark = λ o l few. O .mark o l ∙ ap (λ (e : ℕ). readIn e (markAt (u .facts) o)) (sym (O .counts .edition));
       }
 
+  same-room : roomy t ≡ roomy beside
+  unfolding roomy
+  same-room = O .room
+
   pub own-alike : ReadAlike t u
+  unfolding tablesFault roomy
   own-alike =
-      subst (ReadAlike t) beside-is
-      (read-alike (t .counts) (t .facts) (u .facts) (t .costs) (u .costs) (t .shares) (u .shares) (O .room ∙ ap roomy (sym beside-is)) (λ e few. own-agree))
+      let E = read-alike (t .counts) (t .facts) (u .facts) (t .costs) (u .costs) (t .shares) (u .shares) same-room (λ e few. own-agree) in
+      record {
+        fault = E .fault ∙ ap (λ (T : Task). unless (roomy u) TableTooShort then taskFault T) beside-is;
+        task = λ e. subst (SameTask (taskOf t)) beside-is (E .task e);
+      }
 
 -- ---- the state beside them
 

@@ -28,19 +28,22 @@ task-valid T = (
       let head = q .0 in
       let lines = q .1 .0 in
       record {
-        vars = head .0;
-        values = λ v i. head .1 .0 v i .1;
+        edition = head .0;
+        vars = head .1 .0;
+        values = λ v i. head .1 .1 .0 v i .1;
         proper =
             record {
-              values = λ v i. head .1 .0 v i .0;
-              init = head .1 .1 .0;
-              goal = head .1 .1 .1 .0;
+              values = λ v i. head .1 .1 .0 v i .0;
+              init = head .1 .1 .1 .0;
+              goal = head .1 .1 .1 .1 .0;
               pre = λ o v i. lines .0 o i .1 .0 v;
               eff = λ o v i. lines .0 o i .1 .1 .0 v;
             };
-        ops = head .1 .1 .1 .1;
+        quota = head .1 .1 .1 .1 .1 .0;
+        ops = head .1 .1 .1 .1 .1 .1;
         costs = λ o i. lines .0 o i .0;
-        none-idle = λ o i. lines .0 o i .1 .1 .1;
+        marks = λ o i. lines .0 o i .1 .1 .1 .0;
+        none-idle = λ o i. lines .0 o i .1 .1 .1 .1;
         maps = lines .1 .0;
         classes = λ m v x i j. lines .1 .1 m i .0 v j .0 x;
         none-missing = λ m v c i j. lines .1 .1 m i .0 v j .1 c;
@@ -51,10 +54,10 @@ task-valid T = (
   λ h.
       let p = h .proper in
       task-is T .1 (
-        (h .vars, (λ v i. (p .values v i, h .values v i), (p .init, (p .goal, h .ops)))),
+        (h .edition, (h .vars, (λ v i. (p .values v i, h .values v i), (p .init, (p .goal, (h .quota, h .ops)))))),
         (
           (
-            λ o i. (h .costs o i, (λ v. p .pre o v i, (λ v. p .eff o v i, h .none-idle o i))),
+            λ o i. (h .costs o i, (λ v. p .pre o v i, (λ v. p .eff o v i, (h .marks o i, h .none-idle o i)))),
             (h .maps, λ m i. (λ v j. (λ x. h .classes m v x i j, λ c. h .none-missing m v c i j), h .few-states m i)),
           ),
           (λ m i o. h .shares m o i, h .split),

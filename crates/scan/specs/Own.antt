@@ -5,13 +5,22 @@ use Prim.Native.Nat.{ℕ, _<_}
 use lib.Dec.{leb}
 use lib.ListN.{length}
 use Rattle.tables.specs.declared.Counts.{Counts}
-use Rattle.tables.specs.Layout.{Tables, domAt, initAt, goalAt, preAt, effAt, classAt, costAt, shareAt}
+use Rattle.tables.specs.Layout.{Tables, domAt, initAt, goalAt, preAt, effAt, classAt, costAt, shareAt, quotaOf, markOf}
 use Rattle.tables.specs.Task.{stateOf}
 use Rattle.scan.specs.Scan.{roomy}
 
--- t and u have the same counts and both have room or neither, and they agree at every place of the task's own: what stands in any other place may differ
+-- the same counts, as far as they are read: in edition 1 the quota isn't
+pub record SameCounts (c d : Counts) : Type 0 where
+  pub vars : c .vars ≡ d .vars
+  pub ops : c .ops ≡ d .ops
+  pub maps : c .maps ≡ d .maps
+  pub edition : c .edition ≡ d .edition
+  pub quota : quotaOf c ≡ quotaOf d
+
+-- t and u have the same counts and both have room or neither, and they agree at every place of the task's own: what stands in any other place may differ. The
+-- marks are the task's own in edition 2 alone
 pub record OwnSame (t u : Tables) : Type 0 where
-  pub counts : t .counts ≡ u .counts
+  pub counts : SameCounts (t .counts) (u .counts)
   pub room : roomy t ≡ roomy u
   pub dom : (v : ℕ) → v < t .counts .vars → domAt (t .facts) v ≡ domAt (u .facts) v
   pub init : (v : ℕ) → v < t .counts .vars → initAt (t .facts) v ≡ initAt (u .facts) v
@@ -22,6 +31,7 @@ pub record OwnSame (t u : Tables) : Type 0 where
       → classAt (t .facts) m v x ≡ classAt (u .facts) m v x
   pub cost : (o : ℕ) → o < t .counts .ops → costAt (t .costs) o ≡ costAt (u .costs) o
   pub share : (m o : ℕ) → m < t .counts .maps → o < t .counts .ops → shareAt (t .shares) m o ≡ shareAt (u .shares) m o
+  pub mark : (o : ℕ) → o < t .counts .ops → markOf (t .counts) (t .facts) o ≡ markOf (u .counts) (u .facts) o
 
 -- two lent states both have a place a variable or neither has, and they agree there: further places may differ
 pub record OwnState (c : Counts) (s z : List ℕ) : Type 0 where

@@ -12,11 +12,14 @@ ghost use Rattle.scan.specs.declared.Found.the-variants.{Clean};
 ghost use Rattle.tables.specs.Layout.{rowAt, domAt, shareAt, factsRoom, costsRoom, sharesRoom};
 ghost use Rattle.tables.specs.Task.{tables, taskOf, lent, was};
 ghost use Rattle.scan.specs.Scan.{unless, each, within, mapFault, sharesFault, splitFault, taskFault, tablesFault, stateFault, inputFault};
-ghost use Rattle.scan.specs.Inside.Parts.{factsFit, variableHolds, opsFault, goalFault, initFault, domFault, headFault, linesFault, chargesFault, bodyFault};
+ghost use Rattle.scan.specs.Inside.Parts.{factsFit, variableHolds, opsFault, quotaFault, goalFault, initFault, domFault, headFault, linesFault, chargesFault, bodyFault};
 use meaning::OpNo;
 use meaning::limits::COST_MOST;
+use meaning::limits::EDITION_MOST;
 use meaning::limits::MAPS_MOST;
+use meaning::limits::MARK_MOST;
 use meaning::limits::OPS_MOST;
+use meaning::limits::QUOTA_MOST;
 use meaning::limits::STATES_MOST;
 use meaning::limits::VALUES_MOST;
 use meaning::limits::VARS_MOST;
@@ -26,13 +29,15 @@ use tables::classes::Classes;
 use tables::classes::classes_of;
 use tables::classes::word_of;
 use tables::lines::DOM_LINE;
+use tables::lines::EDITION_LINE;
 use tables::lines::GOAL_LINE;
 use tables::lines::INIT_LINE;
-use tables::lines::OPS_LINE;
+use tables::lines::QUOTA_LINE;
 use tables::lines::VARS_LINE;
 use tables::lines::map_line;
 use tables::lines::maps_line;
 use tables::lines::op_line;
+use tables::lines::ops_line;
 use tables::lines::shares_line;
 use tables::readers::COSTS_ROOM;
 use tables::readers::DOM_ROW;
@@ -44,7 +49,9 @@ use tables::readers::byte_at;
 use tables::readers::class_row;
 use tables::readers::cost_at;
 use tables::readers::eff_row;
+use tables::readers::mark_of;
 use tables::readers::pre_row;
+use tables::readers::quota_of;
 use tables::readers::row_at;
 use tables::readers::share_at;
 use tables::steps::is_idle;
@@ -116,13 +123,23 @@ fn variables_fault(vars: u32, facts: &[u8], line: u32) -> Found
 }
 
 // The lines before the operators, link by link, each with what follows it: how many operators.
-fn ops_fault(ops: u32) -> Found
-    ensures { λ r. ⌜ r ≡ opsFault ops ⌝ }
+fn ops_fault(c: Counts, facts: &[u8]) -> Found
+    ensures { λ r. ⌜ r ≡ opsFault (taskOf (tables c (was facts) [] [])) ⌝ }
 {
-    if OPS_MOST < ops {
-        return Found::Fault(Refusal::OutOfRange(OPS_LINE));
+    if OPS_MOST < c.ops {
+        return Found::Fault(Refusal::OutOfRange(ops_line(c.edition)));
     }
     Found::Clean
+}
+
+// How many tests may be stored.
+fn quota_fault(c: Counts, facts: &[u8]) -> Found
+    ensures { λ r. ⌜ r ≡ quotaFault (taskOf (tables c (was facts) [] [])) ⌝ }
+{
+    if QUOTA_MOST < quota_of(c) {
+        return Found::Fault(Refusal::OutOfRange(QUOTA_LINE));
+    }
+    ops_fault(c, facts)
 }
 
 // The goal.
@@ -133,7 +150,7 @@ fn goal_fault(c: Counts, facts: &[u8]) -> Found
     let Found::Clean = goal else {
         return goal;
     };
-    ops_fault(c.ops)
+    quota_fault(c, facts)
 }
 
 // The initial state.
@@ -158,10 +175,13 @@ fn dom_fault(c: Counts, facts: &[u8]) -> Found
     init_fault(c, facts)
 }
 
-// How many variables.
+// Which edition, and how many variables.
 fn head_fault(c: Counts, facts: &[u8]) -> Found
     ensures { λ r. ⌜ r ≡ headFault (taskOf (tables c (was facts) [] [])) ⌝ }
 {
+    if !lies_within(1, EDITION_MOST, c.edition) {
+        return Found::Fault(Refusal::OutOfRange(EDITION_LINE));
+    }
     if !lies_within(1, VARS_MOST, c.vars) {
         return Found::Fault(Refusal::OutOfRange(VARS_LINE));
     }
@@ -173,7 +193,7 @@ fn map_fault(c: Counts, facts: &[u8], m: u32) -> Found
     requires { ⌜ (headFault (taskOf (tables c (now facts) [] [])) ≡ Clean) × (m < mostMaps) ⌝ }
     ensures { λ r. ⌜ r ≡ mapFault (taskOf (tables c (was facts) [] [])) m ⌝ }
 {
-    let line = map_line(c.ops, m);
+    let line = map_line(c.edition, c.ops, m);
     let vars = c.vars;
     let mut states = 1u32;
     for v in 0..vars {
@@ -200,7 +220,7 @@ fn lines_fault(c: Counts, facts: &[u8], costs: &[u32]) -> Found
     let maps = c.maps;
     let found = 'scan: loop {
         for o in 0..ops {
-            let line = op_line(OpNo(o));
+            let line = op_line(c.edition, OpNo(o));
             if COST_MOST < cost_at(costs, OpNo(o)) {
                 break 'scan Found::Fault(Refusal::OutOfRange(line));
             }
@@ -210,12 +230,15 @@ fn lines_fault(c: Counts, facts: &[u8], costs: &[u32]) -> Found
                     break 'scan Found::Fault(Refusal::OutOfRange(line));
                 }
             }
+            if MARK_MOST < mark_of(c, facts, OpNo(o)) {
+                break 'scan Found::Fault(Refusal::OutOfRange(line));
+            }
             if is_idle(vars, facts, OpNo(o)) {
                 break 'scan Found::Fault(Refusal::IdleOperator(line));
             }
         }
         if !lies_within(1, MAPS_MOST, maps) {
-            break Found::Fault(Refusal::OutOfRange(maps_line(ops)));
+            break Found::Fault(Refusal::OutOfRange(maps_line(c.edition, ops)));
         }
         for m in 0..maps {
             let map = map_fault(c, facts, m);
@@ -233,12 +256,13 @@ fn shares_fault(c: Counts, shares: &[u32]) -> Found
     requires { ⌜ (c .ops ≤ mostOps) × (c .maps ≤ mostMaps) ⌝ }
     ensures { λ r. ⌜ r ≡ each (sharesFault (taskOf (tables c [] [] (was shares)))) (c .maps) 0 ⌝ }
 {
+    let edition = c.edition;
     let ops = c.ops;
     let maps = c.maps;
     for m in 0..maps {
         for o in 0..ops {
             if COST_MOST < share_at(shares, m, OpNo(o)) {
-                return Found::Fault(Refusal::OutOfRange(shares_line(ops, maps, m)));
+                return Found::Fault(Refusal::OutOfRange(shares_line(edition, ops, maps, m)));
             }
         }
     }
@@ -261,12 +285,13 @@ fn split_fault(c: Counts, costs: &[u32], shares: &[u32]) -> Found
     requires { ⌜ c .ops ≤ mostOps ⌝ }
     ensures { λ r. ⌜ r ≡ each (splitFault (taskOf (tables c [] (was costs) (was shares)))) (c .ops) 0 ⌝ }
 {
+    let edition = c.edition;
     let ops = c.ops;
     let maps = c.maps;
     for o in 0..ops {
         let cost = cost_at(costs, OpNo(o)) as u64;
         if cost < share_total(maps, shares, OpNo(o)) {
-            return Found::Fault(Refusal::SharesAboveCost(op_line(OpNo(o))));
+            return Found::Fault(Refusal::SharesAboveCost(op_line(edition, OpNo(o))));
         }
     }
     Found::Clean

@@ -7,10 +7,10 @@ use mathlib.Core.Bool.{Bool, true, false, and-false}
 use mathlib.Core.Logic.{_⊎_, ⊎-elim}
 use native.Mathlib.Numerals.{add-one}
 use native.Mathlib.Omega.{arith}
-use lib.Dec.{ltb, eqb}
+use lib.Dec.{ltb, leb, eqb}
 use lib.ListN.{length, getD, set, length-set}
 use lib.Seq.{getD-set-same, getD-set-other}
-use borrow.Author.Tests.{ltb-true, ltb-false, eqb-true, eqb-false, eq-eqb, ne-eqb}
+use borrow.Author.Tests.{ltb-true, ltb-false, eqb-true, eqb-false, eq-eqb, ne-eqb, leb-true, leb-false, le-leb, lt-leb}
 use Rattle.meaning.specs.Sas.{put}
 use Rattle.meaning.specs.Views.{holds, every}
 use Rattle.meaning.proofs.Facts.{by-cases}
@@ -97,3 +97,10 @@ holds-said (suc k) x h = let q : suc k - 1 ≡ k = omega arith in ap (eqb x) q
 pub put-said : (f x : ℕ) → (f ≡ 0 → ⊥) → f - 1 ≡ put f x
 put-said zero x h = absurd (h refl)
 put-said (suc k) x h = omega arith
+
+-- ---- what is left of a quota
+
+pub left-enough : (n m q : ℕ) → n ≤ q → leb m (q - n) ≡ leb (n + m) q
+left-enough n m q h =
+    by-cases (leb (n + m) q) (λ e. le-leb m (q - n) (omega (arith, leb-true (n + m) q e)) ∙ sym e)
+    (λ e. lt-leb m (q - n) (omega (arith, leb-false (n + m) q e)) ∙ sym e)

@@ -4,6 +4,7 @@ use Prim.Native.Nat.{ℕ, _+_, _*_}
 use mathlib.Core.List.{List}
 use lib.ListN.{getD}
 use Rattle.tables.specs.declared.Counts.{Counts}
+use Rattle.tables.specs.Editions.{readIn}
 
 -- the tables of a task: its counts, its facts (a byte each), its costs and its shares
 pub record Tables : Type 0 where
@@ -26,7 +27,7 @@ initRow = 1
 abbrev pub goalRow : ℕ
 goalRow = 2
 
--- operator o's preconditions and effects; the classes of variable v in map m; the 8 rows after them are spare
+-- operator o's preconditions and effects; the classes of variable v in map m
 abbrev pub preRow : ℕ → ℕ
 preRow o = 3 + o
 
@@ -35,6 +36,10 @@ effRow o = 67 + o
 
 abbrev pub classRow : ℕ → ℕ → ℕ
 classRow m v = 131 + (m * 8 + v)
+
+-- the operators' marks: as many places as there may be operators, so that they fill this row and the 7 after it, the last
+abbrev pub markRow : ℕ
+markRow = 195
 
 -- the room for the largest task: 8 variables of 8 values, 64 operators, 8 maps
 abbrev pub factsRoom : ℕ
@@ -65,6 +70,9 @@ effPlace o v = place (effRow o) v
 abbrev pub classPlace : ℕ → ℕ → ℕ → ℕ
 classPlace m v x = place (classRow m v) x
 
+abbrev pub markPlace : ℕ → ℕ
+markPlace o = place markRow o
+
 -- in the shares: what operator o costs in map m
 abbrev pub sharePlace : ℕ → ℕ → ℕ
 sharePlace m o = m * 64 + o
@@ -91,8 +99,18 @@ effAt f o v = rowAt f (effRow o) v
 abbrev pub classAt : List ℕ → ℕ → ℕ → ℕ → ℕ
 classAt f m v x = rowAt f (classRow m v) x
 
+abbrev pub markAt : List ℕ → ℕ → ℕ
+markAt f o = rowAt f markRow o
+
 abbrev pub costAt : List ℕ → ℕ → ℕ
 costAt c o = getD c o 0
 
 abbrev pub shareAt : List ℕ → ℕ → ℕ → ℕ
 shareAt s m o = getD s (sharePlace m o) 0
+
+-- the quota and the mark of operator o, which edition 2 alone reads
+abbrev pub quotaOf : Counts → ℕ
+quotaOf c = readIn (c .edition) (c .quota)
+
+abbrev pub markOf : Counts → List ℕ → ℕ → ℕ
+markOf c f o = readIn (c .edition) (markAt f o)

@@ -1,4 +1,5 @@
 pub mod Layout
+pub mod Editions
 pub mod Lines
 pub mod Task
 pub mod Steps

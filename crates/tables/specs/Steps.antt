@@ -1,14 +1,15 @@
--- Steps over the lent tables: may run, meets the goal, the state after, as lists; and which operators alter nothing. `proofs/Meant.antt` shows that they are those of the task.
+-- Steps over the lent tables: may run, may store, meets the goal, the state after, as lists; and which operators alter nothing. `proofs/Meant.antt` shows that they are those of the task.
 use mathlib.Core.Bool.{Bool}
 use mathlib.Core.List.{List}
-use Prim.Native.Nat.{ℕ, zero, suc}
+use Prim.Native.Nat.{ℕ, zero, suc, _+_}
+use lib.Dec.{leb}
 use lib.ListN.{getD, set, replicate}
 use Rattle.meaning.specs.Limits.{mostVars}
 use Rattle.meaning.specs.Sas.{put}
 use Rattle.meaning.specs.Views.{holds, every, asked}
 use Rattle.tables.specs.declared.Counts.{Counts}
 use Rattle.tables.specs.Task.{stateOf}
-use Rattle.tables.specs.Layout.{rowAt, preAt, effAt, goalRow, preRow, effRow}
+use Rattle.tables.specs.Layout.{rowAt, preAt, effAt, goalRow, preRow, effRow, quotaOf, markOf}
 
 -- what a row of facts says of variable v holds in the state; of the first n variables
 abbrev pub saysOf : List ℕ → ℕ → List ℕ → ℕ → Bool
@@ -24,6 +25,10 @@ mayRun c facts s o = rowHolds (c .vars) facts (preRow o) s
 -- the state meets the goal
 unfoldable pub meetsGoal : Counts → List ℕ → List ℕ → Bool
 meetsGoal c facts s = rowHolds (c .vars) facts goalRow s
+
+-- after n stored tests operator o doesn't store beyond the quota
+unfoldable pub canStore : Counts → List ℕ → ℕ → ℕ → Bool
+canStore c facts n o = leb (n + markOf c facts o) (quotaOf c)
 
 -- the list with f k at each place k below n
 unfoldable pub overwritten : (ℕ → ℕ) → List ℕ → ℕ → List ℕ

@@ -7,7 +7,7 @@ use denote.Triple.Both.{Both}
 use Rattle.meaning.specs.Sas.{State, Sas}
 use Rattle.meaning.specs.Split.{Task}
 use Rattle.tables.specs.declared.Counts.{Counts}
-use Rattle.tables.specs.Layout.{Tables, domAt, initAt, goalAt, preAt, effAt, classAt, costAt, shareAt}
+use Rattle.tables.specs.Layout.{Tables, domAt, initAt, goalAt, preAt, effAt, classAt, costAt, shareAt, quotaOf, markOf}
 
 abbrev pub sasOf : Tables → Sas
 sasOf t =
@@ -23,7 +23,16 @@ sasOf t =
     }
 
 abbrev pub taskOf : Tables → Task
-taskOf t = record { sas = sasOf t; maps = t .counts .maps; class = classAt (t .facts); share = shareAt (t .shares) }
+taskOf t =
+    record {
+      sas = sasOf t;
+      maps = t .counts .maps;
+      class = classAt (t .facts);
+      share = shareAt (t .shares);
+      edition = t .counts .edition;
+      quota = quotaOf (t .counts);
+      mark = markOf (t .counts) (t .facts);
+    }
 
 abbrev pub tables : Counts → List ℕ → List ℕ → List ℕ → Tables
 tables c facts costs shares = record { counts = c; facts = facts; costs = costs; shares = shares }

@@ -4,9 +4,11 @@ pub mod lines;
 pub mod readers;
 pub mod steps;
 
-// How many variables, operators and maps the task has.
+// How many variables, operators and maps the task has; the edition of its text, and the quota of stored tests, which edition 1 hasn't: there it isn't read.
 pub struct Counts {
     pub vars: u32,
     pub ops: u32,
     pub maps: u32,
+    pub edition: u32,
+    pub quota: u32,
 }

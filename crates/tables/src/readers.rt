@@ -4,9 +4,11 @@ ghost use mathlib.Core.Bool.{true};
 ghost use Prim.Native.Nat.{_<_};
 ghost use lib.ListN.{length, getD};
 ghost use Rattle.meaning.specs.Limits.{mostVars, mostOps, mostMaps};
-ghost use Rattle.tables.specs.Layout.{rowAt, preRow, effRow, classRow, costAt, shareAt};
+ghost use Rattle.tables.specs.Layout.{rowAt, preRow, effRow, classRow, costAt, shareAt, quotaOf, markOf};
 ghost use Rattle.tables.specs.Task.{was};
+use crate::Counts;
 use meaning::OpNo;
+use meaning::limits::QUOTA_EDITION;
 use meaning::op_index;
 
 // The row of the variables' numbers of values, of the initial state, of the goal.
@@ -16,12 +18,14 @@ pub const INIT_ROW: u32 = 1;
 
 pub const GOAL_ROW: u32 = 2;
 
-// The first row of the operators' preconditions, of their effects, and of the maps' classes.
+// The first row of the operators' preconditions, of their effects, of the maps' classes, and of the operators' marks.
 pub const PRE_ROWS: u32 = 3;
 
 pub const EFF_ROWS: u32 = 67;
 
 pub const CLASS_ROWS: u32 = 131;
+
+pub const MARK_ROW: u32 = 195;
 
 // The room for the largest task, in places.
 pub const FACTS_ROOM: usize = 1624;
@@ -95,4 +99,26 @@ pub fn share_at(shares: &[u32], m: u32, o: OpNo) -> u32
     ensures { λ r. ⌜ r ≡ shareAt (was shares) m (o .0) ⌝ }
 {
     word_at(shares, m as usize * 64 + op_index(o))
+}
+
+// The quota of stored tests: edition 2 alone has one.
+pub fn quota_of(c: Counts) -> u32
+    ensures { λ r. ⌜ r ≡ quotaOf c ⌝ }
+{
+    if c.edition == QUOTA_EDITION {
+        c.quota
+    } else {
+        0
+    }
+}
+
+// How many tests an operator stores: edition 2 alone has marks.
+pub fn mark_of(c: Counts, facts: &[u8], o: OpNo) -> u32
+    ensures { λ r. ⌜ r ≡ markOf c (was facts) (o .0) ⌝ }
+{
+    if c.edition == QUOTA_EDITION {
+        row_at(facts, MARK_ROW, o.0) as u32
+    } else {
+        0
+    }
 }

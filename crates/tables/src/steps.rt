@@ -1,10 +1,10 @@
-// Whether an operator may run in a state, whether a state meets the goal, the state after a step, and whether an operator is idle.
+// Whether an operator may run in a state, whether it may store a test, whether a state meets the goal, the state after a step, and whether an operator is idle.
 ghost use mathlib.Core.Path.{_≡_};
 ghost use Prim.Native.Nat.{_≤_, _<_};
 ghost use Rattle.meaning.specs.Limits.{mostVars, mostOps};
 ghost use Rattle.meaning.specs.Sas.{put};
 ghost use Rattle.meaning.specs.Views.{holds, asked};
-ghost use Rattle.tables.specs.Steps.{rowHolds, mayRun, meetsGoal, stepped, isIdle};
+ghost use Rattle.tables.specs.Steps.{rowHolds, mayRun, canStore, meetsGoal, stepped, isIdle};
 ghost use Rattle.tables.specs.Task.{was};
 use crate::Counts;
 use crate::readers::EFF_ROWS;
@@ -13,7 +13,9 @@ use crate::readers::PRE_ROWS;
 use crate::readers::byte_at;
 use crate::readers::eff_row;
 use crate::readers::known_byte;
+use crate::readers::mark_of;
 use crate::readers::pre_row;
+use crate::readers::quota_of;
 use meaning::OpNo;
 use meaning::op_index;
 
@@ -51,6 +53,18 @@ pub fn may_run(c: Counts, facts: &[u8], s: &[u8], o: OpNo) -> bool
     ensures { λ r. ⌜ r ≡ mayRun c (was facts) (was s) (o .0) ⌝ }
 {
     row_holds(c.vars, facts, pre_row(o), s)
+}
+
+// After so many stored tests the operator doesn't store beyond the quota.
+pub fn can_store(c: Counts, facts: &[u8], stored: u32, o: OpNo) -> bool
+    ensures { λ r. ⌜ r ≡ canStore c (was facts) stored (o .0) ⌝ }
+{
+    let quota = quota_of(c);
+    if stored <= quota {
+        mark_of(c, facts, o) <= quota - stored
+    } else {
+        false
+    }
 }
 
 // The state meets the goal.

@@ -1,4 +1,4 @@
--- `goal_fault` meets its contract: a fault of the goal is handed on, and then the count of operators decides. Assumes nothing.
+-- `goal_fault` meets its contract: a fault of the goal is handed on, and then the quota decides. Assumes nothing.
 use mathlib.Core.Path.{_∙_}
 use borrow.Author.Needs.{needs}
 use Rattle.scan.specs.Scan.{factsFault}
@@ -12,7 +12,7 @@ returns c = let e = c .enum-told2 .given in hands-on _ _ _ (e .0 .0) (c .before 
 
 returns-2 : tie.Need-returns-2
 unfolding factsFault
-returns-2 c = c .ops-fault .ensures ∙ goes-on _ _ _ (c .before .before .before .variables-fault .ensures) (c .before .enum-told .given .1)
+returns-2 c = c .quota-fault .ensures ∙ goes-on _ _ _ (c .before .before .before .variables-fault .ensures) (c .before .enum-told .given .1)
 
 pub goal-fault-spec : {M : Type 1} → statement M
 goal-fault-spec =

@@ -19,18 +19,18 @@ use Rattle.scan.specs.Scan.{unless, each, within, operatorFault, classes
 use Rattle.scan.specs.Inside.Parts.{factsFit, linesFault}
 use Rattle.scan.proofs.Walks.{tests, tests-more, tests-here, walk-none, walk-more, walk-here, walk-end}
 use Rattle.scan.proofs.Rules.{within-says, few-ops}
-use Rattle.scan.proofs.Decides.{cost-decides, fact-decides, idle-decides, operator-decides, count-decides, maps-decide}
+use Rattle.scan.proofs.Decides.{cost-decides, fact-decides, mark-decides, idle-decides, operator-decides, count-decides, maps-decide}
 use Rattle.scan.proofs.lines_fault.Statement.{statement}
 use Rattle.scan.proofs.lines_fault.Tie as tie
 
 abbrev spelled : Counts → List ℕ → List ℕ → Task
 spelled c facts costs = taskOf (tables c facts costs [])
 
-abbrev said : ℕ → ℕ → Refusal
-said o v = OutOfRange (lineOfOp o)
+abbrev said : ℕ → ℕ → ℕ → Refusal
+said e o v = OutOfRange (lineOfOp e o)
 
 abbrev Facts : tie.InvT-loop2
-Facts c facts costs vars ops maps o line v₀ v = (v ≤ vars) × (each (tests (factsFit facts o) (said o)) v 0 ≡ Clean)
+Facts c facts costs vars ops maps o line v₀ v = (v ≤ vars) × (each (tests (factsFit facts o) (said (c .edition) o)) v 0 ≡ Clean)
 
 abbrev μ-facts : tie.MeasureT-loop2
 μ-facts c facts costs vars ops maps o line v₀ v = vars - v
@@ -71,24 +71,33 @@ few l = let x = l .before .before .before .before in few-ops (spelled (x .args .
 
 stops : (x : tie.After-op-line Facts μ-facts Ops μ-ops Maps μ-maps Scan μ-scan) (r : ℕ → Refusal)
     → let l = x .before .before in
-    operatorFault (task l) (l .loop .o) ≡ Fault (r (lineOfOp (l .loop .o))) → Fault (r (x .op-line .result)) ≡ linesFault (task l)
+    operatorFault (task l) (l .loop .o) ≡ Fault (r (lineOfOp (task l .edition) (l .loop .o))) → Fault (r (x .op-line .result)) ≡ linesFault (task l)
 stops x r h =
     let l = x .before .before in
     ap (λ (n : ℕ). Fault (r n)) (x .op-line .ensures)
-    ∙ sym (operator-decides (task l) (l .loop .o) (r (lineOfOp (l .loop .o))) (l .loop .inv .1) (x .before .loop-test .taken) h)
+    ∙ sym (operator-decides (task l) (l .loop .o) (r (lineOfOp (task l .edition) (l .loop .o))) (l .loop .inv .1) (x .before .loop-test .taken) h)
 
 cheap : (x : tie.Else1 Facts μ-facts Ops μ-ops Maps μ-maps Scan μ-scan) → let l = x .before .before .before .before in task l .sas .cost (l .loop .o) ≤ mostCost
 cheap x = omega (arith, x .before .cost-at .ensures, x .if1 .left)
 
-ended : (x : tie.After-is-idle Facts μ-facts Ops μ-ops Maps μ-maps Scan μ-scan)
+-- its facts are in range
+fitting : (x : tie.After-mark-of Facts μ-facts Ops μ-ops Maps μ-maps Scan μ-scan)
     → let l = x .before .before .before .before .before .before .before in
-    operatorFault (task l) (l .loop .o) ≡ unless (not (x .is-idle .result)) (IdleOperator (lineOfOp (l .loop .o)))
-ended x =
+    each (tests (fit l) (said (task l .edition) (l .loop .o))) (task l .sas .vars) 0 ≡ Clean
+fitting x =
     let i = x .before .before in
     let l = i .before .before .before .before .before in
+    walk-end (tests (fit l) (said (task l .edition) (l .loop .o))) (task l .sas .vars) (i .loop2 .v) (i .loop2 .inv .1) (omega arith) (omega arith)
+
+ended : (x : tie.After-is-idle Facts μ-facts Ops μ-ops Maps μ-maps Scan μ-scan)
+    → let l = x .before .before .before .before .before .before .before .before .before in
+    operatorFault (task l) (l .loop .o) ≡ unless (not (x .is-idle .result)) (IdleOperator (lineOfOp (task l .edition) (l .loop .o)))
+ended x =
+    let k = x .before .before in
+    let i = k .before .before in
+    let l = i .before .before .before .before .before in
     let a = l .before .before .before .before .args in
-    idle-decides (task l) (l .loop .o) (cheap (i .before))
-    (walk-end (tests (fit l) (said (l .loop .o))) (task l .sas .vars) (i .loop2 .v) (i .loop2 .inv .1) (omega arith) (omega arith))
+    idle-decides (task l) (l .loop .o) (cheap (i .before)) (fitting k) (omega (arith, k .mark-of .ensures, x .before .if3 .left))
     (x .is-idle .ensures ∙ is-idle-is (tables (a .c) (a .facts .now) (a .costs .now) []) (l .loop .o))
 
 -- ---- after the operators: they are clean; after the count of maps: it is in range
@@ -98,8 +107,8 @@ operators x =
     let l = x .before in
     walk-end (operatorFault (task l)) (task l .sas .ops) (l .loop .o) (l .loop .inv .1) (omega arith) (omega arith)
 
-counted : (x : tie.Else4 Facts μ-facts Ops μ-ops Maps μ-maps Scan μ-scan) → within 1 mostMaps (task (x .before .before .before) .maps) ≡ true
-counted x = sym (x .before .lies-within .ensures) ∙ not-false (x .before .lies-within .result) (x .if4 .left)
+counted : (x : tie.Else5 Facts μ-facts Ops μ-ops Maps μ-maps Scan μ-scan) → within 1 mostMaps (task (x .before .before .before) .maps) ≡ true
+counted x = sym (x .before .lies-within .ensures) ∙ not-false (x .before .lies-within .result) (x .if5 .left)
 
 -- ---- the needs
 
@@ -108,12 +117,12 @@ loop2-again c =
     let i = c .before .before .before in
     let l = i .before .before .before .before .before in
     let w = c .before .facts-fit in
-    (omega arith, tests-more (fit l) (said (l .loop .o)) (i .loop2 .v) (i .loop2 .inv .1) (sym (w .ensures) ∙ not-false (w .result) (c .if2 .left)))
+    (omega arith, tests-more (fit l) (said (task l .edition) (l .loop .o)) (i .loop2 .v) (i .loop2 .inv .1) (sym (w .ensures) ∙ not-false (w .result) (c .if2 .left)))
 
 loop-again : tie.Need-loop-again Facts μ-facts Ops μ-ops Maps μ-maps Scan μ-scan
 loop-again c =
-    let l = c .before .before .before .before .before .before .before .before in
-    (omega arith, walk-more (operatorFault (task l)) (l .loop .o) (l .loop .inv .1) (ended (c .before) ∙ rw (c .if3 .left) refl))
+    let l = c .before .before .before .before .before .before .before .before .before .before in
+    (omega arith, walk-more (operatorFault (task l)) (l .loop .o) (l .loop .inv .1) (ended (c .before) ∙ rw (c .if4 .left) refl))
 
 map-fault-requires : tie.Need-map-fault-requires Facts μ-facts Ops μ-ops Maps μ-maps Scan μ-scan
 map-fault-requires c κs =
@@ -138,22 +147,30 @@ returns-2 c =
     let l = i .before .before .before .before .before in
     let w = c .before .facts-fit in
     let no = sym (w .ensures) ∙ not-true (w .result) (c .if2 .taken) in
-    let out = tests-here (fit l) (said (l .loop .o)) (task l .sas .vars) (i .loop2 .v) (i .loop2 .inv .1) (c .before .before .loop2-test .taken) no in
-    stops (i .before .before .before) OutOfRange (fact-decides (task l) (l .loop .o) (cheap (i .before)) (said (l .loop .o) 0) out)
+    let out = tests-here (fit l) (said (task l .edition) (l .loop .o)) (task l .sas .vars) (i .loop2 .v) (i .loop2 .inv .1) (c .before .before .loop2-test .taken) no in
+    stops (i .before .before .before) OutOfRange (fact-decides (task l) (l .loop .o) (cheap (i .before)) (said (task l .edition) (l .loop .o) 0) out)
 
 returns-3 : tie.Need-returns-3 Facts μ-facts Ops μ-ops Maps μ-maps Scan μ-scan
-returns-3 c = stops (c .before .before .before .before .before .before) IdleOperator (ended (c .before) ∙ rw (c .if3 .taken) refl)
+returns-3 c =
+    let k = c .before in
+    let i = k .before .before in
+    let l = i .before .before .before .before .before in
+    stops (i .before .before .before) OutOfRange (mark-decides (task l) (l .loop .o) (cheap (i .before)) (fitting k) (omega (arith, k .mark-of .ensures, c .if3 .taken)))
 
 returns-4 : tie.Need-returns-4 Facts μ-facts Ops μ-ops Maps μ-maps Scan μ-scan
 returns-4 c =
+    stops (c .before .before .before .before .before .before .before .before) IdleOperator (ended (c .before) ∙ rw (c .if4 .taken) refl)
+
+returns-5 : tie.Need-returns-5 Facts μ-facts Ops μ-ops Maps μ-maps Scan μ-scan
+returns-5 c =
     let x = c .before .before .before in
     let w = c .before .before .lies-within in
     ap (λ (n : ℕ). Fault (OutOfRange n)) (c .maps-line .ensures)
-    ∙ sym (count-decides (task (x .before)) (operators x) (sym (w .ensures) ∙ not-true (w .result) (c .before .if4 .taken)))
+    ∙ sym (count-decides (task (x .before)) (operators x) (sym (w .ensures) ∙ not-true (w .result) (c .before .if5 .taken)))
 
-returns-5 : tie.Need-returns-5 Facts μ-facts Ops μ-ops Maps μ-maps Scan μ-scan
+returns-6 : tie.Need-returns-6 Facts μ-facts Ops μ-ops Maps μ-maps Scan μ-scan
 unfolding mapFault classesFault
-returns-5 c =
+returns-6 c =
     let i = c .before .before .before .before in
     let T = task (i .before .before .before .before) in
     let found = c .before .before .map-fault in
@@ -161,8 +178,8 @@ returns-5 c =
     let here = walk-here (mapFault T) (T .maps) (i .loop3 .m) (e .0 .0) (i .loop3 .inv .1) (c .before .before .before .loop3-test .taken) (sym (found .ensures) ∙ e .1) in
     sym (maps-decide T (operators (i .before .before .before)) (found .result) (counted (i .before)) (here ∙ sym (e .1)))
 
-returns-6 : tie.Need-returns-6 Facts μ-facts Ops μ-ops Maps μ-maps Scan μ-scan
-returns-6 c =
+returns-7 : tie.Need-returns-7 Facts μ-facts Ops μ-ops Maps μ-maps Scan μ-scan
+returns-7 c =
     let i = c .before in
     let T = task (i .before .before .before .before) in
     let all = walk-end (mapFault T) (T .maps) (i .loop3 .m) (i .loop3 .inv .1) (omega arith) (omega arith) in
@@ -184,11 +201,12 @@ lines-fault-spec =
     (λ c. let a = c .before .before .before .args in (omega arith, walk-none (operatorFault (spelled (a .c) (a .facts .now) (a .costs .now)))))
     (λ c κs. omega (arith, few (c .before)))
     (λ c κs. search needs)
-    (λ c. let l = c .before .before .before .before in (omega arith, walk-none (tests (fit l) (said (l .loop .o)))))
+    (λ c. let l = c .before .before .before .before in (omega arith, walk-none (tests (fit l) (said (task l .edition) (l .loop .o)))))
     (λ c κs. omega (arith, few (c .before .before .before .before .before .before)))
     (λ c. search needs)
     (λ c. search needs)
     loop2-again
+    (λ c κs. search needs)
     (λ c κs. search needs)
     (λ c. search needs)
     (λ c. search needs)
@@ -207,4 +225,5 @@ lines-fault-spec =
     returns-3
     returns-4
     returns-5
-    returns-6)
+    returns-6
+    returns-7)

@@ -22,23 +22,23 @@ use Rattle.scan.proofs.shares_fault.Tie as tie
 abbrev inRange : List ℕ → ℕ → ℕ → Bool
 inRange shares m o = leb (shareAt shares m o) mostCost
 
-abbrev said : ℕ → ℕ → ℕ → ℕ → Refusal
-said ops maps m o = OutOfRange (lineOfShares ops maps m)
+abbrev said : ℕ → ℕ → ℕ → ℕ → ℕ → Refusal
+said e ops maps m o = OutOfRange (lineOfShares e ops maps m)
 
-abbrev line : List ℕ → ℕ → ℕ → ℕ → Found
-line shares ops maps m = each (tests (inRange shares m) (said ops maps m)) ops 0
+abbrev line : List ℕ → ℕ → ℕ → ℕ → ℕ → Found
+line shares e ops maps m = each (tests (inRange shares m) (said e ops maps m)) ops 0
 
 abbrev Ops : tie.InvT-loop2
-Ops shares ops maps m o₀ o = (o ≤ ops) × (each (tests (inRange shares m) (said ops maps m)) o 0 ≡ Clean)
+Ops shares e ops maps m o₀ o = (o ≤ ops) × (each (tests (inRange shares m) (said e ops maps m)) o 0 ≡ Clean)
 
 abbrev μ-ops : tie.MeasureT-loop2
-μ-ops shares ops maps m o₀ o = ops - o
+μ-ops shares e ops maps m o₀ o = ops - o
 
 abbrev Maps : tie.InvT-loop
-Maps shares ops maps m₀ m = (m ≤ maps) × (each (line shares ops maps) m 0 ≡ Clean)
+Maps shares e ops maps m₀ m = (m ≤ maps) × (each (line shares e ops maps) m 0 ≡ Clean)
 
 abbrev μ-maps : tie.MeasureT-loop
-μ-maps shares ops maps m₀ m = maps - m
+μ-maps shares e ops maps m₀ m = maps - m
 
 -- ---- at the walk over the maps, its rule; at the walk over a map's operators, the tests, and the map that it is in
 
@@ -46,13 +46,13 @@ abbrev At : Type 0
 At = tie.At-loop Ops μ-ops Maps μ-maps
 
 abbrev rule : At → ℕ → Found
-rule l = let a = l .before .before .args in line (a .shares .now) (a .c .ops) (a .c .maps)
+rule l = let a = l .before .before .args in line (a .shares .now) (a .c .edition) (a .c .ops) (a .c .maps)
 
 abbrev test : At → ℕ → Bool
 test l = inRange (l .before .before .args .shares .now) (l .loop .m)
 
 abbrev says : At → ℕ → Refusal
-says l = let a = l .before .before .args in said (a .c .ops) (a .c .maps) (l .loop .m)
+says l = let a = l .before .before .args in said (a .c .edition) (a .c .ops) (a .c .maps) (l .loop .m)
 
 returns : tie.Need-returns Ops μ-ops Maps μ-maps
 unfolding sharesFault
@@ -93,7 +93,7 @@ shares-fault-spec =
     μ-ops
     Maps
     μ-maps
-    (λ c. let a = c .before .args in (omega arith, walk-none (line (a .shares .now) (a .c .ops) (a .c .maps))))
+    (λ c. let a = c .before .args in (omega arith, walk-none (line (a .shares .now) (a .c .edition) (a .c .ops) (a .c .maps))))
     (λ c. (omega arith, walk-none (tests (test (c .before)) (says (c .before)))))
     (λ c κs. search needs)
     (λ c κs. (omega arith, omega arith, omega arith))

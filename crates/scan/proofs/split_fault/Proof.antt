@@ -24,14 +24,14 @@ total shares maps o = sum (λ m. shareAt shares m o) maps
 abbrev passes : List ℕ → List ℕ → ℕ → ℕ → Bool
 passes costs shares maps o = leb (total shares maps o) (costAt costs o)
 
-abbrev said : ℕ → Refusal
-said o = SharesAboveCost (lineOfOp o)
+abbrev said : ℕ → ℕ → Refusal
+said e o = SharesAboveCost (lineOfOp e o)
 
 abbrev Inv-loop : tie.InvT-loop
-Inv-loop costs shares ops maps o₀ o = (o ≤ ops) × (each (tests (passes costs shares maps) said) o 0 ≡ Clean)
+Inv-loop costs shares e ops maps o₀ o = (o ≤ ops) × (each (tests (passes costs shares maps) (said e)) o 0 ≡ Clean)
 
 abbrev μ-loop : tie.MeasureT-loop
-μ-loop costs shares ops maps o₀ o = ops - o
+μ-loop costs shares e ops maps o₀ o = ops - o
 
 -- at the loop: what an operator is charged and costs, and the test of it
 abbrev charged : tie.At-loop Inv-loop μ-loop → ℕ
@@ -43,25 +43,28 @@ cost l = costAt (l .before .before .before .args .costs .now) (l .loop .o)
 abbrev test : tie.At-loop Inv-loop μ-loop → ℕ → Bool
 test l = let a = l .before .before .before .args in passes (a .costs .now) (a .shares .now) (a .c .maps)
 
+abbrev says : tie.At-loop Inv-loop μ-loop → ℕ → Refusal
+says l = said (l .before .before .before .args .c .edition)
+
 returns : tie.Need-returns Inv-loop μ-loop
 unfolding splitFault
 returns c =
     let l = c .before .before .before .before .before in
     let high = lt-leb (charged l) (cost l) (omega (arith, c .before .before .share-total .ensures, c .before .before .before .cost-at .ensures, c .before .if1 .taken)) in
     ap (λ (n : ℕ). Fault (SharesAboveCost n)) (c .op-line .ensures)
-    ∙ sym (tests-here (test l) said (l .before .before .before .args .c .ops) (l .loop .o) (l .loop .inv .1) (c .before .before .before .before .loop-test .taken) high)
+    ∙ sym (tests-here (test l) (says l) (l .before .before .before .args .c .ops) (l .loop .o) (l .loop .inv .1) (c .before .before .before .before .loop-test .taken) high)
 
 loop-again : tie.Need-loop-again Inv-loop μ-loop
 loop-again c =
     let l = c .before .before .before .before in
     let low = le-leb (charged l) (cost l) (omega (arith, c .before .share-total .ensures, c .before .before .cost-at .ensures, c .if1 .left)) in
-    (omega arith, tests-more (test l) said (l .loop .o) (l .loop .inv .1) low)
+    (omega arith, tests-more (test l) (says l) (l .loop .o) (l .loop .inv .1) low)
 
 returns-2 : tie.Need-returns-2 Inv-loop μ-loop
 unfolding splitFault
 returns-2 c =
     let l = c .before in
-    sym (walk-end (tests (test l) said) (l .before .before .before .args .c .ops) (l .loop .o) (l .loop .inv .1) (omega arith) (omega arith))
+    sym (walk-end (tests (test l) (says l)) (l .before .before .before .args .c .ops) (l .loop .o) (l .loop .inv .1) (omega arith) (omega arith))
 
 pub split-fault-spec : {M : Type 1} → statement M
 split-fault-spec =
@@ -69,7 +72,7 @@ split-fault-spec =
     (tie.spec
     Inv-loop
     μ-loop
-    (λ c. let a = c .before .before .args in (omega arith, walk-none (tests (passes (a .costs .now) (a .shares .now) (a .c .maps)) said)))
+    (λ c. let a = c .before .before .args in (omega arith, walk-none (tests (passes (a .costs .now) (a .shares .now) (a .c .maps)) (said (a .c .edition)))))
     (λ c κs. search needs)
     (λ c. search needs)
     (λ c κs. search needs)
