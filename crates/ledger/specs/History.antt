@@ -5,7 +5,7 @@ use mathlib.Core.Bool.{Bool, _&&_, cond}
 use mathlib.Core.List.{List, [], _∷_, _++_}
 use lib.Dec.{ltb, eqb}
 use lib.ListN.{length, getD, take}
-use Rattle.meaning.specs.Sas.{State, Sas, IsState, Runs, end, paid}
+use Rattle.meaning.specs.Sas.{State, IsState, Runs, end, paid}
 use Rattle.meaning.specs.Views.{complies}
 use Rattle.meaning.specs.Split.{Task, sum}
 use Rattle.tables.specs.Layout.{Tables}
@@ -14,30 +14,31 @@ use Rattle.ledger.specs.declared.Run.{Run}
 use Rattle.meaning.specs.Limits.{mostVars, mostCost, mostSteps}
 use Rattle.ledger.specs.Ledger.{allColumns, offered, begun}
 use Rattle.meaning.specs.Columns.{costColumns, gain}
+use Rattle.meaning.specs.Quota.{stored, KeepsQuota, mayStore}
 
 -- an offer: a step number and an operator
 pub record Offer : Type 0 where
   pub number : ℕ
   pub op : ℕ
 
--- the operator exists and may run where the steps done lead
-unfoldable pub mayFollow : Sas → State → List ℕ → ℕ → Bool
-mayFollow S s done o = ltb o (S .ops) && complies S (S .pre o) (end S done s)
+-- the operator exists and may run where the steps done lead, and after what they stored it doesn't store beyond the quota
+unfoldable pub mayFollow : Task → State → List ℕ → ℕ → Bool
+mayFollow T s done o = ltb o (T .sas .ops) && complies (T .sas) (T .sas .pre o) (end (T .sas) done s) && mayStore T (stored T done) o
 
 -- an offer is a step really run after the steps done: it has the next number, there is room, and its operator may follow
-unfoldable pub reallyRuns : Sas → State → List ℕ → Offer → Bool
-reallyRuns S s done x =
-    eqb (x .number) (length done + 1) && ltb (length done) mostSteps && mayFollow S s done (x .op)
+unfoldable pub reallyRuns : Task → State → List ℕ → Offer → Bool
+reallyRuns T s done x =
+    eqb (x .number) (length done + 1) && ltb (length done) mostSteps && mayFollow T s done (x .op)
 
 -- the steps that further offers add to the steps done
-unfoldable pub added : Sas → State → List ℕ → List Offer → List ℕ
-added S s done [] = []
-added S s done (x ∷ xs) =
-    cond (reallyRuns S s done x) (x .op ∷ added S s (done ++ (x .op ∷ [])) xs) (added S s done xs)
+unfoldable pub added : Task → State → List ℕ → List Offer → List ℕ
+added T s done [] = []
+added T s done (x ∷ xs) =
+    cond (reallyRuns T s done x) (x .op ∷ added T s (done ++ (x .op ∷ [])) xs) (added T s done xs)
 
 -- THE STEPS REALLY RUN, told by the task, the start and the offers alone
-abbrev pub reallyRun : Sas → State → List Offer → List ℕ
-reallyRun S s xs = added S s [] xs
+abbrev pub reallyRun : Task → State → List Offer → List ℕ
+reallyRun T s xs = added T s [] xs
 
 -- the run after offers, each made to the run that the one before handed back
 unfoldable pub ran : Tables → Run → List Offer → Run
@@ -48,14 +49,15 @@ ran t r (x ∷ xs) = ran t (offered t r (x .number) (x .op) .run) xs
 abbrev pub runAfter : Tables → List ℕ → List Offer → Run
 runAfter t s xs = ran t (begun t s .run) xs
 
--- A RUN TELLS THE STEPS: its log is they, in order and each occurrence once; they may run one after another from the start and lead to the state now;
--- and each column is what they add to it. Unused places are 0
+-- A RUN TELLS THE STEPS: its log is they, in order and each occurrence once; they may run one after another from the start, keep the quota, and lead to the
+-- state now; and each column is what they add to it. Unused places are 0
 pub record Tells (T : Task) (s : State) (done : List ℕ) (r : Run) : Type 0 where
   pub few : length done ≤ mostSteps
   pub len : r .len ≡ length done
   pub log : take (length done) (r .log) ≡ done
   pub log-unused : (i : ℕ) → length done ≤ i → getD (r .log) i 0 ≡ 0
   pub legal : Runs (T .sas) done s
+  pub keeps : KeepsQuota T done
   pub start : (v : ℕ) → v < T .sas .vars → stateOf (r .start) v ≡ s v
   pub start-unused : (v : ℕ) → T .sas .vars ≤ v → stateOf (r .start) v ≡ 0
   pub now : (v : ℕ) → v < T .sas .vars → stateOf (r .now) v ≡ end (T .sas) done s v

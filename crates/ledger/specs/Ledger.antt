@@ -4,16 +4,16 @@ use mathlib.Core.Bool.{Bool, true, false, _&&_, _||_, cond}
 use mathlib.Core.List.{List, [], _∷_}
 use lib.Dec.{ltb, leb, eqb}
 use lib.ListN.{getD, set, take, drop, replicate}
-use Rattle.refusals.specs.declared.Refusal.the-variants.{NoSuchOperator, MayNotRun, NotTheNext, OtherOperator, RunFull, NotARun}
+use Rattle.refusals.specs.declared.Refusal.the-variants.{NoSuchOperator, MayNotRun, NotTheNext, OtherOperator, RunFull, NotARun, BeyondQuota}
 use Rattle.meaning.specs.Views.{every}
 use Rattle.meaning.specs.Split.{Task}
-use Rattle.meaning.specs.Columns.{costColumns, gain}
+use Rattle.meaning.specs.Columns.{costColumns, storedTests, gain}
 use Rattle.tables.specs.declared.Counts.{Counts}
 use Rattle.scan.specs.declared.Found.{Found}
 use Rattle.scan.specs.declared.Found.the-variants.{Clean, Fault}
 use Rattle.tables.specs.Layout.{Tables, domAt}
 use Rattle.tables.specs.Task.{taskOf}
-use Rattle.tables.specs.Steps.{mayRun, overwritten, stepped, copied}
+use Rattle.tables.specs.Steps.{mayRun, canStore, overwritten, stepped, copied}
 use Rattle.scan.specs.Scan.{tablesFault, inputFault}
 use Rattle.meaning.specs.Limits.{mostVars, mostSteps}
 use Rattle.ledger.specs.declared.Run.{Run}
@@ -23,9 +23,9 @@ use Rattle.ledger.specs.declared.Answer.{Answer}
 use Rattle.ledger.specs.declared.Answer.the-variants.{Accepted, Repeated, Refused}
 use Rattle.ledger.specs.declared.Offered.{Offered}
 
--- all columns that a run has: for now there is none that is no payment
+-- all columns that a run has: those of the cost, and that of the stored tests, which is no payment
 abbrev pub allColumns : ℕ
-allColumns = costColumns
+allColumns = costColumns + 1
 
 abbrev pub bookedAt : Task → List ℕ → ℕ → ℕ → ℕ
 bookedAt T columns o column = getD columns column 0 + gain T column o
@@ -65,11 +65,17 @@ advanced t r o =
 unfoldable pub canRun : Counts → List ℕ → List ℕ → ℕ → Bool
 canRun c facts s o = ltb o (c .ops) && mayRun c facts s o
 
--- where a list of steps leads, as far as each can run
+-- it doesn't store beyond the quota, after as many stored tests as the columns tell
+unfoldable pub hasRoom : Counts → List ℕ → List ℕ → ℕ → Bool
+hasRoom c facts columns o = canStore c facts (getD columns storedTests 0) o
+
+-- where a list of steps leads, as far as each can run and keeps the quota
 unfoldable pub replayed : Tables → Standing → List ℕ → Tried
 replayed t x [] = record { ok = true; at = x }
 replayed t x (o ∷ os) =
-    cond (canRun (t .counts) (t .facts) (x .now) o) (replayed t (onward t x o) os) (record { ok = false; at = x })
+    cond (canRun (t .counts) (t .facts) (x .now) o && hasRoom (t .counts) (t .facts) (x .columns) o)
+    (replayed t (onward t x o) os)
+    (record { ok = false; at = x })
 
 -- what a run's start and log give
 unfoldable pub given : Tables → Run → Tried
@@ -100,8 +106,8 @@ sameTo k xs ys = every (sameAt xs ys) k
 unfoldable pub alike : Standing → Standing → Bool
 alike x y = sameTo mostVars (x .now) (y .now) && sameTo allColumns (x .columns) (y .columns)
 
--- the run is what its start and log give: the log isn't too long, the start is one, unused places of the log are 0, each step can run, and the run stands
--- where they lead
+-- the run is what its start and log give: the log isn't too long, the start is one, unused places of the log are 0, each step can run and keeps the quota, and
+-- the run stands where they lead
 unfoldable pub isRun : Tables → Run → Bool
 isRun t r =
     leb (r .len) mostSteps && startIn (t .counts) (t .facts) (r .start) && zeros (drop (r .len) (r .log)) && given t r .ok
@@ -111,11 +117,12 @@ isRun t r =
 unfoldable pub oldStep : Run → ℕ → ℕ → Answer
 oldStep r number o = cond (eqb (getD (r .log) (number - 1) 0) o) Repeated (Refused (OtherOperator number))
 
--- the next number: 15 if full, 12 if it may not run, else accepted
+-- the next number: 15 if full, 12 if it may not run, 19 if it stores beyond the quota, else accepted
 unfoldable pub nextStep : Counts → List ℕ → Run → ℕ → ℕ → Answer
 nextStep c facts r number o =
     cond (leb mostSteps (r .len)) (Refused (RunFull number))
-    (cond (canRun c facts (r .now) o) Accepted (Refused (MayNotRun number)))
+    (cond (canRun c facts (r .now) o) (cond (hasRoom c facts (r .columns) o) Accepted (Refused (BeyondQuota number)))
+    (Refused (MayNotRun number)))
 
 -- an offer to a run: 10, then 13 at number 0 or beyond the next, then old or next
 unfoldable pub offerJudged : Counts → List ℕ → Run → ℕ → ℕ → Answer

@@ -7,12 +7,14 @@ ghost use Rattle.scan.specs.Scan.{tablesFault};
 ghost use Rattle.ledger.specs.Ledger.{booked};
 ghost use Rattle.ledger.specs.Inside.Bounded.{HasRoom};
 use crate::COLUMNS;
+use crate::STORED;
 use crate::UNSHARED;
 use meaning::OpNo;
 use tables::Counts;
+use tables::readers::mark_of;
 
-// Adds the operator's share to each map's column, and what it costs beyond its shares to the unshared one. The tables are lent whole, as the promise speaks
-// of the task that they spell.
+// Adds the operator's share to each map's column, what it costs beyond its shares to the unshared one, and its mark to the stored tests. The tables are lent
+// whole, as the promise speaks of the task that they spell.
 pub fn book(
     c: Counts,
     facts: &[u8],
@@ -35,4 +37,5 @@ pub fn book(
         m += 1;
     }
     columns[UNSHARED] = columns[UNSHARED] + (costs[o] - shared);
+    columns[STORED] = columns[STORED] + mark_of(c, facts, op);
 }

@@ -21,6 +21,7 @@ use crate::compare::same_words;
 use crate::compare::zeros_from;
 use crate::replay::Standing;
 use crate::replay::can_run;
+use crate::replay::has_room;
 use crate::replay::replay;
 use crate::replay::step;
 use crate::starts::start_in;
@@ -39,8 +40,10 @@ pub const UNSHARED: usize = 8;
 // The columns that together are the steps' cost: what each map was paid, and the unshared one.
 pub const COST_COLUMNS: usize = UNSHARED + 1;
 
-// All columns that a run has.
-pub const COLUMNS: usize = COST_COLUMNS;
+// The stored tests, a count and no payment; and all columns that a run has.
+pub const STORED: usize = COST_COLUMNS;
+
+pub const COLUMNS: usize = COST_COLUMNS + 1;
 
 // A run: its start, the operators of its steps, how many they are, the state now, and the columns. Unused places are 0.
 pub struct Run {
@@ -140,7 +143,7 @@ impl Run {
         Answer::Refused(Refusal::OtherOperator(number))
     }
 
-    // The next number: refused if the run is full or the operator may not run, else accepted.
+    // The next number: refused if the run is full, the operator may not run, or it stores beyond the quota, else accepted.
     fn next_step(self, c: Counts, facts: &[u8], number: u32, op: OpNo) -> Answer
         requires { ⌜ (c .vars ≤ mostVars) × (c .ops ≤ mostOps) × (factsRoom ≤ length (now facts)) ⌝ }
         ensures { λ r. ⌜ r ≡ nextStep c (was facts) self number (op .0) ⌝ }
@@ -148,10 +151,13 @@ impl Run {
         if STEPS_MOST <= self.len as usize {
             return Answer::Refused(Refusal::RunFull(number));
         }
-        if can_run(c, facts, &self.now, op) {
+        if !can_run(c, facts, &self.now, op) {
+            return Answer::Refused(Refusal::MayNotRun(number));
+        }
+        if has_room(c, facts, &self.columns, op) {
             return Answer::Accepted;
         }
-        Answer::Refused(Refusal::MayNotRun(number))
+        Answer::Refused(Refusal::BeyondQuota(number))
     }
 
     // What an offer to a run is answered.

@@ -9,13 +9,15 @@ ghost use Rattle.tables.specs.Steps.{stepped};
 ghost use Rattle.tables.specs.Task.{tables, lent, was, left};
 ghost use Rattle.scan.specs.declared.Found.the-variants.{Clean};
 ghost use Rattle.scan.specs.Scan.{tablesFault};
-ghost use Rattle.ledger.specs.Ledger.{atStart, canRun, replayed};
+ghost use Rattle.ledger.specs.Ledger.{atStart, canRun, hasRoom, replayed};
 use crate::COLUMNS;
+use crate::STORED;
 use crate::columns::book;
 use meaning::OpNo;
 use tables::Counts;
 use tables::readers::eff_row;
 use tables::readers::pre_row;
+use tables::steps::can_store;
 use tables::steps::fact_holds;
 use tables::steps::value_after;
 
@@ -25,7 +27,7 @@ pub struct Standing {
     pub columns: [u32; COLUMNS],
 }
 
-// Where the steps of a log lead, as far as each can run, and whether that is the whole log.
+// Where the steps of a log lead, as far as each can run and keeps the quota, and whether that is the whole log.
 pub struct Tried {
     pub ok: bool,
     pub at: Standing,
@@ -51,6 +53,13 @@ pub fn can_run(c: Counts, facts: &[u8], state: &[u8; 8], op: OpNo) -> bool
     true
 }
 
+// The operator doesn't store beyond the quota, after as many stored tests as the columns tell.
+pub fn has_room(c: Counts, facts: &[u8], columns: &[u32; COLUMNS], op: OpNo) -> bool
+    ensures { λ r. ⌜ r ≡ hasRoom c (was facts) (was columns) (op .0) ⌝ }
+{
+    can_store(c, facts, columns[STORED], op)
+}
+
 // The state after the operator: each effect holds and all else stays.
 pub fn step(c: Counts, facts: &[u8], state: &mut [u8; 8], op: OpNo)
     requires { ⌜ (c .vars ≤ mostVars) × (op .0 < mostOps) × (factsRoom ≤ length (now facts)) ⌝ }
@@ -65,7 +74,7 @@ pub fn step(c: Counts, facts: &[u8], state: &mut [u8; 8], op: OpNo)
     }
 }
 
-// The first steps of a log from a start, as far as each can run.
+// The first steps of a log from a start, as far as each can run and keeps the quota.
 pub fn replay(
     c: Counts,
     facts: &[u8],
@@ -82,7 +91,7 @@ pub fn replay(
     let mut columns = [0u32; COLUMNS];
     for i in 0..len {
         let op = OpNo(log[i]);
-        if !can_run(c, facts, &state, op) {
+        if !can_run(c, facts, &state, op) || !has_room(c, facts, &columns, op) {
             return Tried {
                 ok: false,
                 at: Standing {

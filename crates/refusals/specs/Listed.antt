@@ -20,6 +20,7 @@ use Rattle.refusals.specs.declared.Refusal.the-variants.{
   NoGoal,
   NotARun,
   IdleOperator,
+  BeyondQuota,
 }
 
 -- the number, given exactly if ..
@@ -42,6 +43,7 @@ numberOf (RunFull step) = 15
 numberOf (NoGoal steps) = 16
 numberOf NotARun = 17
 numberOf (IdleOperator line) = 18
+numberOf (BeyondQuota step) = 19
 
 -- the place: a line, a variable, a step, a length, or 0
 abbrev pub placeOf : Refusal → ℕ
@@ -63,3 +65,4 @@ placeOf (RunFull step) = step
 placeOf (NoGoal steps) = steps
 placeOf NotARun = 0
 placeOf (IdleOperator line) = line
+placeOf (BeyondQuota step) = step

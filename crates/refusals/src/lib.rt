@@ -22,6 +22,7 @@ pub enum Refusal {
     NoGoal(u32),
     NotARun,
     IdleOperator(u32),
+    BeyondQuota(u32),
 }
 
 // The refusal's number on the paper's list.
@@ -47,6 +48,7 @@ pub fn number(r: Refusal) -> u32
         Refusal::NoGoal(_) => 16,
         Refusal::NotARun => 17,
         Refusal::IdleOperator(_) => 18,
+        Refusal::BeyondQuota(_) => 19,
     }
 }
 
@@ -73,5 +75,6 @@ pub fn place(r: Refusal) -> u32
         Refusal::NoGoal(steps) => steps,
         Refusal::NotARun => 0,
         Refusal::IdleOperator(line) => line,
+        Refusal::BeyondQuota(step) => step,
     }
 }

@@ -4,12 +4,13 @@ use mathlib.Core.Bool.{cond}
 use mathlib.Core.List.{List, [], _∷_}
 use lib.Dec.{leb}
 use lib.ListN.{length}
-use Rattle.meaning.specs.Sas.{State, Sas, after}
+use Rattle.meaning.specs.Sas.{State, after}
 use Rattle.meaning.specs.Views.{complies}
+use Rattle.meaning.specs.Split.{Task}
 use Rattle.scan.specs.declared.Found.{Found}
 use Rattle.scan.specs.declared.Found.the-variants.{Clean, Fault}
 use Rattle.tables.specs.Layout.{Tables}
-use Rattle.tables.specs.Task.{sasOf, stateOf}
+use Rattle.tables.specs.Task.{taskOf, stateOf}
 use Rattle.sequences.specs.declared.stepping.Stepped.{Stepped}
 use Rattle.sequences.specs.declared.choosing.Reached.{Reached}
 use Rattle.sequences.specs.declared.choosing.Reached.the-variants.{After, Out}
@@ -23,18 +24,18 @@ use Rattle.meaning.specs.Limits.{mostSteps}
 
 -- a step that is refused puts the list out; one that was taken goes on with its cost
 abbrev pub orOut : Stepped → (ℕ → Reached) → Reached
-orOut m on = takenApart m Out Out on
+orOut m on = takenApart m Out Out Out on
 
--- after k steps that cost p together: a goal ends the judging, before the next step is looked at; a list that ends before is out
-unfoldable pub reachedFrom : Sas → ℕ → ℕ → State → List ℕ → Reached
-reachedFrom S k p s [] = cond (complies S (S .goal) s) (After k p) Out
-reachedFrom S k p s (o ∷ os) =
-    cond (complies S (S .goal) s) (After k p)
-    (orOut (stepOf S s o) (λ cost. reachedFrom S (suc k) (p + cost) (after S o s) os))
+-- after k steps that stored n tests and cost p together: a goal ends the judging, before the next step is looked at; a list that ends before is out
+unfoldable pub reachedFrom : Task → ℕ → ℕ → ℕ → State → List ℕ → Reached
+reachedFrom T k n p s [] = cond (complies (T .sas) (T .sas .goal) s) (After k p) Out
+reachedFrom T k n p s (o ∷ os) =
+    cond (complies (T .sas) (T .sas .goal) s) (After k p)
+    (orOut (stepOf T n s o) (λ cost. reachedFrom T (suc k) (n + T .mark o) (p + cost) (after (T .sas) o s) os))
 
 -- a list above the step limit is out
-unfoldable pub reachedOf : Sas → State → List ℕ → Reached
-reachedOf S s ops = cond (leb (length ops) mostSteps) (reachedFrom S 0 0 s ops) Out
+unfoldable pub reachedOf : Task → State → List ℕ → Reached
+reachedOf T s ops = cond (leb (length ops) mostSteps) (reachedFrom T 0 0 0 s ops) Out
 
 -- the cheaper one; equal costs name the first
 abbrev pub choiceOf : Reached → Reached → Choice
@@ -44,8 +45,8 @@ choiceOf Out (After m q) = SecondPart m q
 choiceOf Out Out = NoPart
 
 -- of two lists from a state
-abbrev pub chosenFrom : Sas → State → List ℕ → List ℕ → Choice
-chosenFrom S s a b = choiceOf (reachedOf S s a) (reachedOf S s b)
+abbrev pub chosenFrom : Task → State → List ℕ → List ℕ → Choice
+chosenFrom T s a b = choiceOf (reachedOf T s a) (reachedOf T s b)
 
 -- a fault of what was handed in decides before all
 abbrev pub chosenUnless : Found → Choice → Choice
@@ -54,7 +55,7 @@ chosenUnless (Fault r) d = Unread r
 
 -- THE CHEAPER OF TWO: which opening part, of how many steps, at what cost
 unfoldable pub chosenOf : Tables → List ℕ → List ℕ → List ℕ → Choice
-chosenOf t s a b = chosenUnless (inputFault t s) (chosenFrom (sasOf t) (stateOf s) a b)
+chosenOf t s a b = chosenUnless (inputFault t s) (chosenFrom (taskOf t) (stateOf s) a b)
 
 -- the answer: the first, the second or neither, with the cost
 abbrev pub namedOf : Choice → Cheaper

@@ -3,7 +3,7 @@ ghost use mathlib.Core.Path.{_≡_};
 ghost use Prim.Native.Nat.{_≤_};
 ghost use lib.ListN.{length};
 ghost use Rattle.tables.specs.Task.{stateOf, lent, was};
-ghost use Rattle.sequences.specs.Inside.Steps.{Usable, sas};
+ghost use Rattle.sequences.specs.Inside.Steps.{Usable, sas, task};
 ghost use Rattle.meaning.specs.Limits.{mostSteps};
 ghost use Rattle.sequences.specs.Choosing.{reachedFrom, reachedOf, choiceOf, chosenFrom, chosenOf, namedOf};
 ghost use Rattle.sequences.specs.Opening.{Opening};
@@ -16,6 +16,7 @@ use refusals::Refusal;
 use scan::Found;
 use scan::input_fault;
 use tables::Counts;
+use tables::readers::mark_of;
 use tables::steps::meets_goal;
 use tables::steps::state_after;
 
@@ -44,9 +45,10 @@ pub enum Cheaper {
 // The steps in order from a state, up to the first moment a goal holds.
 pub fn reach(c: Counts, facts: &[u8], costs: &[u32], start: [u8; 8], ops: &[u32]) -> Reached
     requires { ⌜ Usable (sas c (now facts) (now costs)) × (length (now ops) ≤ mostSteps) ⌝ }
-    ensures { λ r. ⌜ r ≡ reachedFrom (sas c (was facts) (was costs)) 0 0 (stateOf start) (was ops) ⌝ }
+    ensures { λ r. ⌜ r ≡ reachedFrom (task c (was facts) (was costs)) 0 0 0 (stateOf start) (was ops) ⌝ }
 {
     let mut s = start;
+    let mut stored = 0u32;
     let mut paid = 0u32;
     let mut i = 0;
     while i < ops.len() {
@@ -54,11 +56,12 @@ pub fn reach(c: Counts, facts: &[u8], costs: &[u32], start: [u8; 8], ops: &[u32]
             return Reached::After(i, paid);
         }
         let o = ops[i];
-        let m = step(c, facts, costs, &s, OpNo(o));
+        let m = step(c, facts, costs, stored, &s, OpNo(o));
         let Stepped::Ran(cost) = m else {
             return Reached::Out;
         };
         s = state_after(c, facts, s, OpNo(o));
+        stored += mark_of(c, facts, OpNo(o));
         paid += cost;
         i += 1;
     }
@@ -71,7 +74,7 @@ pub fn reach(c: Counts, facts: &[u8], costs: &[u32], start: [u8; 8], ops: &[u32]
 // The same for a list of any length: one above the step limit is out.
 pub fn reach_within(c: Counts, facts: &[u8], costs: &[u32], start: [u8; 8], ops: &[u32]) -> Reached
     requires { ⌜ Usable (sas c (now facts) (now costs)) ⌝ }
-    ensures { λ r. ⌜ r ≡ reachedOf (sas c (was facts) (was costs)) (stateOf start) (was ops) ⌝ }
+    ensures { λ r. ⌜ r ≡ reachedOf (task c (was facts) (was costs)) (stateOf start) (was ops) ⌝ }
 {
     if ops.len() > STEPS_MOST {
         return Reached::Out;
@@ -111,7 +114,7 @@ pub fn choose_lists(
     b: &[u32],
 ) -> Choice
     requires { ⌜ Usable (sas c (now facts) (now costs)) ⌝ }
-    ensures { λ r. ⌜ r ≡ chosenFrom (sas c (was facts) (was costs)) (stateOf (was s)) (was a) (was b) ⌝ }
+    ensures { λ r. ⌜ r ≡ chosenFrom (task c (was facts) (was costs)) (stateOf (was s)) (was a) (was b) ⌝ }
 {
     let start = copy(c.vars, s);
     let first = reach_within(c, facts, costs, start, a);

@@ -3,12 +3,16 @@ use Prim.Native.Nat.{ℕ, _≤_, _<_}
 use mathlib.Core.List.{List, []}
 use Rattle.meaning.specs.Limits.{mostVars, mostOps, mostCost}
 use Rattle.meaning.specs.Sas.{Sas}
+use Rattle.meaning.specs.Split.{Task}
 use Rattle.tables.specs.declared.Counts.{Counts}
-use Rattle.tables.specs.Task.{sasOf, tables}
+use Rattle.tables.specs.Task.{taskOf, tables}
 
 -- the task without its split: judging reads no shares
+abbrev pub task : Counts → List ℕ → List ℕ → Task
+task c facts costs = taskOf (tables c facts costs [])
+
 abbrev pub sas : Counts → List ℕ → List ℕ → Sas
-sas c facts costs = sasOf (tables c facts costs [])
+sas c facts costs = task c facts costs .sas
 
 -- what accepted tables give the steps
 pub record Usable (S : Sas) : Type 0 where
