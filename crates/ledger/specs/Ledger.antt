@@ -66,14 +66,14 @@ unfoldable pub canRun : Counts → List ℕ → List ℕ → ℕ → Bool
 canRun c facts s o = ltb o (c .ops) && mayRun c facts s o
 
 -- it doesn't store beyond the quota, after as many stored tests as the columns tell
-unfoldable pub hasRoom : Counts → List ℕ → List ℕ → ℕ → Bool
-hasRoom c facts columns o = canStore c facts (getD columns storedTests 0) o
+unfoldable pub withinQuota : Counts → List ℕ → List ℕ → ℕ → Bool
+withinQuota c facts columns o = canStore c facts (getD columns storedTests 0) o
 
 -- where a list of steps leads, as far as each can run and keeps the quota
 unfoldable pub replayed : Tables → Standing → List ℕ → Tried
 replayed t x [] = record { ok = true; at = x }
 replayed t x (o ∷ os) =
-    cond (canRun (t .counts) (t .facts) (x .now) o && hasRoom (t .counts) (t .facts) (x .columns) o)
+    cond (canRun (t .counts) (t .facts) (x .now) o && withinQuota (t .counts) (t .facts) (x .columns) o)
     (replayed t (onward t x o) os)
     (record { ok = false; at = x })
 
@@ -121,7 +121,7 @@ oldStep r number o = cond (eqb (getD (r .log) (number - 1) 0) o) Repeated (Refus
 unfoldable pub nextStep : Counts → List ℕ → Run → ℕ → ℕ → Answer
 nextStep c facts r number o =
     cond (leb mostSteps (r .len)) (Refused (RunFull number))
-    (cond (canRun c facts (r .now) o) (cond (hasRoom c facts (r .columns) o) Accepted (Refused (BeyondQuota number)))
+    (cond (canRun c facts (r .now) o) (cond (withinQuota c facts (r .columns) o) Accepted (Refused (BeyondQuota number)))
     (Refused (MayNotRun number)))
 
 -- an offer to a run: 10, then 13 at number 0 or beyond the next, then old or next

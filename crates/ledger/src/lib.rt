@@ -21,7 +21,7 @@ use crate::compare::same_words;
 use crate::compare::zeros_from;
 use crate::replay::Standing;
 use crate::replay::can_run;
-use crate::replay::has_room;
+use crate::replay::within_quota;
 use crate::replay::replay;
 use crate::replay::step;
 use crate::starts::start_in;
@@ -154,7 +154,7 @@ impl Run {
         if !can_run(c, facts, &self.now, op) {
             return Answer::Refused(Refusal::MayNotRun(number));
         }
-        if has_room(c, facts, &self.columns, op) {
+        if within_quota(c, facts, &self.columns, op) {
             return Answer::Accepted;
         }
         Answer::Refused(Refusal::BeyondQuota(number))

@@ -9,7 +9,7 @@ ghost use Rattle.tables.specs.Steps.{stepped};
 ghost use Rattle.tables.specs.Task.{tables, lent, was, left};
 ghost use Rattle.scan.specs.declared.Found.the-variants.{Clean};
 ghost use Rattle.scan.specs.Scan.{tablesFault};
-ghost use Rattle.ledger.specs.Ledger.{atStart, canRun, hasRoom, replayed};
+ghost use Rattle.ledger.specs.Ledger.{atStart, canRun, withinQuota, replayed};
 use crate::COLUMNS;
 use crate::STORED;
 use crate::columns::book;
@@ -54,8 +54,8 @@ pub fn can_run(c: Counts, facts: &[u8], state: &[u8; 8], op: OpNo) -> bool
 }
 
 // The operator doesn't store beyond the quota, after as many stored tests as the columns tell.
-pub fn has_room(c: Counts, facts: &[u8], columns: &[u32; COLUMNS], op: OpNo) -> bool
-    ensures { λ r. ⌜ r ≡ hasRoom c (was facts) (was columns) (op .0) ⌝ }
+pub fn within_quota(c: Counts, facts: &[u8], columns: &[u32; COLUMNS], op: OpNo) -> bool
+    ensures { λ r. ⌜ r ≡ withinQuota c (was facts) (was columns) (op .0) ⌝ }
 {
     can_store(c, facts, columns[STORED], op)
 }
@@ -91,7 +91,7 @@ pub fn replay(
     let mut columns = [0u32; COLUMNS];
     for i in 0..len {
         let op = OpNo(log[i]);
-        if !can_run(c, facts, &state, op) || !has_room(c, facts, &columns, op) {
+        if !can_run(c, facts, &state, op) || !within_quota(c, facts, &columns, op) {
             return Tried {
                 ok: false,
                 at: Standing {
