@@ -1,4 +1,4 @@
--- What the grammar of the task text and the spelling share: the edition and the bytes; and what a reading leaves behind.
+-- What the grammar of the task text and the spelling share: the bytes; and what a reading leaves behind.
 use Prim.Native.Nat.{ℕ, _-_}
 use Prim.Native.Char.{code}
 use Prim.Native.String.{String, [] as []ˢ, _∷_ as _∷ˢ_}
@@ -11,10 +11,6 @@ use Rattle.meaning.specs.Limits.{mostBytes}
 use Rattle.tables.specs.Layout.{factsRoom, costsRoom, sharesRoom}
 use Rattle.grammar.specs.declared.Reading.{Reading}
 use Rattle.grammar.specs.declared.Reading.the-variants.{Refused}
-
--- the edition of the text
-abbrev pub edition : ℕ
-edition = 1
 
 -- the bytes 0 to 9
 abbrev pub zeroDigit : ℕ

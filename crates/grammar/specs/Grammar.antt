@@ -25,13 +25,16 @@ use Rattle.tables.specs.Layout.{
   prePlace,
   effPlace,
   classPlace,
+  markPlace,
   sharePlace,
   domAt,
   classAt,
 }
+use Rattle.tables.specs.Editions.{hasQuota}
+use Rattle.tables.specs.declared.Counts.{Counts}
 use Rattle.grammar.specs.declared.Reading.the-variants.{Accepted, Refused}
-use Rattle.grammar.specs.Fields.{edition, zeroDigit, isDigit, bytesOf, lineEnd, comma, dash, slash, colon, semicolon, Outcome, leaves, filled, admitted}
-use Rattle.meaning.specs.Limits.{mostVars, mostValues, mostOps, mostCost, mostMaps, mostStates}
+use Rattle.grammar.specs.Fields.{zeroDigit, isDigit, bytesOf, lineEnd, comma, dash, slash, colon, semicolon, Outcome, leaves, filled, admitted}
+use Rattle.meaning.specs.Limits.{mostVars, mostValues, mostOps, mostCost, mostMaps, mostStates, mostEdition, mostQuota, mostMark}
 use Rattle.meaning.specs.Views.{abstractStates, idle}
 use Rattle.meaning.specs.Split.{view}
 use Rattle.tables.specs.Task.{sasOf, taskOf}
@@ -134,9 +137,26 @@ unfoldable pub textLines : (ℕ → Part) → ℕ → ℕ → Part
 textLines p zero i t l T k = k t l T
 textLines p (suc n) i t l T k = (p i ▸ textLines p n (i + 1)) t l T k
 
--- the tables with one number more
-abbrev pub withCounts : ℕ → ℕ → ℕ → Tables → Tables
-withCounts v o m T = record { counts = record { vars = v; ops = o; maps = m }; facts = T .facts; costs = T .costs; shares = T .shares }
+-- the tables with one number more: a count
+abbrev pub withCounts : (Counts → Counts) → Tables → Tables
+withCounts f T = record { counts = f (T .counts); facts = T .facts; costs = T .costs; shares = T .shares }
+
+abbrev pub putEdition : ℕ → Tables → Tables
+putEdition e = withCounts (λ c. record { vars = c .vars; ops = c .ops; maps = c .maps; edition = e; quota = c .quota })
+
+abbrev pub putVars : ℕ → Tables → Tables
+putVars n = withCounts (λ c. record { vars = n; ops = c .ops; maps = c .maps; edition = c .edition; quota = c .quota })
+
+abbrev pub putQuota : ℕ → Tables → Tables
+putQuota q = withCounts (λ c. record { vars = c .vars; ops = c .ops; maps = c .maps; edition = c .edition; quota = q })
+
+abbrev pub putOps : ℕ → Tables → Tables
+putOps n = withCounts (λ c. record { vars = c .vars; ops = n; maps = c .maps; edition = c .edition; quota = c .quota })
+
+abbrev pub putMaps : ℕ → Tables → Tables
+putMaps n = withCounts (λ c. record { vars = c .vars; ops = c .ops; maps = n; edition = c .edition; quota = c .quota })
+
+-- a fact, a class or a mark; a cost; a share
 
 abbrev pub putFact : ℕ → ℕ → Tables → Tables
 putFact i v T = record { counts = T .counts; facts = set (T .facts) i v; costs = T .costs; shares = T .shares }
@@ -147,13 +167,17 @@ putCost o v T = record { counts = T .counts; facts = T .facts; costs = set (T .c
 abbrev pub putShare : ℕ → ℕ → Tables → Tables
 putShare i v T = record { counts = T .counts; facts = T .facts; costs = T .costs; shares = set (T .shares) i v }
 
--- edition=
+-- edition=, 1 or 2
 unfoldable pub editionLine : Part
-editionLine = textLine "edition=" (numeral edition (edition + 1) (λ e. nothing))
+editionLine = textLine "edition=" (numeral 1 (mostEdition + 1) (λ e. keep (putEdition e)))
+
+-- this in edition 2, and nothing in edition 1
+unfoldable pub inSecond : Part → Part
+inSecond p t l T k = cond (hasQuota (T .counts .edition)) (p t l T k) (k t l T)
 
 -- vars=, dom= and init=
 unfoldable pub varsLine : Part
-varsLine = textLine "vars=" (numeral 1 (mostVars + 1) (λ n. keep (λ T. withCounts n (T .counts .ops) (T .counts .maps) T)))
+varsLine = textLine "vars=" (numeral 1 (mostVars + 1) (λ n. keep (putVars n)))
 
 unfoldable pub domLine : Part
 domLine = textLine "dom=" (ask (λ T. numberRow 1 (λ v U. mostValues + 1) (λ v n. putFact (domPlace v) n) (T .counts .vars) 0))
@@ -185,9 +209,16 @@ factList place = choice dash nothing (ask (λ T. factsFrom place (T .counts .var
 unfoldable pub goalLine : Part
 goalLine = textLine "goal=" (factList goalPlace)
 
--- ops=, and one op=cost;preconditions;effects for each, which at its end isn't idle
+-- quota=, in edition 2
+unfoldable pub quotaLine : Part
+quotaLine = inSecond (textLine "quota=" (numeral 0 (mostQuota + 1) (λ q. keep (putQuota q))))
+
+-- ops=, and one op=cost;preconditions;effects for each, in edition 2 with ;mark, which at its end isn't idle
 unfoldable pub opsLine : Part
-opsLine = textLine "ops=" (numeral 0 (mostOps + 1) (λ n. keep (λ T. withCounts (T .counts .vars) n (T .counts .maps) T)))
+opsLine = textLine "ops=" (numeral 0 (mostOps + 1) (λ n. keep (putOps n)))
+
+unfoldable pub markField : ℕ → Part
+markField o = inSecond (lit (semicolon ∷ []) ▸ numeral 0 (mostMark + 1) (λ x. keep (putFact (markPlace o) x)))
 
 unfoldable pub operatorFields : ℕ → Part
 operatorFields o =
@@ -196,6 +227,7 @@ operatorFields o =
     ▸ factList (prePlace o)
     ▸ lit (semicolon ∷ [])
     ▸ factList (effPlace o)
+    ▸ markField o
     ▸ ask (λ T. demand (not (idle (sasOf T) o)) IdleOperator)
 
 unfoldable pub opLines : Part
@@ -220,7 +252,7 @@ mapClasses m =
 
 -- maps=, and one map= for each
 unfoldable pub mapsLine : Part
-mapsLine = textLine "maps=" (numeral 1 (mostMaps + 1) (λ n. keep (λ T. withCounts (T .counts .vars) (T .counts .ops) n T)))
+mapsLine = textLine "maps=" (numeral 1 (mostMaps + 1) (λ n. keep (putMaps n)))
 
 unfoldable pub mapLines : Part
 mapLines = ask (λ T. textLines (λ m. textLine "map=" (mapClasses m)) (T .counts .maps) 0)
@@ -241,6 +273,7 @@ taskLines =
     ▸ domLine
     ▸ initLine
     ▸ goalLine
+    ▸ quotaLine
     ▸ opsLine
     ▸ opLines
     ▸ mapsLine
@@ -260,7 +293,12 @@ theEnd (b ∷ t) l T = refused (OffForm l)
 -- tables with nothing in them yet
 unfoldable pub noTask : Tables
 noTask =
-    record { counts = record { vars = 0; ops = 0; maps = 0 }; facts = replicate factsRoom 0; costs = replicate costsRoom 0; shares = replicate sharesRoom 0 }
+    record {
+      counts = record { vars = 0; ops = 0; maps = 0; edition = 0; quota = 0 };
+      facts = replicate factsRoom 0;
+      costs = replicate costsRoom 0;
+      shares = replicate sharesRoom 0;
+    }
 
 unfoldable pub verdict : List ℕ → Verdict
 verdict text = taskLines text 1 noTask theEnd

@@ -18,8 +18,10 @@ use Rattle.tables.specs.Layout.{
   prePlace,
   effPlace,
   classPlace,
+  markPlace,
   sharePlace,
 }
+use Rattle.tables.specs.Editions.{hasQuota, readIn}
 use Rattle.tables.specs.Task.{taskOf}
 use Rattle.grammar.specs.Fields.{zeroDigit, bytesOf, lineEnd, comma, dash, slash, colon, semicolon}
 
@@ -80,12 +82,17 @@ unfoldable pub stacked : (ℕ → List ℕ) → ℕ → ℕ → List ℕ
 stacked f zero i = []
 stacked f (suc n) i = f i ++ stacked f n (suc i)
 
--- op=cost;preconditions;effects
+-- what edition 2 alone spells
+unfoldable pub spelledIn : ℕ → List ℕ → List ℕ
+spelledIn e xs = cond (hasQuota e) xs []
+
+-- op=cost;preconditions;effects, and in edition 2 ;mark
 unfoldable pub opText : Task → ℕ → List ℕ
 opText T o =
     digits (T .sas .cost o)
     ++ semicolon ∷ someFacts (T .sas .pre o) (T .sas .vars) 0
     ++ semicolon ∷ someFacts (T .sas .eff o) (T .sas .vars) 0
+    ++ spelledIn (T .edition) (semicolon ∷ digits (T .mark o))
 
 -- the classes of each variable's values, parted by /
 unfoldable pub mapText : Task → ℕ → List ℕ
@@ -96,14 +103,15 @@ unfoldable pub shareText : (ℕ → ℕ) → ℕ → List ℕ
 shareText share zero = dash ∷ []
 shareText share (suc n) = numbers share (suc n)
 
--- the lines in their order, with e as the edition
-unfoldable pub spelled : ℕ → Task → List ℕ
-spelled e T =
-    keyed "edition=" (digits e)
+-- the lines in their order; in edition 2 the quota's after the goal's
+unfoldable pub spelled : Task → List ℕ
+spelled T =
+    keyed "edition=" (digits (T .edition))
     ++ keyed "vars=" (digits (T .sas .vars))
     ++ keyed "dom=" (numbers (T .sas .dom) (T .sas .vars))
     ++ keyed "init=" (numbers (T .sas .init) (T .sas .vars))
     ++ keyed "goal=" (someFacts (T .sas .goal) (T .sas .vars) 0)
+    ++ spelledIn (T .edition) (keyed "quota=" (digits (T .quota)))
     ++ keyed "ops=" (digits (T .sas .ops))
     ++ stacked (λ o. keyed "op=" (opText T o)) (T .sas .ops) 0
     ++ keyed "maps=" (digits (T .maps))
@@ -111,8 +119,8 @@ spelled e T =
     ++ stacked (λ m. keyed "share=" (shareText (T .share m) (T .sas .ops))) (T .maps) 0
 
 -- the text that spells a task's tables, whatever stands in them
-abbrev pub textOf : ℕ → Tables → List ℕ
-textOf e t = spelled e (taskOf t)
+abbrev pub textOf : Tables → List ℕ
+textOf t = spelled (taskOf t)
 
 -- ---- THE TABLES
 
@@ -133,9 +141,15 @@ factPut (suc k) place w = set w place (suc k)
 unfoldable pub factRow : (ℕ → ℕ) → Facts → ℕ → List ℕ → List ℕ
 factRow place F n = changed (λ v. factPut (F v) (place v)) n 0
 
--- the preconditions and effects of an operator, the classes of a map
+-- a mark, where the edition has marks; else the place stays 0
+unfoldable pub markPut : ℕ → ℕ → ℕ → List ℕ → List ℕ
+markPut e place x w = cond (hasQuota e) (set w place x) w
+
+-- the preconditions, the effects and the mark of an operator, the classes of a map
 unfoldable pub opRows : Task → ℕ → List ℕ → List ℕ
-opRows T o w = factRow (effPlace o) (T .sas .eff o) (T .sas .vars) (factRow (prePlace o) (T .sas .pre o) (T .sas .vars) w)
+opRows T o w =
+    markPut (T .edition) (markPlace o) (T .mark o)
+    (factRow (effPlace o) (T .sas .eff o) (T .sas .vars) (factRow (prePlace o) (T .sas .pre o) (T .sas .vars) w))
 
 unfoldable pub mapRows : Task → ℕ → List ℕ → List ℕ
 mapRows T m = changed (λ v. rowPut (classPlace m v) (T .class m v) (T .sas .dom v)) (T .sas .vars) 0
@@ -149,7 +163,8 @@ headRows T w =
 unfoldable pub tablesOf : Task → Tables
 tablesOf T =
     record {
-      counts = record { vars = T .sas .vars; ops = T .sas .ops; maps = T .maps };
+      counts =
+          record { vars = T .sas .vars; ops = T .sas .ops; maps = T .maps; edition = T .edition; quota = readIn (T .edition) (T .quota) };
       facts = changed (mapRows T) (T .maps) 0 (changed (opRows T) (T .sas .ops) 0 (headRows T (replicate factsRoom 0)));
       costs = rowPut (λ o. o) (T .sas .cost) (T .sas .ops) (replicate costsRoom 0);
       shares = changed (λ m. rowPut (sharePlace m) (T .share m) (T .sas .ops)) (T .maps) 0 (replicate sharesRoom 0);

@@ -11,7 +11,6 @@ use Rattle.scan.specs.declared.Found.the-variants.{Clean, Fault}
 use Rattle.scan.specs.Scan.{unless, _then_, tablesFault}
 use Rattle.grammar.specs.declared.Written.{Written}
 use Rattle.grammar.specs.declared.Written.the-variants.{Length, Refused}
-use Rattle.grammar.specs.Fields.{edition}
 use Rattle.grammar.specs.Spelling.{textOf}
 
 -- the places that a lent buffer needs, whatever the task: as many as a text may have bytes
@@ -41,4 +40,4 @@ onPage (Fault r) text buffer = page (Refused r) buffer
 
 -- THE WRITER: what it answers to lent tables, and what it leaves in the lent buffer
 unfoldable pub writeText : Tables → List ℕ → Page
-writeText t buffer = onPage (writeFault t buffer) (textOf edition t) buffer
+writeText t buffer = onPage (writeFault t buffer) (textOf t) buffer

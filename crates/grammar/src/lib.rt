@@ -2,9 +2,6 @@
 use refusals::Refusal;
 use tables::Counts;
 
-// The edition of the text.
-pub const EDITION: u32 = 1;
-
 // What the reader answers: the task's counts, or why not.
 pub enum Reading {
     Accepted(Counts),

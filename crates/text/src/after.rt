@@ -5,7 +5,7 @@ ghost use Prim.Native.Nat.{_-_};
 ghost use Rattle.grammar.specs.Fields.{lineEnd};
 ghost use Rattle.text.specs.Inside.Control.{nextLine};
 ghost use Rattle.tables.specs.Task.{was};
-ghost use Rattle.text.specs.Inside.Steps.{mark, idleHere, listEnd, afterClass, afterVar, nextFact, afterShare, afterNumber, listOver, afterPart};
+ghost use Rattle.text.specs.Inside.Steps.{mark, markDue, idleHere, listEnd, afterClass, afterVar, nextFact, afterShare, afterNumber, listOver, afterPart};
 use crate::Ctrl;
 use crate::Halt;
 use crate::Seen;
@@ -13,6 +13,7 @@ use crate::Turn;
 use crate::control::FIRST_TURN;
 use crate::control::NONE_SEEN;
 use crate::control::await_number;
+use crate::control::ends_operator;
 use crate::control::list_of;
 use crate::control::next_line;
 use crate::control::one_more;
@@ -27,10 +28,12 @@ use crate::names::COMMA;
 use crate::names::EFF_LIST;
 use crate::names::FIELD_CLASS;
 use crate::names::FIELD_EFF_VAR;
+use crate::names::FIELD_MARK;
 use crate::names::FIELD_PRE_VAR;
 use crate::names::FIELD_SHARE;
 use crate::names::KIND_CLASS;
 use crate::names::KIND_COST;
+use crate::names::KIND_MARK;
 use crate::names::KIND_ROW;
 use crate::names::KIND_SHARE;
 use crate::names::KIND_VAL;
@@ -41,6 +44,7 @@ use crate::names::PRE_LIST;
 use crate::names::SEMICOLON;
 use crate::names::SLASH;
 use meaning::OpNo;
+use meaning::limits::QUOTA_EDITION;
 use tables::steps::is_idle;
 
 // The mark x must stand here.
@@ -56,18 +60,30 @@ pub fn end_line(c: Ctrl, b: u32) -> Ctrl
     expect(c, b, LINE_END, next_line(c))
 }
 
-// An operator's effects are over, and it is idle.
+// An operator's effects are over, and its mark is due.
+pub fn mark_due(c: Ctrl) -> bool
+    ensures { λ r. ⌜ r ≡ markDue c ⌝ }
+{
+    if list_of(c.spot.field) == EFF_LIST {
+        c.counts.edition == QUOTA_EDITION
+    } else {
+        false
+    }
+}
+
+// An operator's last field is over, and it is idle.
 pub fn idle_here(c: Ctrl, w: &[u8]) -> bool
     ensures { λ r. ⌜ r ≡ idleHere c (was w) ⌝ }
 {
-    if list_of(c.spot.field) == EFF_LIST {
+    if ends_operator(c.spot.field) {
         is_idle(c.counts.vars, w, OpNo(c.spot.row))
     } else {
         false
     }
 }
 
-// The end of a list of facts: an operator's preconditions end in a semicolon, all others with their line; an idle operator is told before that.
+// The end of a list of facts, or of a mark: an operator's preconditions end in a semicolon, in edition 2 its effects too, all others with their line; an idle
+// operator is told before that.
 pub fn list_end(c: Ctrl, w: &[u8], b: u32) -> Ctrl
     ensures { λ r. ⌜ r ≡ listEnd c (was w) b ⌝ }
 {
@@ -77,6 +93,13 @@ pub fn list_end(c: Ctrl, w: &[u8], b: u32) -> Ctrl
             b,
             SEMICOLON,
             await_number(c, FIELD_EFF_VAR, FIRST_TURN, NONE_SEEN),
+        )
+    } else if mark_due(c) {
+        expect(
+            c,
+            b,
+            SEMICOLON,
+            await_number(c, FIELD_MARK, FIRST_TURN, NONE_SEEN),
         )
     } else if idle_here(c, w) {
         stop(c, Halt::Idle)
@@ -192,17 +215,18 @@ pub fn after_share(c: Ctrl, b: u32) -> Ctrl
     }
 }
 
-// A list of facts is over: after its dash, or after a value that no comma follows.
+// A list of facts is over: after its dash, or after a value that no comma follows; or an operator's mark is.
 pub fn list_over(c: Ctrl, b: u32) -> bool
     ensures { λ r. ⌜ r ≡ listOver c b ⌝ }
 {
     if c.spot.part == PART_AFTER_DASH {
         return true;
     }
-    if kind_of(c.spot.field) == KIND_VAL {
+    let k = kind_of(c.spot.field);
+    if k == KIND_VAL {
         b != COMMA
     } else {
-        false
+        k == KIND_MARK
     }
 }
 

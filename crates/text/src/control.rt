@@ -18,9 +18,13 @@ ghost use Rattle.text.specs.Inside.Control.{
   rowOr,
   nextLine,
   listNo,
+  endsOperator,
   fieldMaps,
   fieldCost,
+  fieldOps,
+  fieldQuota,
 };
+ghost use Rattle.tables.specs.Editions.{hasQuota};
 use crate::Ctrl;
 use crate::Digits;
 use crate::Halt;
@@ -34,7 +38,9 @@ use crate::names::FIELD_COST;
 use crate::names::FIELD_EDITION;
 use crate::names::FIELD_END;
 use crate::names::FIELD_MAPS;
+use crate::names::FIELD_MARK;
 use crate::names::FIELD_OPS;
+use crate::names::FIELD_QUOTA;
 use crate::names::FIELD_SHARE;
 use crate::names::GOAL_LIST;
 use crate::names::PART_AFTER_DASH;
@@ -42,6 +48,7 @@ use crate::names::PART_DASH_DUE;
 use crate::names::PART_KEY;
 use crate::names::PART_NUMBER;
 use crate::names::RUN_NONE;
+use meaning::limits::QUOTA_EDITION;
 use tables::Counts;
 
 // Before the first digit; the first of a row or a list; before the first class.
@@ -99,6 +106,8 @@ pub fn start_of_text() -> Ctrl
             vars: 0,
             ops: 0,
             maps: 0,
+            edition: 0,
+            quota: 0,
         },
     }
 }
@@ -266,6 +275,28 @@ pub fn after_ops(c: Ctrl) -> Ctrl
     }
 }
 
+// After the goal: the quota's line in edition 2, and else that of the operators' number.
+pub fn after_goal(c: Ctrl) -> Ctrl
+    ensures { λ r. ⌜ r ≡ toLine c (cond (hasQuota (c .counts .edition)) fieldQuota fieldOps) 0 ⌝ }
+{
+    if c.counts.edition == QUOTA_EDITION {
+        to_line(c, FIELD_QUOTA, 0)
+    } else {
+        to_line(c, FIELD_OPS, 0)
+    }
+}
+
+// The field ends an operator's line.
+pub fn ends_operator(f: u32) -> bool
+    ensures { λ r. ⌜ r ≡ endsOperator f ⌝ }
+{
+    if list_of(f) == EFF_LIST {
+        true
+    } else {
+        f == FIELD_MARK
+    }
+}
+
 pub fn next_line(c: Ctrl) -> Ctrl
     ensures { λ r. ⌜ r ≡ nextLine c ⌝ }
 {
@@ -279,11 +310,13 @@ pub fn next_line(c: Ctrl) -> Ctrl
     if f == FIELD_SHARE {
         return row_or(c, c.counts.maps, FIELD_SHARE, FIELD_END);
     }
-    let l = list_of(f);
-    if l == GOAL_LIST {
+    if list_of(f) == GOAL_LIST {
+        return after_goal(c);
+    }
+    if f == FIELD_QUOTA {
         return to_line(c, FIELD_OPS, 0);
     }
-    if l == EFF_LIST {
+    if ends_operator(f) {
         return row_or(c, c.counts.ops, FIELD_COST, FIELD_MAPS);
     }
     to_line(c, one_more(f), 0)

@@ -75,7 +75,7 @@ pub fn over_fault(c: Ctrl, w: &[u8]) -> Found
     let mut o = 0;
     while o < ops {
         if word_at(w, cost_byte(o)) < share_total(w, maps, o) {
-            return Found::Fault(Refusal::SharesAboveCost(op_line(OpNo(o))));
+            return Found::Fault(Refusal::SharesAboveCost(op_line(c.counts.edition, OpNo(o))));
         }
         o += 1;
     }

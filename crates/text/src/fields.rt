@@ -47,14 +47,17 @@ use crate::names::FIELD_GOAL_VAL;
 use crate::names::FIELD_GOAL_VAR;
 use crate::names::FIELD_INIT;
 use crate::names::FIELD_MAPS;
+use crate::names::FIELD_MARK;
 use crate::names::FIELD_OPS;
 use crate::names::FIELD_PRE_VAL;
 use crate::names::FIELD_PRE_VAR;
+use crate::names::FIELD_QUOTA;
 use crate::names::FIELD_SHARE;
 use crate::names::FIELD_VARS;
 use crate::names::KIND_CLASS;
 use crate::names::KIND_COST;
 use crate::names::KIND_LINE;
+use crate::names::KIND_MARK;
 use crate::names::KIND_ROW;
 use crate::names::KIND_SHARE;
 use crate::names::KIND_VAL;
@@ -65,12 +68,15 @@ use crate::places::cost_byte;
 use crate::places::eff_place;
 use crate::places::goal_place;
 use crate::places::init_place;
+use crate::places::mark_place;
 use crate::places::pre_place;
 use crate::places::share_byte;
-use grammar::EDITION;
 use meaning::limits::COST_MOST;
+use meaning::limits::EDITION_MOST;
 use meaning::limits::MAPS_MOST;
+use meaning::limits::MARK_MOST;
 use meaning::limits::OPS_MOST;
+use meaning::limits::QUOTA_MOST;
 use meaning::limits::STATES_MOST;
 use meaning::limits::VALUES_MOST;
 use meaning::limits::VARS_MOST;
@@ -83,9 +89,9 @@ pub fn key_byte(f: u32, k: u32) -> u32
     ensures { λ r. ⌜ r ≡ keyByte f k ⌝ }
 {
     let i = wide(f) * 8 + wide(k);
-    if i < 120 {
+    if i < 136 {
         word(byte_at(
-            b"edition=vars=   dom=    init=   goal=           ops=    op=                                     maps=   map=    share=  ",
+            b"edition=vars=   dom=    init=   goal=           ops=    op=                                     maps=   map=    share=  quota=          ",
             i,
         ))
     } else {
@@ -110,7 +116,7 @@ pub fn bound_of(f: u32) -> u32
     ensures { λ r. ⌜ r ≡ getD limits f 0 ⌝ }
 {
     match f {
-        FIELD_EDITION => EDITION + 1,
+        FIELD_EDITION => EDITION_MOST + 1,
         FIELD_VARS => VARS_MOST + 1,
         FIELD_DOM => VALUES_MOST + 1,
         FIELD_GOAL_VAR => BY_VARS,
@@ -120,6 +126,8 @@ pub fn bound_of(f: u32) -> u32
         FIELD_EFF_VAR => BY_VARS,
         FIELD_MAPS => MAPS_MOST + 1,
         FIELD_SHARE => COST_MOST + 1,
+        FIELD_QUOTA => QUOTA_MOST + 1,
+        FIELD_MARK => MARK_MOST + 1,
         _ => BY_VALUES,
     }
 }
@@ -139,6 +147,7 @@ pub fn kind_of(f: u32) -> u32
         FIELD_EFF_VAL => KIND_VAL,
         FIELD_CLASS => KIND_CLASS,
         FIELD_SHARE => KIND_SHARE,
+        FIELD_MARK => KIND_MARK,
         _ => KIND_LINE,
     }
 }
@@ -194,6 +203,14 @@ pub fn counts_with(c: Ctrl) -> Counts
     }
     if f == FIELD_MAPS {
         n.maps = c.digits.val;
+        return n;
+    }
+    if f == FIELD_EDITION {
+        n.edition = c.digits.val;
+        return n;
+    }
+    if f == FIELD_QUOTA {
+        n.quota = c.digits.val;
     }
     n
 }
@@ -296,6 +313,7 @@ pub fn store(c: Ctrl, w: &mut [u8])
             c.digits.val,
         ),
         FIELD_SHARE => put_word(w, share_byte(c.spot.row, c.turn.item), c.digits.val),
+        FIELD_MARK => put_byte(w, mark_place(c.spot.row), c.digits.val),
         _ => (),
     }
 }

@@ -44,7 +44,11 @@ pub const FIELD_CLASS: u32 = 13;
 
 pub const FIELD_SHARE: u32 = 14;
 
-pub const FIELD_END: u32 = 15;
+pub const FIELD_QUOTA: u32 = 15;
+
+pub const FIELD_MARK: u32 = 16;
+
+pub const FIELD_END: u32 = 17;
 
 // The lists of facts, two fields each.
 pub const GOAL_LIST: u32 = 2;
@@ -61,7 +65,7 @@ pub const RUN_ZERO: u32 = 1;
 pub const RUN_ON: u32 = 2;
 
 // What follows a number: its line's end, the next of a row over the variables, a fact's colon, more facts or their end, the
-// preconditions, the next class, the next share.
+// preconditions, the next class, the next share, the operator's end.
 pub const KIND_LINE: u32 = 0;
 
 pub const KIND_ROW: u32 = 1;
@@ -75,6 +79,8 @@ pub const KIND_COST: u32 = 4;
 pub const KIND_CLASS: u32 = 5;
 
 pub const KIND_SHARE: u32 = 6;
+
+pub const KIND_MARK: u32 = 7;
 
 // A range that ends at the variable's number of values, and one that ends at the number of variables.
 pub const BY_VALUES: u32 = 0;

@@ -1,7 +1,7 @@
 // Where a task's numbers stand in the work area.
 ghost use mathlib.Core.Path.{_≡_};
 ghost use Prim.Native.Nat.{_+_, _*_, _<_};
-ghost use Rattle.tables.specs.Layout.{initPlace, goalPlace, prePlace, effPlace, classPlace};
+ghost use Rattle.tables.specs.Layout.{initPlace, goalPlace, prePlace, effPlace, classPlace, markPlace};
 ghost use Rattle.text.specs.Inside.Area.{costByte, shareByte};
 use crate::area::wide;
 use crate::names::COSTS_BYTE;
@@ -10,6 +10,7 @@ use tables::readers::CLASS_ROWS;
 use tables::readers::EFF_ROWS;
 use tables::readers::GOAL_ROW;
 use tables::readers::INIT_ROW;
+use tables::readers::MARK_ROW;
 use tables::readers::PRE_ROWS;
 
 pub fn init_place(v: u32) -> usize
@@ -40,6 +41,12 @@ pub fn class_place(m: u32, v: u32, x: u32) -> usize
     ensures { λ r. ⌜ r ≡ classPlace m v x ⌝ }
 {
     (CLASS_ROWS as usize + (wide(m) * 8 + wide(v))) * 8 + wide(x)
+}
+
+pub fn mark_place(o: u32) -> usize
+    ensures { λ r. ⌜ r ≡ markPlace o ⌝ }
+{
+    MARK_ROW as usize * 8 + wide(o)
 }
 
 pub fn cost_byte(o: u32) -> usize

@@ -3,7 +3,6 @@ ghost use mathlib.Core.Path.{_≡_};
 ghost use Prim.Native.Nat.{_≤_};
 ghost use Rattle.meaning.specs.Limits.{mostVars, mostOps, mostMaps};
 ghost use Rattle.tables.specs.Task.{taskOf, lent, was, left};
-ghost use Rattle.grammar.specs.Fields.{edition};
 ghost use Rattle.grammar.specs.Spelling.{spelled};
 ghost use Rattle.grammar.specs.Writing.{page, writeText};
 ghost use Rattle.writer.specs.Inside.Pen.{Puts};
@@ -12,12 +11,12 @@ mod lines;
 mod pen;
 mod rows;
 
-use grammar::EDITION;
 use grammar::Written;
 use lines::put_count;
 use lines::put_goal;
 use lines::put_maps;
 use lines::put_ops;
+use lines::put_quota;
 use lines::put_split;
 use lines::put_values;
 use meaning::limits::BYTES_MOST;
@@ -31,13 +30,14 @@ use tables::readers::INIT_ROW;
 // The whole text, from the buffer's first place on.
 fn put_task(out: &mut [u8], c: Counts, facts: &[u8], costs: &[u32], shares: &[u32]) -> usize
     requires { ⌜ (c .vars ≤ mostVars) × (c .ops ≤ mostOps) × (c .maps ≤ mostMaps) ⌝ }
-    ensures { λ r. ⌜ Puts out 0 (spelled edition (taskOf (lent c facts costs shares))) r ⌝ }
+    ensures { λ r. ⌜ Puts out 0 (spelled (taskOf (lent c facts costs shares))) r ⌝ }
 {
-    let mut next = put_count(out, 0, b"edition=", EDITION);
+    let mut next = put_count(out, 0, b"edition=", c.edition);
     next = put_count(out, next, b"vars=", c.vars);
     next = put_values(out, next, b"dom=", facts, DOM_ROW, c.vars);
     next = put_values(out, next, b"init=", facts, INIT_ROW, c.vars);
     next = put_goal(out, next, facts, c.vars);
+    next = put_quota(out, next, c);
     next = put_count(out, next, b"ops=", c.ops);
     next = put_ops(out, next, c, facts, costs);
     next = put_count(out, next, b"maps=", c.maps);

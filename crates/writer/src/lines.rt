@@ -2,10 +2,10 @@
 ghost use mathlib.Core.List.{[], _∷_, _++_};
 ghost use Prim.Native.Nat.{_≤_, _<_};
 ghost use Rattle.meaning.specs.Limits.{mostVars, mostOps, mostMaps};
-ghost use Rattle.tables.specs.Layout.{rowAt, goalAt, shareAt};
+ghost use Rattle.tables.specs.Layout.{rowAt, goalAt, shareAt, quotaOf, markOf};
 ghost use Rattle.tables.specs.Task.{tables, taskOf, was};
-ghost use Rattle.grammar.specs.Fields.{lineEnd};
-ghost use Rattle.grammar.specs.Spelling.{digits, numbers, someFacts, keyed, stacked, opText, mapText, shareText};
+ghost use Rattle.grammar.specs.Fields.{lineEnd, semicolon};
+ghost use Rattle.grammar.specs.Spelling.{digits, numbers, someFacts, keyed, stacked, spelledIn, opText, mapText, shareText};
 ghost use Rattle.writer.specs.Inside.Pen.{Puts};
 use crate::pen::DASH;
 use crate::pen::LINE_END;
@@ -19,6 +19,7 @@ use crate::rows::put_facts;
 use crate::rows::put_row;
 use crate::rows::put_shares;
 use meaning::OpNo;
+use meaning::limits::QUOTA_EDITION;
 use tables::Counts;
 use tables::classes::word_of;
 use tables::readers::DOM_ROW;
@@ -26,7 +27,9 @@ use tables::readers::GOAL_ROW;
 use tables::readers::class_row;
 use tables::readers::cost_at;
 use tables::readers::eff_row;
+use tables::readers::mark_of;
 use tables::readers::pre_row;
+use tables::readers::quota_of;
 
 // A line of one number.
 pub fn put_count(out: &mut [u8], at: usize, key: &[u8], x: u32) -> usize
@@ -55,7 +58,30 @@ pub fn put_goal(out: &mut [u8], at: usize, facts: &[u8], n: u32) -> usize
     put(out, next, LINE_END)
 }
 
-// The line of an operator: its cost, its preconditions, its effects.
+// The quota's line, which edition 2 alone has.
+pub fn put_quota(out: &mut [u8], at: usize, c: Counts) -> usize
+    ensures { λ r. ⌜ Puts out at (spelledIn (c .edition) (keyed "quota=" (digits (quotaOf c)))) r ⌝ }
+{
+    if c.edition == QUOTA_EDITION {
+        put_count(out, at, b"quota=", quota_of(c))
+    } else {
+        at
+    }
+}
+
+// An operator's mark after a semicolon, which edition 2 alone has.
+fn put_mark(out: &mut [u8], at: usize, c: Counts, facts: &[u8], o: OpNo) -> usize
+    ensures { λ r. ⌜ Puts out at (spelledIn (c .edition) (semicolon ∷ digits (markOf c (was facts) (o .0)))) r ⌝ }
+{
+    if c.edition == QUOTA_EDITION {
+        let next = put(out, at, SEMICOLON);
+        put_number(out, next, mark_of(c, facts, o))
+    } else {
+        at
+    }
+}
+
+// The line of an operator: its cost, its preconditions, its effects, and in edition 2 its mark.
 fn put_op(out: &mut [u8], at: usize, c: Counts, facts: &[u8], costs: &[u32], o: OpNo) -> usize
     requires { ⌜ o .0 < mostOps ⌝ }
     ensures { λ r. ⌜ Puts out at (keyed "op=" (opText (taskOf (tables c (was facts) (was costs) [])) (o .0))) r ⌝ }
@@ -66,6 +92,7 @@ fn put_op(out: &mut [u8], at: usize, c: Counts, facts: &[u8], costs: &[u32], o: 
     next = put_facts(out, next, facts, pre_row(o), c.vars);
     next = put(out, next, SEMICOLON);
     next = put_facts(out, next, facts, eff_row(o), c.vars);
+    next = put_mark(out, next, c, facts, o);
     put(out, next, LINE_END)
 }
 

@@ -3,6 +3,7 @@ use Prim.Native.Nat.{ℕ, _+_, _/_, min}
 use mathlib.Core.List.{List}
 use mathlib.Core.Bool.{Bool, true, false, cond}
 use lib.Dec.{ltb, eqb}
+use Rattle.tables.specs.Editions.{hasQuota}
 use Rattle.text.specs.declared.Ctrl.{Ctrl}
 use Rattle.text.specs.declared.Spot.{Spot}
 use Rattle.text.specs.declared.Digits.{Digits}
@@ -80,8 +81,14 @@ fieldClass = 13
 abbrev pub fieldShare : ℕ
 fieldShare = 14
 
+abbrev pub fieldQuota : ℕ
+fieldQuota = 15
+
+abbrev pub fieldMark : ℕ
+fieldMark = 16
+
 abbrev pub fieldEnd : ℕ
-fieldEnd = 15
+fieldEnd = 17
 
 -- two fields a list of facts
 abbrev pub listNo : ℕ → ℕ
@@ -95,6 +102,10 @@ preList = 4
 
 abbrev pub effList : ℕ
 effList = 5
+
+-- the fields that an operator's line can end with: its effects, and in edition 2 its mark
+abbrev pub endsOperator : ℕ → Bool
+endsOperator f = cond (eqb (listNo f) effList) true (eqb f fieldMark)
 
 -- the digit run: before the first digit, after a single 0, after any other digits
 abbrev pub runNone : ℕ
@@ -157,7 +168,7 @@ start =
       digits = noDigits;
       turn = firstTurn;
       seen = noneSeen;
-      counts = record { vars = 0; ops = 0; maps = 0 };
+      counts = record { vars = 0; ops = 0; maps = 0; edition = 0; quota = 0 };
     }
 
 -- the reading stops
@@ -235,5 +246,7 @@ nextLine c =
     (cond (eqb (c .spot .field) fieldShare)
     (rowOr c (c .counts .maps) fieldShare fieldEnd)
     (cond (eqb (listNo (c .spot .field)) goalList)
+    (toLine c (cond (hasQuota (c .counts .edition)) fieldQuota fieldOps) 0)
+    (cond (eqb (c .spot .field) fieldQuota)
     (toLine c fieldOps 0)
-    (cond (eqb (listNo (c .spot .field)) effList) (rowOr c (c .counts .ops) fieldCost fieldMaps) (toLine c (up (c .spot .field)) 0)))))
+    (cond (endsOperator (c .spot .field)) (rowOr c (c .counts .ops) fieldCost fieldMaps) (toLine c (up (c .spot .field)) 0))))))

@@ -42,7 +42,7 @@ refusalOf Idle l = Fault (IdleOperator l)
 unfoldable pub over : St → Found
 over s =
     each
-    (λ o. unless (leb (sum (λ m. shareIn (s .area) m o) (min (s .ctrl .counts .maps) mostMaps)) (costIn (s .area) o)) (SharesAboveCost (lineOfOp o)))
+    (λ o. unless (leb (sum (λ m. shareIn (s .area) m o) (min (s .ctrl .counts .maps) mostMaps)) (costIn (s .area) o)) (SharesAboveCost (lineOfOp (s .ctrl .counts .edition) o)))
     (min (s .ctrl .counts .ops) mostOps)
     0
 

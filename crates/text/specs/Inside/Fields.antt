@@ -6,10 +6,10 @@ use lib.ListN.{getD}
 use lib.Dec.{ltb, leb, eqb}
 use lib.Bits.{bitOr}
 use lib.Count.{ones, leadingZeros}
-use Rattle.meaning.specs.Limits.{mostVars, mostValues, mostOps, mostCost, mostMaps, mostStates}
+use Rattle.meaning.specs.Limits.{mostVars, mostValues, mostOps, mostCost, mostMaps, mostStates, mostEdition, mostQuota, mostMark}
 use Rattle.tables.specs.declared.Counts.{Counts}
-use Rattle.tables.specs.Layout.{initPlace, goalPlace, prePlace, effPlace, classPlace}
-use Rattle.grammar.specs.Fields.{edition, bytesOf}
+use Rattle.tables.specs.Layout.{initPlace, goalPlace, prePlace, effPlace, classPlace, markPlace}
+use Rattle.grammar.specs.Fields.{bytesOf}
 use Rattle.text.specs.declared.Ctrl.{Ctrl}
 use Rattle.text.specs.declared.Seen.{Seen}
 use Rattle.text.specs.declared.Halt.{Halt}
@@ -20,6 +20,7 @@ use Rattle.text.specs.Inside.Control.{
   up,
   seenOf,
   runNone,
+  fieldEdition,
   fieldVars,
   fieldDom,
   fieldInit,
@@ -31,18 +32,20 @@ use Rattle.text.specs.Inside.Control.{
   fieldMaps,
   fieldClass,
   fieldShare,
+  fieldQuota,
+  fieldMark,
 }
 
 -- the keyword of each field that begins a line, 8 bytes a field; past the last field no byte fits
 abbrev pub keys : List ℕ
-keys = bytesOf "edition=vars=   dom=    init=   goal=           ops=    op=                                     maps=   map=    share=  "
+keys = bytesOf "edition=vars=   dom=    init=   goal=           ops=    op=                                     maps=   map=    share=  quota=          "
 
 unfoldable pub keyByte : ℕ → ℕ → ℕ
 keyByte f k = getD keys (f * 8 + k) 256
 
 -- the least number of each field, and the first number beyond its range, where two marks stand for what the text itself has said
 abbrev pub leasts : List ℕ
-leasts = 1 ∷ 1 ∷ 1 ∷ 0 ∷ 0 ∷ 0 ∷ 0 ∷ 0 ∷ 0 ∷ 0 ∷ 0 ∷ 0 ∷ 1 ∷ 0 ∷ 0 ∷ 0 ∷ []
+leasts = 1 ∷ 1 ∷ 1 ∷ 0 ∷ 0 ∷ 0 ∷ 0 ∷ 0 ∷ 0 ∷ 0 ∷ 0 ∷ 0 ∷ 1 ∷ 0 ∷ 0 ∷ 0 ∷ 0 ∷ 0 ∷ []
 
 -- the variable's number of values; the number of variables
 abbrev pub byValues : ℕ
@@ -53,7 +56,7 @@ byVars = 1
 
 abbrev pub limits : List ℕ
 limits =
-    (edition + 1)
+    (mostEdition + 1)
     ∷ (mostVars + 1)
     ∷ (mostValues + 1)
     ∷ byValues
@@ -68,6 +71,8 @@ limits =
     ∷ (mostMaps + 1)
     ∷ byValues
     ∷ (mostCost + 1)
+    ∷ (mostQuota + 1)
+    ∷ (mostMark + 1)
     ∷ byValues
     ∷ []
 
@@ -108,6 +113,8 @@ countsWith c =
       vars = cond (eqb (c .spot .field) fieldVars) (c .digits .val) (c .counts .vars);
       ops = cond (eqb (c .spot .field) fieldOps) (c .digits .val) (c .counts .ops);
       maps = cond (eqb (c .spot .field) fieldMaps) (c .digits .val) (c .counts .maps);
+      edition = cond (eqb (c .spot .field) fieldEdition) (c .digits .val) (c .counts .edition);
+      quota = cond (eqb (c .spot .field) fieldQuota) (c .digits .val) (c .counts .quota);
     }
 
 unfoldable pub seenWith : Ctrl → Seen
@@ -156,10 +163,12 @@ stored c w =
     (putByte w (effPlace (c .spot .row) (c .turn .var)) (up (c .digits .val)))
     (cond (eqb (c .spot .field) fieldClass)
     (putByte w (classPlace (c .spot .row) (c .turn .var) (c .turn .item)) (c .digits .val))
-    (cond (eqb (c .spot .field) fieldShare) (putWord w (shareByte (c .spot .row) (c .turn .item)) (c .digits .val)) w)))))))
+    (cond (eqb (c .spot .field) fieldShare)
+    (putWord w (shareByte (c .spot .row) (c .turn .item)) (c .digits .val))
+    (cond (eqb (c .spot .field) fieldMark) (putByte w (markPlace (c .spot .row)) (c .digits .val)) w))))))))
 
 -- what follows a number of each field: its line's end, the next of a row over the variables, a fact's colon, more facts or their end,
--- the preconditions, the next class, the next share
+-- the preconditions, the next class, the next share, the operator's end
 abbrev pub kindLine : ℕ
 kindLine = 0
 
@@ -181,9 +190,30 @@ kindClass = 5
 abbrev pub kindShare : ℕ
 kindShare = 6
 
+abbrev pub kindMark : ℕ
+kindMark = 7
+
 abbrev pub kinds : List ℕ
 kinds =
-    kindLine ∷ kindLine ∷ kindRow ∷ kindRow ∷ kindVar ∷ kindVal ∷ kindLine ∷ kindCost ∷ kindVar ∷ kindVal ∷ kindVar ∷ kindVal ∷ kindLine ∷ kindClass ∷ kindShare ∷ kindLine ∷ []
+    kindLine
+    ∷ kindLine
+    ∷ kindRow
+    ∷ kindRow
+    ∷ kindVar
+    ∷ kindVal
+    ∷ kindLine
+    ∷ kindCost
+    ∷ kindVar
+    ∷ kindVal
+    ∷ kindVar
+    ∷ kindVal
+    ∷ kindLine
+    ∷ kindClass
+    ∷ kindShare
+    ∷ kindLine
+    ∷ kindMark
+    ∷ kindLine
+    ∷ []
 
 unfoldable pub kind : ℕ → ℕ
 kind f = getD kinds f 0

@@ -6,6 +6,7 @@ use mathlib.Core.Bool.{Bool, true, false, cond, not}
 use lib.Dec.{eqb}
 use Rattle.grammar.specs.Fields.{isDigit, lineEnd, comma, dash, slash, colon, semicolon}
 use Rattle.text.specs.declared.Ctrl.{Ctrl}
+use Rattle.tables.specs.Editions.{hasQuota}
 use Rattle.tables.specs.Steps.{isIdle}
 use Rattle.text.specs.declared.Halt.{Halt}
 use Rattle.text.specs.declared.Halt.the-variants.{Going, Form, Idle}
@@ -28,6 +29,7 @@ use Rattle.text.specs.Inside.Control.{
   listNo,
   preList,
   effList,
+  endsOperator,
   runNone,
   runZero,
   runOn,
@@ -38,6 +40,7 @@ use Rattle.text.specs.Inside.Control.{
   fieldEffVar,
   fieldClass,
   fieldShare,
+  fieldMark,
   fieldEnd,
 }
 use Rattle.text.specs.Inside.Fields.{
@@ -56,6 +59,7 @@ use Rattle.text.specs.Inside.Fields.{
   kindCost,
   kindClass,
   kindShare,
+  kindMark,
 }
 
 -- a keyword's last byte
@@ -85,16 +89,22 @@ digitRead c d =
 unfoldable pub mark : Ctrl → ℕ → ℕ → Ctrl → Ctrl
 mark c b x n = cond (eqb b x) n (stopped c Form)
 
--- an operator's effects are over, and it is idle
-unfoldable pub idleHere : Ctrl → List ℕ → Bool
-idleHere c w = cond (eqb (listNo (c .spot .field)) effList) (isIdle (c .counts .vars) w (c .spot .row)) false
+-- an operator's effects are over, and its mark is due
+unfoldable pub markDue : Ctrl → Bool
+markDue c = cond (eqb (listNo (c .spot .field)) effList) (hasQuota (c .counts .edition)) false
 
--- the end of a list of facts, or of the dash that stands for an empty list: an idle operator is told before the byte is judged
+-- an operator's last field is over, and it is idle
+unfoldable pub idleHere : Ctrl → List ℕ → Bool
+idleHere c w = cond (endsOperator (c .spot .field)) (isIdle (c .counts .vars) w (c .spot .row)) false
+
+-- the end of a list of facts, of the dash that stands for an empty list, or of a mark: an idle operator is told before the byte is judged
 unfoldable pub listEnd : Ctrl → List ℕ → ℕ → Ctrl
 listEnd c w b =
     cond (eqb (listNo (c .spot .field)) preList)
     (mark c b semicolon (due c fieldEffVar firstTurn noneSeen))
-    (cond (idleHere c w) (stopped c Idle) (mark c b lineEnd (nextLine c)))
+    (cond (markDue c)
+    (mark c b semicolon (due c fieldMark firstTurn noneSeen))
+    (cond (idleHere c w) (stopped c Idle) (mark c b lineEnd (nextLine c))))
 
 -- the byte after a class
 unfoldable pub afterClass : Ctrl → List ℕ → ℕ → Ctrl
@@ -137,7 +147,9 @@ afterNumber c w b =
     (mark c b semicolon (due c fieldPreVar firstTurn noneSeen))
     (cond (eqb (kind (c .spot .field)) kindClass)
     (afterClass c w b)
-    (cond (eqb (kind (c .spot .field)) kindShare) (afterShare c b) (mark c b lineEnd (nextLine c)))))))
+    (cond (eqb (kind (c .spot .field)) kindShare)
+    (afterShare c b)
+    (cond (eqb (kind (c .spot .field)) kindMark) (listEnd c w b) (mark c b lineEnd (nextLine c))))))))
 
 -- a byte that is no digit ends the run: its fault stops the reading, else the number is kept and the byte judged
 unfoldable pub closed : Ctrl → List ℕ → ℕ → St
@@ -155,9 +167,11 @@ unfoldable pub atNumber : Ctrl → List ℕ → ℕ → St
 atNumber c w b =
     cond (isDigit b) (mk (digitRead c (b - 48)) w) (cond (dashHere c b) (mk (dashed c) w) (closed c w b))
 
--- the same by what stands before the byte, in the order in which the code asks: whether a list of facts is over, what is kept of a run, the byte after it
+-- the same by what stands before the byte, in the order in which the code asks: whether a list of facts or an operator's mark is over, what is kept of a run, the byte after it
 unfoldable pub listOver : Ctrl → ℕ → Bool
-listOver c b = cond (eqb (c .spot .part) partAfterDash) true (cond (eqb (kind (c .spot .field)) kindVal) (not (eqb b comma)) false)
+listOver c b =
+    cond (eqb (c .spot .part) partAfterDash) true
+    (cond (eqb (kind (c .spot .field)) kindVal) (not (eqb b comma)) (eqb (kind (c .spot .field)) kindMark))
 
 unfoldable pub afterPart : Ctrl → List ℕ → ℕ → Ctrl
 afterPart c w b = cond (eqb (c .spot .part) partAfterDash) (listEnd c w b) (afterNumber c w b)
