@@ -98,11 +98,14 @@ pub valid-unpriced : (t : Tables) → Valid (taskOf t) → Valid (unpriced (t .c
 valid-unpriced t ok =
     let P = ok .proper in
     record {
+      edition = ok .edition;
       vars = ok .vars;
       values = ok .values;
       proper = record { values = P .values; init = P .init; goal = P .goal; pre = P .pre; eff = P .eff };
+      quota = ok .quota;
       ops = ok .ops;
       costs = λ o l. zero-le;
+      marks = ok .marks;
       none-idle = ok .none-idle;
       maps = ok .maps;
       classes = ok .classes;

@@ -61,6 +61,7 @@ refusalAt n p =
     ∷ refusal.NoGoal p
     ∷ refusal.NotARun
     ∷ refusal.IdleOperator p
+    ∷ refusal.BeyondQuota p
     ∷ [])
     n refusal.TextTooLong
 
@@ -88,6 +89,7 @@ refusal-back (refusal.RunFull step) = (refl, refl, omega arith)
 refusal-back (refusal.NoGoal steps) = (refl, refl, omega arith)
 refusal-back refusal.NotARun = (refl, refl, omega arith)
 refusal-back (refusal.IdleOperator line) = (refl, refl, omega arith)
+refusal-back (refusal.BeyondQuota step) = (refl, refl, omega arith)
 
 pub number-small : (r : Refusal) → numberOf r < 128
 number-small r = refusal-back r .2
