@@ -2,11 +2,12 @@
 -- A row of counts that is lent too short is 8 and nothing else, before all.
 use mathlib.Core.Path.{_≡_}
 use mathlib.Core.Bool.{cond}
-use mathlib.Core.List.{List}
+use mathlib.Core.List.{List, []}
 use Prim.Native.Nat.{ℕ}
 use lib.Dec.{ltb}
-use lib.ListN.{length, set}
+use lib.ListN.{length, getD, set}
 use Rattle.refusals.specs.declared.Refusal.the-variants.{TableTooShort}
+use Rattle.tables.specs.declared.Counts.{Counts}
 use Rattle.tables.specs.Layout.{Tables}
 use Rattle.tables.specs.Task.{tables, Slice, was}
 use Rattle.grammar.specs.declared.Reading.{Reading}
@@ -20,9 +21,24 @@ use Rattle.views.specs.declared.BoundAnswer.{BoundAnswer}
 use Rattle.views.specs.Entries.{DistancesGiven, DistanceGiven, BoundGiven}
 use Rattle.words.specs.Words.{refusedWord, readingWord, writtenWord, distancesWord, distanceWord, boundWord}
 
--- the tables of a task that is lent by its counts, three numbers, and its three tables
-abbrev pub lentTask : ℕ → ℕ → ℕ → Slice → Slice → Slice → Tables
-lentTask vars ops maps facts costs shares = tables (record { vars = vars; ops = ops; maps = maps }) (was facts) (was costs) (was shares)
+-- the row of counts: variables, operators, maps, edition, quota; further places aren't read
+abbrev pub countsRow : ℕ
+countsRow = 5
+
+abbrev pub countsIn : List ℕ → Counts
+countsIn row =
+    record { vars = getD row 0 0; ops = getD row 1 0; maps = getD row 2 0; edition = getD row 3 0; quota = getD row 4 0 }
+
+-- a row that is lent too short is as a table that is too short: beside it there are no facts
+unfoldable pub factsBeside : List ℕ → List ℕ → List ℕ
+factsBeside row facts = cond (ltb (length row) countsRow) [] facts
+
+-- the tables of a task that is lent by its row of counts and its three tables. `short-row` (proofs/Handed.antt): with a row that is too short they are 8
+abbrev pub rowTables : List ℕ → List ℕ → List ℕ → List ℕ → Tables
+rowTables row facts costs shares = tables (countsIn row) (factsBeside row facts) costs shares
+
+abbrev pub lentTask : Slice → Slice → Slice → Slice → Tables
+lentTask counts facts costs shares = rowTables (was counts) (was facts) (was costs) (was shares)
 
 -- READING: the word, the lent counts and the three lent tables
 pub record ReadLeft : Type 0 where
@@ -35,14 +51,13 @@ pub record ReadLeft : Type 0 where
 abbrev pub readLeft : ℕ → List ℕ → List ℕ → List ℕ → List ℕ → ReadLeft
 readLeft w n f c s = record { word = w; counts = n; facts = f; costs = c; shares = s }
 
--- the lent counts after a reading: its variables, operators and maps, if it was accepted
-abbrev pub countsAfter : Reading → List ℕ → List ℕ
-countsAfter (reading.Accepted c) counts = set (set (set counts 0 (c .vars)) 1 (c .ops)) 2 (c .maps)
-countsAfter (reading.Refused r) counts = counts
+-- the lent counts after a reading: the task's, if it was accepted
+abbrev pub countsPut : Counts → List ℕ → List ℕ
+countsPut c row = set (set (set (set (set row 0 (c .vars)) 1 (c .ops)) 2 (c .maps)) 3 (c .edition)) 4 (c .quota)
 
--- places of the row of counts
-abbrev pub countsRow : ℕ
-countsRow = 3
+abbrev pub countsAfter : Reading → List ℕ → List ℕ
+countsAfter (reading.Accepted c) counts = countsPut c counts
+countsAfter (reading.Refused r) counts = counts
 
 abbrev pub readCounted : Outcome → List ℕ → ReadLeft
 readCounted o counts = readLeft (readingWord (o .answer)) (countsAfter (o .answer) counts) (o .facts) (o .costs) (o .shares)

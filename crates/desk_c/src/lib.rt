@@ -8,7 +8,7 @@ ghost use Rattle.sequences.specs.Judging.{judgedOf};
 ghost use Rattle.sequences.specs.Choosing.{cheaperOf, chosenOf};
 ghost use Rattle.words.specs.Words.{foundWord, judgedWord, cheaperWord, openingWord};
 ghost use Rattle.lent_runs.specs.Left.{runLeft, beginHanded, offerHanded};
-ghost use Rattle.desk_c.specs.Handing.{lentTask, readLeft, readHanded, writeLeft, writeHanded, DistancesHanded, DistanceHanded, BoundHanded};
+ghost use Rattle.desk_c.specs.Handing.{countsIn, factsBeside, lentTask, readLeft, readHanded, writeLeft, writeHanded, DistancesHanded, DistanceHanded, BoundHanded};
 ghost use Rattle.tables.specs.Task.{was, left};
 use grammar::Reading;
 use lent_runs::hand_back;
@@ -18,6 +18,7 @@ use meaning::OpNo;
 use refusals::Refusal;
 use sequences::choosing::choice_of;
 use tables::Counts;
+use tables::readers::word_at;
 use words::DONE;
 use words::bound_word;
 use words::cheaper_word;
@@ -30,10 +31,33 @@ use words::refused_word;
 use words::word;
 use words::written_word;
 
-// The places of a lent row of counts.
-const COUNTS_ROW: usize = 3;
+// The places of a lent row of counts: variables, operators, maps, edition, quota.
+const COUNTS_ROW: usize = 5;
 
-// READS a task text into the lent tables, and its counts (variables, operators, maps) into a lent row of at least 3 places.
+// The counts of a lent row.
+fn counts_in(row: &[u32]) -> Counts
+    ensures { λ r. ⌜ r ≡ countsIn (was row) ⌝ }
+{
+    Counts {
+        vars: word_at(row, 0),
+        ops: word_at(row, 1),
+        maps: word_at(row, 2),
+        edition: word_at(row, 3),
+        quota: word_at(row, 4),
+    }
+}
+
+// The facts beside a lent row of counts: none where the row is too short, so that it is refused as a table that is too short.
+fn facts_beside<'a>(row: &[u32], facts: &'a [u8]) -> &'a [u8]
+    ensures { λ r. ⌜ now r ≡ factsBeside (was row) (was facts) ⌝ }
+{
+    if row.len() < COUNTS_ROW {
+        return &facts[..0];
+    }
+    facts
+}
+
+// READS a task text into the lent tables, and its counts (variables, operators, maps, edition, quota) into a lent row of at least 5 places.
 // `read-unique`.
 #[no_mangle]
 pub extern "C" fn desk_read(
@@ -54,6 +78,8 @@ pub extern "C" fn desk_read(
             counts[0] = c.vars;
             counts[1] = c.ops;
             counts[2] = c.maps;
+            counts[3] = c.edition;
+            counts[4] = c.quota;
             word(DONE, 0)
         }
         Reading::Refused(f) => refused_word(f),
@@ -64,119 +90,106 @@ pub extern "C" fn desk_read(
 // `write-unique`.
 #[no_mangle]
 pub extern "C" fn desk_write(
-    vars: u32,
-    ops: u32,
-    maps: u32,
+    counts: &[u32],
     facts: &[u8],
     costs: &[u32],
     shares: &[u32],
     buffer: &mut [u8],
 ) -> u64
-    ensures { λ w. ⌜ writeLeft w (left buffer) ≡ writeHanded (lentTask vars ops maps facts costs shares) (was buffer) ⌝ }
+    ensures { λ w. ⌜ writeLeft w (left buffer) ≡ writeHanded (lentTask counts facts costs shares) (was buffer) ⌝ }
 {
-    let c = Counts { vars, ops, maps };
-    written_word(desk::write(c, facts, costs, shares, buffer))
+    let c = counts_in(counts);
+    let f = facts_beside(counts, facts);
+    written_word(desk::write(c, f, costs, shares, buffer))
 }
 
 // CHECKS handed-in tables.
 // `check-unique`.
 #[no_mangle]
-pub extern "C" fn desk_check(
-    vars: u32,
-    ops: u32,
-    maps: u32,
-    facts: &[u8],
-    costs: &[u32],
-    shares: &[u32],
-) -> u64
-    ensures { λ w. ⌜ w ≡ foundWord (tablesFault (lentTask vars ops maps facts costs shares)) ⌝ }
+pub extern "C" fn desk_check(counts: &[u32], facts: &[u8], costs: &[u32], shares: &[u32]) -> u64
+    ensures { λ w. ⌜ w ≡ foundWord (tablesFault (lentTask counts facts costs shares)) ⌝ }
 {
-    let c = Counts { vars, ops, maps };
-    found_word(desk::check(c, facts, costs, shares))
+    let c = counts_in(counts);
+    let f = facts_beside(counts, facts);
+    found_word(desk::check(c, f, costs, shares))
 }
 
 // The DISTANCES of a map into a lent table of at least 4,096 places; the word tells the rounds.
 // `distances-unique`.
 #[no_mangle]
 pub extern "C" fn desk_distances(
-    vars: u32,
-    ops: u32,
-    maps: u32,
+    counts: &[u32],
     facts: &[u8],
     costs: &[u32],
     shares: &[u32],
     map: u32,
     out: &mut [u32],
 ) -> u64
-    ensures { λ w. ⌜ DistancesHanded (lentTask vars ops maps facts costs shares) map (was out) w (left out) ⌝ }
+    ensures { λ w. ⌜ DistancesHanded (lentTask counts facts costs shares) map (was out) w (left out) ⌝ }
 {
-    let c = Counts { vars, ops, maps };
-    distances_word(desk::distances(c, facts, costs, shares, map, out))
+    let c = counts_in(counts);
+    let f = facts_beside(counts, facts);
+    distances_word(desk::distances(c, f, costs, shares, map, out))
 }
 
 // The DISTANCE of a state's image in one map, or none.
 // `distance-at-unique`.
 #[no_mangle]
 pub extern "C" fn desk_distance_at(
-    vars: u32,
-    ops: u32,
-    maps: u32,
+    counts: &[u32],
     facts: &[u8],
     costs: &[u32],
     shares: &[u32],
     map: u32,
     state: &[u8],
 ) -> u64
-    ensures { λ w. ⌜ DistanceHanded (lentTask vars ops maps facts costs shares) map (was state) w ⌝ }
+    ensures { λ w. ⌜ DistanceHanded (lentTask counts facts costs shares) map (was state) w ⌝ }
 {
-    let c = Counts { vars, ops, maps };
-    distance_word(desk::distance_at(c, facts, costs, shares, map, state))
+    let c = counts_in(counts);
+    let f = facts_beside(counts, facts);
+    distance_word(desk::distance_at(c, f, costs, shares, map, state))
 }
 
 // The summed BOUND of a state, or none: exactly if some map says none.
 // `bound-unique`.
 #[no_mangle]
 pub extern "C" fn desk_bound(
-    vars: u32,
-    ops: u32,
-    maps: u32,
+    counts: &[u32],
     facts: &[u8],
     costs: &[u32],
     shares: &[u32],
     state: &[u8],
 ) -> u64
-    ensures { λ w. ⌜ BoundHanded (lentTask vars ops maps facts costs shares) (was state) w ⌝ }
+    ensures { λ w. ⌜ BoundHanded (lentTask counts facts costs shares) (was state) w ⌝ }
 {
-    let c = Counts { vars, ops, maps };
-    bound_word(desk::bound(c, facts, costs, shares, state))
+    let c = counts_in(counts);
+    let f = facts_beside(counts, facts);
+    bound_word(desk::bound(c, f, costs, shares, state))
 }
 
 // JUDGES a sequence of operators from a state; the word tells its cost.
 // `judge-unique`.
 #[no_mangle]
 pub extern "C" fn desk_judge(
-    vars: u32,
-    ops: u32,
-    maps: u32,
+    counts: &[u32],
     facts: &[u8],
     costs: &[u32],
     shares: &[u32],
     state: &[u8],
     list: &[u32],
 ) -> u64
-    ensures { λ w. ⌜ w ≡ judgedWord (judgedOf (lentTask vars ops maps facts costs shares) (was state) (was list)) ⌝ }
+    ensures { λ w. ⌜ w ≡ judgedWord (judgedOf (lentTask counts facts costs shares) (was state) (was list)) ⌝ }
 {
-    let c = Counts { vars, ops, maps };
-    judged_word(desk::judge(c, facts, costs, shares, state, list))
+    let c = counts_in(counts);
+    let f = facts_beside(counts, facts);
+    judged_word(desk::judge(c, f, costs, shares, state, list))
 }
 
 // The CHEAPER of two lists of operators, with its cost.
 // `cheaper-unique`.
 #[no_mangle]
 pub extern "C" fn desk_cheaper(
-    vars: u32,
-    ops: u32,
-    maps: u32,
+    counts: &[u32],
     facts: &[u8],
     costs: &[u32],
     shares: &[u32],
@@ -184,10 +197,11 @@ pub extern "C" fn desk_cheaper(
     a: &[u32],
     b: &[u32],
 ) -> u64
-    ensures { λ w. ⌜ w ≡ cheaperWord (cheaperOf (lentTask vars ops maps facts costs shares) (was state) (was a) (was b)) ⌝ }
+    ensures { λ w. ⌜ w ≡ cheaperWord (cheaperOf (lentTask counts facts costs shares) (was state) (was a) (was b)) ⌝ }
 {
-    let c = Counts { vars, ops, maps };
-    cheaper_word(desk::cheaper(c, facts, costs, shares, state, a, b))
+    let c = counts_in(counts);
+    let f = facts_beside(counts, facts);
+    cheaper_word(desk::cheaper(c, f, costs, shares, state, a, b))
 }
 
 // The OPENING PART of the cheaper list: of which list, and how many steps from its start. A part of the caller's own list doesn't cross as one; its place and its
@@ -195,9 +209,7 @@ pub extern "C" fn desk_cheaper(
 // `opening-unique`.
 #[no_mangle]
 pub extern "C" fn desk_opening(
-    vars: u32,
-    ops: u32,
-    maps: u32,
+    counts: &[u32],
     facts: &[u8],
     costs: &[u32],
     shares: &[u32],
@@ -205,19 +217,18 @@ pub extern "C" fn desk_opening(
     a: &[u32],
     b: &[u32],
 ) -> u64
-    ensures { λ w. ⌜ w ≡ openingWord (chosenOf (lentTask vars ops maps facts costs shares) (was state) (was a) (was b)) ⌝ }
+    ensures { λ w. ⌜ w ≡ openingWord (chosenOf (lentTask counts facts costs shares) (was state) (was a) (was b)) ⌝ }
 {
-    let c = Counts { vars, ops, maps };
-    opening_word(choice_of(c, facts, costs, shares, state, a, b))
+    let c = counts_in(counts);
+    let f = facts_beside(counts, facts);
+    opening_word(choice_of(c, f, costs, shares, state, a, b))
 }
 
 // BEGINS a run from a state, in lent memory.
 // `begin-unique`.
 #[no_mangle]
 pub extern "C" fn desk_begin(
-    vars: u32,
-    ops: u32,
-    maps: u32,
+    counts: &[u32],
     facts: &[u8],
     costs: &[u32],
     shares: &[u32],
@@ -225,13 +236,14 @@ pub extern "C" fn desk_begin(
     bytes: &mut [u8],
     words: &mut [u32],
 ) -> u64
-    ensures { λ w. ⌜ runLeft w (left bytes) (left words) ≡ beginHanded (lentTask vars ops maps facts costs shares) (was start) (was bytes) (was words) ⌝ }
+    ensures { λ w. ⌜ runLeft w (left bytes) (left words) ≡ beginHanded (lentTask counts facts costs shares) (was start) (was bytes) (was words) ⌝ }
 {
     if run_short(bytes, words) {
         return refused_word(Refusal::TableTooShort);
     }
-    let c = Counts { vars, ops, maps };
-    let o = desk::begin(c, facts, costs, shares, start);
+    let c = counts_in(counts);
+    let f = facts_beside(counts, facts);
+    let o = desk::begin(c, f, costs, shares, start);
     hand_back(o, bytes, words)
 }
 
@@ -239,9 +251,7 @@ pub extern "C" fn desk_begin(
 // `offer-unique`.
 #[no_mangle]
 pub extern "C" fn desk_offer(
-    vars: u32,
-    ops: u32,
-    maps: u32,
+    counts: &[u32],
     facts: &[u8],
     costs: &[u32],
     shares: &[u32],
@@ -250,13 +260,14 @@ pub extern "C" fn desk_offer(
     number: u32,
     op: u32,
 ) -> u64
-    ensures { λ w. ⌜ runLeft w (left bytes) (left words) ≡ offerHanded (lentTask vars ops maps facts costs shares) (was bytes) (was words) number op ⌝ }
+    ensures { λ w. ⌜ runLeft w (left bytes) (left words) ≡ offerHanded (lentTask counts facts costs shares) (was bytes) (was words) number op ⌝ }
 {
     if run_short(bytes, words) {
         return refused_word(Refusal::TableTooShort);
     }
-    let c = Counts { vars, ops, maps };
+    let c = counts_in(counts);
+    let f = facts_beside(counts, facts);
     let run = run_in(bytes, words);
-    let o = desk::offer(run, c, facts, costs, shares, number, OpNo(op));
+    let o = desk::offer(run, c, f, costs, shares, number, OpNo(op));
     hand_back(o, bytes, words)
 }

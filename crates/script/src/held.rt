@@ -32,7 +32,9 @@ pub const RECORDS: u32 = 13;
 
 pub const BUFFER: u32 = 14;
 
-// The program's own: the lengths of the lent arrays, the counts of variables, operators and maps, and the length of the text. The script has no array 12.
+pub const MARK: u32 = 18;
+
+// The program's own: the lengths of the lent arrays, the counts, and the length of the text. The script has no arrays 12 and 15 to 17.
 pub const LENT: u32 = 12;
 
 pub const COUNTS: u32 = 15;
@@ -52,7 +54,7 @@ pub const STATE_PLACES: usize = 16;
 
 pub const LIST_PLACES: usize = 1100;
 
-// The row of records, and the places of a record: its cost, its preconditions and its effects.
+// The row of records, and the places of a record: its cost, its preconditions and its effects. Its mark stands in an array of its own.
 pub const ROW_RECORDS: usize = 80;
 
 pub const RECORD: usize = 17;
@@ -67,12 +69,12 @@ pub const RUN_STATE: usize = 8;
 
 pub const LOG_PLACES: usize = 1024;
 
-pub const COLUMNS: usize = 9;
+pub const COLUMNS: usize = 10;
 
 // The lengths of the lent arrays, each at its array's number, and the counts.
 const LENT_PLACES: usize = 15;
 
-const COUNTS_PLACES: usize = 3;
+const COUNTS_PLACES: usize = 5;
 
 // Where the arrays begin in the row, one after another.
 const COSTS_AT: usize = FACTS_PLACES;
@@ -107,15 +109,18 @@ const COUNTS_AT: usize = LENT_AT + LENT_PLACES;
 
 const TEXT_AT: usize = COUNTS_AT + COUNTS_PLACES;
 
+const MARK_AT: usize = TEXT_AT + 1;
+
 // The places of all arrays.
-pub const PLACES: usize = TEXT_AT + 1;
+pub const PLACES: usize = MARK_AT + ROW_RECORDS;
 
 // The array is one of the script's: all but the program's own.
 pub fn of_script(k: u32) -> bool {
-    if k == LENT {
-        return false;
+    match k {
+        LENT => false,
+        MARK => true,
+        _ => k <= BUFFER,
     }
-    k <= BUFFER
 }
 
 // How many places an array has. An array that isn't there has none.
@@ -135,6 +140,7 @@ pub fn places(k: u32) -> usize {
         BUFFER => BUFFER_PLACES,
         LENT => LENT_PLACES,
         COUNTS => COUNTS_PLACES,
+        MARK => ROW_RECORDS,
         _ => 0,
     }
 }
@@ -159,6 +165,7 @@ fn base(k: u32) -> usize {
         LENT => LENT_AT,
         COUNTS => COUNTS_AT,
         TEXT => TEXT_AT,
+        MARK => MARK_AT,
         _ => 0,
     }
 }
@@ -166,7 +173,7 @@ fn base(k: u32) -> usize {
 // A place of an array holds a byte. Of a record all but the first does.
 pub fn of_bytes(k: u32, i: usize) -> bool {
     match k {
-        FACTS | STATE | START | NOW | BUFFER => true,
+        FACTS | STATE | START | NOW | BUFFER | MARK => true,
         RECORDS => i % RECORD != 0,
         _ => false,
     }
@@ -255,6 +262,11 @@ pub fn eight_bytes(held: &[u32], k: u32, from: usize) -> [u8; 8] {
     row
 }
 
+// A byte of an array.
+pub fn one_byte(held: &[u32], k: u32, i: usize) -> u8 {
+    low(value(held, k, i))
+}
+
 // Puts bytes into an array, from its first place on; the places behind them stay. Nothing is printed.
 pub fn put_bytes(held: &mut [u32], k: u32, from: &[u8]) {
     let mut i = 0;
@@ -303,6 +315,7 @@ pub fn named(k: u32) -> Line {
         NOW => line.word(b"now"),
         COLUMN => line.word(b"column"),
         BUFFER => line.word(b"buffer"),
+        MARK => line.word(b"mark"),
         _ => line.word(b"records"),
     }
 }

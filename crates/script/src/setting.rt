@@ -31,6 +31,9 @@ const STATE_LENT: u32 = 8;
 
 const BUFFER_LENT: u32 = 16384;
 
+// The edition of counts that don't tell theirs.
+const FIRST_EDITION: u32 = 1;
+
 // The highest byte.
 const BYTE: u32 = 255;
 
@@ -52,6 +55,7 @@ pub fn reset(held: &mut [u32]) {
     put(held, LENT, OUT as usize, OUT_LENT);
     put(held, LENT, STATE as usize, STATE_LENT);
     put(held, LENT, BUFFER as usize, BUFFER_LENT);
+    put(held, COUNTS, 3, FIRST_EDITION);
 }
 
 // Puts a value where the array is one of the script's and has such places.
@@ -101,11 +105,29 @@ fn set_lent(held: &mut [u32], k: u32, n: u32) {
     }
 }
 
-// The counts of variables, operators and maps.
-pub fn set_counts(held: &mut [u32], vars: u32, ops: u32, maps: u32) {
-    put(held, COUNTS, 0, vars);
-    put(held, COUNTS, 1, ops);
-    put(held, COUNTS, 2, maps);
+// The counts are these.
+pub fn set_counts(held: &mut [u32], c: Counts) {
+    put(held, COUNTS, 0, c.vars);
+    put(held, COUNTS, 1, c.ops);
+    put(held, COUNTS, 2, c.maps);
+    put(held, COUNTS, 3, c.edition);
+    put(held, COUNTS, 4, c.quota);
+}
+
+// The counts that a command tells: with an edition and a quota, or else of edition 1.
+fn counts_told(command: Command) -> Counts {
+    let second = command.count == 5;
+    Counts {
+        vars: command.value(0),
+        ops: command.value(1),
+        maps: command.value(2),
+        edition: if second {
+            command.value(3)
+        } else {
+            FIRST_EDITION
+        },
+        quota: if second { command.value(4) } else { 0 },
+    }
 }
 
 // The counts that are held.
@@ -114,6 +136,8 @@ pub fn counts_held(held: &[u32]) -> Counts {
         vars: value(held, COUNTS, 0),
         ops: value(held, COUNTS, 1),
         maps: value(held, COUNTS, 2),
+        edition: value(held, COUNTS, 3),
+        quota: value(held, COUNTS, 4),
     }
 }
 
@@ -127,11 +151,24 @@ fn show_place(held: &[u32], k: u32, i: usize) {
     }
 }
 
-// A word and the counts.
+// The counts tell no more than variables, operators and maps: they are of edition 1, without a quota.
+fn of_first(c: Counts) -> bool {
+    if c.edition == FIRST_EDITION {
+        c.quota == 0
+    } else {
+        false
+    }
+}
+
+// A word and the counts; edition and quota only where there is something to tell.
 pub fn say_counts(held: &[u32], w: &[u8]) {
-    let line = Line::empty().word(w).number(value(held, COUNTS, 0) as u64);
-    let more = line.number(value(held, COUNTS, 1) as u64);
-    more.number(value(held, COUNTS, 2) as u64).say()
+    let c = counts_held(held);
+    let line = Line::empty().word(w).number(c.vars as u64);
+    let more = line.number(c.ops as u64).number(c.maps as u64);
+    if of_first(c) {
+        return more.say();
+    }
+    more.number(c.edition as u64).number(c.quota as u64).say()
 }
 
 // One command that sets or shows.
@@ -141,7 +178,7 @@ pub fn set_or_show(held: &mut [u32], command: Command) {
     let letter = command.letter;
     match letter {
         b'z' => reset(held),
-        b'n' => set_counts(held, a, b, command.value(2)),
+        b'n' => set_counts(held, counts_told(command)),
         b'l' => set_lent(held, a, b),
         b's' => set_some(held, command),
         b'e' => set_all(held, a, b),

@@ -62,7 +62,7 @@ use script::setting::set_counts;
 fn keep_reading(held: &mut [u32], answer: Reading) {
     match answer {
         Reading::Accepted(c) => {
-            set_counts(held, c.vars, c.ops, c.maps);
+            set_counts(held, c);
             say_counts(held, b"accepted")
         }
         Reading::Refused(r) => say_refused(r),

@@ -6,6 +6,7 @@ use script::held::FACTS;
 use script::held::FACTS_PLACES;
 use script::held::FIRST;
 use script::held::LIST_PLACES;
+use script::held::MARK;
 use script::held::RECORD;
 use script::held::RECORDS;
 use script::held::ROW_RECORDS;
@@ -17,27 +18,29 @@ use script::held::eight_bytes;
 use script::held::lent;
 use script::held::load_bytes;
 use script::held::load_words;
+use script::held::one_byte;
 use script::held::value;
 use script::parts::front_bytes;
 use script::parts::front_words;
 use script::parts::least;
 use script::setting::counts_held;
 
-// The record whose places begin at the given one.
-fn record_held(held: &[u32], at: usize) -> OpRecord {
+// The record of operator o, whose places begin at the given one.
+fn record_held(held: &[u32], o: usize, at: usize) -> OpRecord {
     OpRecord {
         cost: value(held, RECORDS, at),
         pre: eight_bytes(held, RECORDS, std::num::wrapping_add_usize(at, 1)),
         eff: eight_bytes(held, RECORDS, std::num::wrapping_add_usize(at, 9)),
+        mark: one_byte(held, MARK, o),
     }
 }
 
 // The records of the array.
 fn row_held(held: &[u32]) -> [OpRecord; ROW_RECORDS] {
-    let mut rows = [record_held(held, 0); ROW_RECORDS];
+    let mut rows = [record_held(held, 0, 0); ROW_RECORDS];
     let mut o = 1usize;
     while o < ROW_RECORDS {
-        rows[o] = record_held(held, o * RECORD);
+        rows[o] = record_held(held, o, o * RECORD);
         o += 1;
     }
     rows
