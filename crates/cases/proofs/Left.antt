@@ -13,7 +13,8 @@ use Rattle.refusals.specs.declared.Refusal.the-variants.{TableTooShort, NotARun
 use Rattle.meaning.specs.Bound.{away, bound}
 use Rattle.meaning.proofs.Facts.{and-left, and-right}
 use Rattle.meaning.proofs.Unread.{states-alike, view-alike}
-use Rattle.tables.specs.Layout.{Tables, factsRoom, costsRoom, sharesRoom, domPlace, initPlace, goalPlace, prePlace, effPlace, classPlace, sharePlace}
+use Rattle.tables.specs.Layout.{Tables, factsRoom, costsRoom, sharesRoom, domPlace, initPlace, goalPlace, prePlace, effPlace, classPlace, markPlace, sharePlace}
+use Rattle.tables.specs.Editions.{readIn}
 use Rattle.tables.specs.Task.{sasOf, taskOf, tables, stateOf}
 use Rattle.tables.specs.Steps.{copied}
 use Rattle.scan.specs.declared.Found.the-variants.{Clean}
@@ -64,7 +65,7 @@ abbrev pub Shown : Tables → Claim → Type 0
 Shown T (distances m ds r) = Shows (taskOf T) m ds r
 Shown T (distanceAt m s v) = (m < T .counts .maps) × Inside (taskOf T) s × (away (taskOf T) (stateOf s) m ≡ v)
 Shown T (boundAt s v) = Inside (taskOf T) s × (bound (taskOf T) (stateOf s) ≡ v)
-Shown T (judging s os x) = Inside (taskOf T) s × (ofSequence (limited (sasOf T) (stateOf s) os) ≡ x)
+Shown T (judging s os x) = Inside (taskOf T) s × (ofSequence (limited (taskOf T) (stateOf s) os) ≡ x)
 Shown T (run s xs) = Inside (taskOf T) s × SaysPast T (fresh (copied s (T .counts .vars))) xs
 
 -- ---- what is left is read alike, and what is shown of the text's tables is claimed of it
@@ -95,7 +96,7 @@ module _ (T : Tables) (f c s : List ℕ) (clean : tablesFault T ≡ Clean) where
   left-own =
       let fact : (p : ℕ) → getD (T .facts) p 0 ≡ getD (filled factsRoom (T .facts) f) p 0 = λ p. sym (filled-at factsRoom (T .facts) f p) in
       record {
-        counts = refl;
+        counts = record { vars = refl; ops = refl; maps = refl; edition = refl; quota = refl };
         room = roomy-clean ∙ sym roomy-left;
         dom = λ v l. fact (domPlace v);
         init = λ v l. fact (initPlace v);
@@ -105,6 +106,7 @@ module _ (T : Tables) (f c s : List ℕ) (clean : tablesFault T ≡ Clean) where
         class = λ m v x lm l h. fact (classPlace m v x);
         cost = λ o l. sym (filled-at costsRoom (T .costs) c o);
         share = λ m o lm l. sym (filled-at sharesRoom (T .shares) s (sharePlace m o));
+        mark = λ o l. ap (readIn (T .counts .edition)) (fact (markPlace o));
       }
 
   alike : ReadAlike T U

@@ -5,7 +5,8 @@ use mathlib.Core.List.{List, [], _∷_}
 use Prim.Native.Nat.{ℕ, suc, _≤_}
 use lib.ListN.{length}
 use mathlib.Core.Bool.{true, false, false≢true}
-use Rattle.tables.specs.Steps.{rowHolds, mayRun, overwritten, stepped, copied}
+use Rattle.tables.specs.Lines.{quotaLines}
+use Rattle.tables.specs.Steps.{rowHolds, mayRun, canStore, overwritten, stepped, copied}
 use Rattle.scan.specs.Scan.{each, splitFault}
 use Rattle.scan.proofs.Validity.{clean-valid}
 use Rattle.refusals.specs.Listed.{numberOf, placeOf}
@@ -33,13 +34,16 @@ use Rattle.grammar.specs.Grammar.{
   textLine,
   textLines,
   editionLine,
+  inSecond,
   varsLine,
   domLine,
   initLine,
   factsFrom,
   factList,
   goalLine,
+  quotaLine,
   opsLine,
+  markField,
   operatorFields,
   opLines,
   classList,
@@ -62,9 +66,10 @@ use Rattle.sequences.specs.Stepping.{stepOf}
 use Rattle.meaning.specs.Limits.{mostBytes, mostSteps}
 use Rattle.sweep.specs.Said.{said}
 use Rattle.sequences.specs.Judging.{walked, limited}
-use Rattle.ledger.specs.Ledger.{booked, atStart, onward, fresh, advanced, canRun, replayed, given, startAt, startIn, zeros, sameTo, alike, isRun}
+use Rattle.ledger.specs.Ledger.{booked, atStart, onward, fresh, advanced, canRun, withinQuota, replayed, given, startAt, startIn, zeros, sameTo, alike, isRun}
 use Rattle.ledger.specs.Ledger.{oldStep, nextStep, offerJudged}
 use Rattle.meaning.specs.Columns.{rest, gain}
+use Rattle.meaning.specs.Quota.{mayStore}
 use Rattle.cases.specs.Told.{Told, yes!, no!, Claim, EachAt, Case, RightOf, Right}
 use Rattle.cases.specs.Cases.{table}
 use Rattle.cases.proofs.Tests.{Test, le?, told?, _and_, into, always, each?}
@@ -131,7 +136,7 @@ opened-marks = tt
 
 -- its lines
 opened-lines : Unit {0}
-unfolding endOfLine textLine textLines editionLine varsLine domLine initLine factsFrom factList goalLine opsLine operatorFields opLines
+unfolding endOfLine textLine textLines editionLine inSecond varsLine domLine initLine factsFrom factList goalLine quotaLine opsLine markField operatorFields opLines
 opened-lines = tt
 
 -- its maps and shares, and the verdict
@@ -141,17 +146,17 @@ opened-task = tt
 
 -- the scan of the shares, and what a distance table says
 opened-scan : Unit {0}
-unfolding each splitFault said
+unfolding quotaLines each splitFault said
 opened-scan = tt
 
 -- steps and sequences
 opened-steps : Unit {0}
-unfolding rowHolds mayRun overwritten stepped copied mostSteps stepOf walked limited
+unfolding rowHolds mayRun canStore mayStore overwritten stepped copied mostSteps stepOf walked limited
 opened-steps = tt
 
 -- a run
 opened-run : Unit {0}
-unfolding rest gain booked atStart onward fresh advanced canRun replayed given startAt startIn zeros sameTo alike isRun oldStep nextStep offerJudged
+unfolding rest gain booked atStart onward fresh advanced canRun withinQuota replayed given startAt startIn zeros sameTo alike isRun oldStep nextStep offerJudged
 opened-run = tt
 
 pub cases-hold : (f c s : List ℕ) → factsRoom ≤ length f → costsRoom ≤ length c → sharesRoom ≤ length s → EachAt (λ i x. Right f c s x) 0 table

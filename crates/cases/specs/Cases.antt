@@ -1,4 +1,5 @@
--- The starred cases of document 01, from text to answers, with the sum of document 02; and its idle operators, where they are told.
+-- The starred cases of document 01, from text to answers, with the sum of document 02; the coupling that nearly left, in edition 2; and idle operators, where
+-- they are told.
 use mathlib.Core.List.{List, [], _∷_}
 use Prim.Native.String.{String, _++_}
 use Rattle.graph.specs.Cost.{none, fin}
@@ -33,6 +34,14 @@ abbrev pub E : String
 E =
     "edition=1\nvars=2\ndom=2,2\ninit=0,0\ngoal=0:1,1:1\nops=1\nop=1;0:0;0:1\nmaps=2\nmap=0,1/0,0\nmap=0,0/0,1\nshare=1\nshare=0\n"
 
+-- G: the coupling that nearly left. Mount it; torque it and store the test; take the next one. Two stored tests are wanted; a store step that is sent again
+-- is answered as a repeat and doesn't count, and a third is refused
+abbrev pub headG : String
+headG = "edition=2\nvars=2\ndom=2,2\ninit=0,0\ngoal=0:1,1:1\nquota=2\nops=3\n"
+
+abbrev pub G : String
+G = headG ++ "op=2;0:0;0:1;0\nop=3;0:1,1:0;1:1;1\nop=1;1:1;1:0;0\nmaps=1\nmap=0,1/0,1\nshare=1,3,1\n"
+
 -- THE TABLE
 unfoldable pub table : List Case
 table =
@@ -50,10 +59,10 @@ table =
           ∷ judging (0 ∷ 0 ∷ 0 ∷ []) (0 ∷ []) (no! 16 1)
           ∷ judging (0 ∷ 0 ∷ 0 ∷ []) [] (no! 16 0)
           ∷ run (0 ∷ 0 ∷ 0 ∷ [])
-          (record { number = 1; operator = 0; answer = yes!; columns = 1 ∷ 0 ∷ 0 ∷ 0 ∷ 0 ∷ 0 ∷ 0 ∷ 0 ∷ 0 ∷ [] }
-          ∷ record { number = 1; operator = 0; answer = again; columns = 1 ∷ 0 ∷ 0 ∷ 0 ∷ 0 ∷ 0 ∷ 0 ∷ 0 ∷ 0 ∷ [] }
-          ∷ record { number = 1; operator = 1; answer = no! 14 1; columns = 1 ∷ 0 ∷ 0 ∷ 0 ∷ 0 ∷ 0 ∷ 0 ∷ 0 ∷ 0 ∷ [] }
-          ∷ record { number = 3; operator = 1; answer = no! 13 3; columns = 1 ∷ 0 ∷ 0 ∷ 0 ∷ 0 ∷ 0 ∷ 0 ∷ 0 ∷ 0 ∷ [] }
+          (record { number = 1; operator = 0; answer = yes!; columns = 1 ∷ 0 ∷ 0 ∷ 0 ∷ 0 ∷ 0 ∷ 0 ∷ 0 ∷ 0 ∷ 0 ∷ [] }
+          ∷ record { number = 1; operator = 0; answer = again; columns = 1 ∷ 0 ∷ 0 ∷ 0 ∷ 0 ∷ 0 ∷ 0 ∷ 0 ∷ 0 ∷ 0 ∷ [] }
+          ∷ record { number = 1; operator = 1; answer = no! 14 1; columns = 1 ∷ 0 ∷ 0 ∷ 0 ∷ 0 ∷ 0 ∷ 0 ∷ 0 ∷ 0 ∷ 0 ∷ [] }
+          ∷ record { number = 3; operator = 1; answer = no! 13 3; columns = 1 ∷ 0 ∷ 0 ∷ 0 ∷ 0 ∷ 0 ∷ 0 ∷ 0 ∷ 0 ∷ 0 ∷ [] }
           ∷ [])
           ∷ [];
     }
@@ -74,6 +83,35 @@ table =
           ∷ boundAt (0 ∷ 0 ∷ []) none
           ∷ [];
     }
+    ∷ record {
+      text = G;
+      read = yes!;
+      claims =
+          boundAt (0 ∷ 0 ∷ []) (fin 4)
+          ∷ judging (0 ∷ 0 ∷ []) (0 ∷ 1 ∷ []) (costs 5)
+          ∷ judging (0 ∷ 0 ∷ []) (0 ∷ 1 ∷ 2 ∷ 1 ∷ []) (costs 9)
+          ∷ judging (0 ∷ 0 ∷ []) (0 ∷ 1 ∷ 2 ∷ 1 ∷ 2 ∷ 1 ∷ []) (no! 19 6)
+          ∷ judging (0 ∷ 0 ∷ []) (0 ∷ 1 ∷ 2 ∷ 1 ∷ 1 ∷ []) (no! 12 5)
+          ∷ run (0 ∷ 0 ∷ [])
+          (record { number = 1; operator = 0; answer = yes!; columns = 1 ∷ 0 ∷ 0 ∷ 0 ∷ 0 ∷ 0 ∷ 0 ∷ 0 ∷ 1 ∷ 0 ∷ [] }
+          ∷ record { number = 2; operator = 1; answer = yes!; columns = 4 ∷ 0 ∷ 0 ∷ 0 ∷ 0 ∷ 0 ∷ 0 ∷ 0 ∷ 1 ∷ 1 ∷ [] }
+          ∷ record { number = 2; operator = 1; answer = again; columns = 4 ∷ 0 ∷ 0 ∷ 0 ∷ 0 ∷ 0 ∷ 0 ∷ 0 ∷ 1 ∷ 1 ∷ [] }
+          ∷ record { number = 3; operator = 2; answer = yes!; columns = 5 ∷ 0 ∷ 0 ∷ 0 ∷ 0 ∷ 0 ∷ 0 ∷ 0 ∷ 1 ∷ 1 ∷ [] }
+          ∷ record { number = 4; operator = 1; answer = yes!; columns = 8 ∷ 0 ∷ 0 ∷ 0 ∷ 0 ∷ 0 ∷ 0 ∷ 0 ∷ 1 ∷ 2 ∷ [] }
+          ∷ record { number = 5; operator = 2; answer = yes!; columns = 9 ∷ 0 ∷ 0 ∷ 0 ∷ 0 ∷ 0 ∷ 0 ∷ 0 ∷ 1 ∷ 2 ∷ [] }
+          ∷ record { number = 6; operator = 1; answer = no! 19 6; columns = 9 ∷ 0 ∷ 0 ∷ 0 ∷ 0 ∷ 0 ∷ 0 ∷ 0 ∷ 1 ∷ 2 ∷ [] }
+          ∷ [])
+          ∷ [];
+    }
+    -- an edition that isn't, a quota and a mark out of range, and a fourth field in edition 1
+    ∷ record { text = "edition=3\n"; read = no! 3 1; claims = [] }
+    ∷ record { text = "edition=2\nvars=1\ndom=2\ninit=0\ngoal=-\nquota=1025\n"; read = no! 3 6; claims = [] }
+    ∷ record { text = headG ++ "op=2;0:0;0:1;2\n"; read = no! 3 8; claims = [] }
+    ∷ record { text = headA ++ "op=1;0:0;0:1;1\n"; read = no! 2 7; claims = [] }
+    -- an idle operator of edition 2: after its mark, whose own faults come first
+    ∷ record { text = headG ++ "op=1;0:0;0:0;1"; read = no! 18 8; claims = [] }
+    ∷ record { text = headG ++ "op=1;0:0;0:0;2"; read = no! 3 8; claims = [] }
+    ∷ record { text = headG ++ "op=1;0:0;0:0\n"; read = no! 2 8; claims = [] }
     -- idle operators after case A's head: one without effects; one whose effects stand among its preconditions; the same where the text ends, and where a wrong
     -- byte stands; but an effect that is no value is told first
     ∷ record { text = headA ++ "op=1;0:0;0:1\nop=0;-;-\n"; read = no! 18 8; claims = [] }
