@@ -85,5 +85,5 @@ module _ (t : Tables) (ok : Valid (taskOf t)) where
   shown? (distanceAt m s v) =
       into (λ p. (p .0, p .1 .0, sym (from-is m s (p .0) (p .1 .0 .1)) ∙ p .1 .1)) (lt? m (t .counts .maps) and inside? s and same? (farFrom t s m) v)
   shown? (boundAt s v) = into (λ p. (p .0, sym (sum-is s (p .0 .1)) ∙ p .1)) (inside? s and same? (summed (farFrom t s) (t .counts .maps)) v)
-  shown? (judging s os x) = inside? s and told? (ofSequence (limited (sasOf t) (stateOf s) os)) x
+  shown? (judging s os x) = inside? s and told? (ofSequence (limited (taskOf t) (stateOf s) os)) x
   shown? (run s xs) = inside? s and says? (fresh (copied s (t .counts .vars))) xs

@@ -125,7 +125,7 @@ module _ (t : Tables) (clean : tablesFault t ≡ Clean) where
       λ answer. ((λ given. bound-unique t s answer (boundSaid v) given met), (λ p. subst (BoundGiven t s) (sym p) met))
 
   -- ---- a sequence, and the start of a run
-  pub judged-exactly : (s os : List ℕ) (x : Told) → Inside (taskOf t) s → ofSequence (limited (sasOf t) (stateOf s) os) ≡ x
+  pub judged-exactly : (s os : List ℕ) (x : Told) → Inside (taskOf t) s → ofSequence (limited (taskOf t) (stateOf s) os) ≡ x
       → ClaimHolds t (judging s os x)
   unfolding judgedOf
   judged-exactly s os x h e = rw (inside-clean s h) e

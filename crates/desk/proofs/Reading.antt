@@ -8,7 +8,7 @@ use Rattle.refusals.specs.declared.Refusal.{Refusal}
 use Rattle.meaning.specs.Split.{Task, Valid}
 use Rattle.tables.specs.declared.Counts.{Counts}
 use Rattle.grammar.specs.declared.Reading.the-variants.{Accepted, Refused}
-use Rattle.grammar.specs.Fields.{edition, Outcome}
+use Rattle.grammar.specs.Fields.{Outcome}
 use Rattle.grammar.specs.Grammar.{readText}
 use Rattle.grammar.specs.Spelling.{spelled}
 use Rattle.grammar.proofs.Admission.{refused-leaves}
@@ -25,12 +25,12 @@ module _ (task facts costs shares : List ℕ) (x : Outcome) (h : x ≡ readText 
     answers = ap (λ (o : Outcome). o .answer) (sym h) ∙ e
 
     -- the text spells a valid task, and is short
-    pub read-spells : (τ : Task) × (task ≡ spelled edition τ) × Valid τ
+    pub read-spells : (τ : Task) × (task ≡ spelled τ) × Valid τ
     read-spells = accepted-task-of task facts costs shares n answers
 
-    pub read-short : length task ≤ 10449
+    pub read-short : length task ≤ 10588
     read-short = accepted-short task facts costs shares n answers
 
     -- whichever task it spells: place by place
-    pub read-named : (τ : Task) → task ≡ spelled edition τ → Named τ facts costs shares x
+    pub read-named : (τ : Task) → task ≡ spelled τ → Named τ facts costs shares x
     read-named τ p = subst (Named τ facts costs shares) (sym h) (accepted-named task facts costs shares n answers τ p)

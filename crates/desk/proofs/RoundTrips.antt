@@ -19,7 +19,7 @@ use Rattle.scan.proofs.Validity.{clean-valid}
 use Rattle.grammar.specs.declared.Reading.the-variants.{Accepted}
 use Rattle.grammar.specs.declared.Written.{Written}
 use Rattle.grammar.specs.declared.Written.the-variants.{Length, Refused}
-use Rattle.grammar.specs.Fields.{edition, Outcome, leaves}
+use Rattle.grammar.specs.Fields.{Outcome, leaves}
 use Rattle.grammar.specs.Grammar.{readText}
 use Rattle.grammar.specs.Spelling.{spelled, textOf}
 use Rattle.grammar.specs.Writing.{textRoom, Page, page, over, writeText}
@@ -31,9 +31,9 @@ use Rattle.grammar.proofs.RoundTrips.{tablesLeft, UnusedZero}
 
 -- the tables that an accepted text leaves spell it
 text-left : (task facts costs shares : List ℕ) (x : Outcome) → x ≡ readText task facts costs shares → (n : Counts) → x .answer ≡ Accepted n
-    → textOf edition (tablesLeft n x) ≡ task
+    → textOf (tablesLeft n x) ≡ task
 text-left task facts costs shares x h n e =
-    ap (λ (o : Outcome). textOf edition (tablesLeft n o)) h ∙ trips.left-text task facts costs shares n (ap (λ (o : Outcome). o .answer) (sym h) ∙ e)
+    ap (λ (o : Outcome). textOf (tablesLeft n o)) h ∙ trips.left-text task facts costs shares n (ap (λ (o : Outcome). o .answer) (sym h) ∙ e)
 
 -- ---- WHAT IS WRITTEN
 
@@ -49,40 +49,40 @@ module _ (t : Tables) (buffer : List ℕ) (w : Page) (h : w ≡ writeText t buff
   pub write-exactly : ((n : ℕ) × (w .answer ≡ Length n)) ↔ ((textRoom ≤ length buffer) × (tablesFault t ≡ Clean))
   write-exactly = (
     (λ x. let o = writing.wrote t buffer (x .0) (said (Length (x .0)) (x .1)) in (o .room, o .clean)),
-    (λ x. (length (textOf edition t), ap (λ (p : Page). p .answer) (h ∙ writing.tables-written t buffer (x .0) (x .1)))),
+    (λ x. (length (textOf t), ap (λ (p : Page). p .answer) (h ∙ writing.tables-written t buffer (x .0) (x .1)))),
   )
 
   module _ (n : ℕ) (e : w .answer ≡ Length n) where
     abbrev wrote : writing.Wrote t buffer n
     wrote = writing.wrote t buffer n (said (Length n) e)
 
-    bytes-are : w .bytes ≡ over (textOf edition t) buffer
+    bytes-are : w .bytes ≡ over (textOf t) buffer
     bytes-are = ap (λ (p : Page). p .bytes) (h ∙ writing.tables-written t buffer (wrote .room) (wrote .clean))
 
     -- the text of a valid task, of n bytes, and short
-    pub write-spells : take n (w .bytes) ≡ spelled edition (taskOf t)
-    write-spells = rw (bytes-are, wrote .bytes) (writing.over-text (textOf edition t) buffer)
+    pub write-spells : take n (w .bytes) ≡ spelled (taskOf t)
+    write-spells = rw (bytes-are, wrote .bytes) (writing.over-text (textOf t) buffer)
 
     pub write-valid : Valid (taskOf t)
     write-valid = clean-valid t (wrote .clean)
 
-    pub write-short : n ≤ 10449
-    write-short = subst (λ (k : ℕ). k ≤ 10449) (sym (wrote .bytes)) (writing.text-short t (wrote .clean))
+    pub write-short : n ≤ 10588
+    write-short = subst (λ (k : ℕ). k ≤ 10588) (sym (wrote .bytes)) (writing.text-short t (wrote .clean))
 
     pub write-length : length (take n (w .bytes)) ≡ n
     write-length = ap length write-spells ∙ sym (wrote .bytes)
 
     -- every place after it is as it was, and there are as many
     pub write-rest : (p : ℕ) → n ≤ p → getD (w .bytes) p 0 ≡ getD buffer p 0
-    write-rest p l = ap (λ (b : List ℕ). getD b p 0) bytes-are ∙ writing.over-rest (textOf edition t) buffer p (subst (λ (k : ℕ). k ≤ p) (wrote .bytes) l)
+    write-rest p l = ap (λ (b : List ℕ). getD b p 0) bytes-are ∙ writing.over-rest (textOf t) buffer p (subst (λ (k : ℕ). k ≤ p) (wrote .bytes) l)
 
     pub write-long : length (w .bytes) ≡ length buffer
-    write-long = ap length bytes-are ∙ writing.over-length (textOf edition t) buffer (omega (arith, writing.text-short t (wrote .clean), wrote .room))
+    write-long = ap length bytes-are ∙ writing.over-length (textOf t) buffer (omega (arith, writing.text-short t (wrote .clean), wrote .room))
 
     -- ---- READING WHAT WAS WRITTEN, into tables of enough room
     module _ (facts costs shares : List ℕ) (a : factsRoom ≤ length facts) (b : costsRoom ≤ length costs) (c : sharesRoom ≤ length shares) (x : Outcome)
         (g : x ≡ readText (take n (w .bytes)) facts costs shares) where
-      reads : x ≡ readText (textOf edition t) facts costs shares
+      reads : x ≡ readText (textOf t) facts costs shares
       reads = g ∙ ap (λ (y : List ℕ). readText y facts costs shares) write-spells
 
       -- the same task: its counts, each of its own numbers in its place, 0 in every other place, and no table longer or shorter

@@ -17,7 +17,7 @@ use Rattle.scan.specs.declared.Found.the-variants.{Clean, Fault}
 use Rattle.grammar.specs.declared.Reading.{Reading}
 use Rattle.grammar.specs.declared.Reading.the-variants as reading
 use Rattle.grammar.specs.declared.Written.the-variants as written
-use Rattle.grammar.specs.Fields.{edition, leaves}
+use Rattle.grammar.specs.Fields.{leaves}
 use Rattle.grammar.specs.Grammar.{readText}
 use Rattle.grammar.specs.Spelling.{spelled, tablesOf}
 use Rattle.grammar.specs.Writing.{textRoom, over, writeText}
@@ -50,11 +50,11 @@ module _ (t : Tables) (buffer : List ℕ) (x : WriteLeft) (h : x ≡ writeHanded
     answers : writeText t buffer .answer ≡ written.Length n
     answers = written-told (writeText t buffer .answer) (written.Length n) (sym word-is ∙ e)
 
-    -- the text, of at most 10,449 bytes
-    pub write-spells : take n (x .bytes) ≡ spelled edition (taskOf t)
+    -- the text, of at most 10,588 bytes
+    pub write-spells : take n (x .bytes) ≡ spelled (taskOf t)
     write-spells = ap (take n) bytes-are ∙ desk.write-spells t buffer (writeText t buffer) refl n answers
 
-    pub write-short : n ≤ 10449
+    pub write-short : n ≤ 10588
     write-short = desk.write-short t buffer (writeText t buffer) refl n answers
 
     -- every byte after it is as it was
