@@ -5,6 +5,7 @@ use mathlib.Core.Logic.{_↔_}
 use mathlib.Core.List.{List}
 use Prim.Native.Nat.{ℕ, _≤_}
 use Rattle.meaning.specs.Sas.{Passes, paid}
+use Rattle.meaning.specs.Quota.{PassesWithin}
 use Rattle.tables.specs.Layout.{Tables}
 use Rattle.tables.specs.Task.{sasOf, taskOf, stateOf}
 use Rattle.scan.specs.declared.Found.the-variants.{Clean}
@@ -29,6 +30,10 @@ module _ (t : Tables) (s : List ℕ) where
   -- every sequence of any length that passes from the state costs at least the bound
   pub bound-admissible : (b : ℕ) → BoundHanded t s (word done b) → (os : List ℕ) → Passes (sasOf t) os (stateOf s) → b ≤ paid (sasOf t .cost) os
   bound-admissible b h = views.bound-admissible t s b (bound-behind (bounds.Of b) (word done b) refl h)
+
+  -- so does every one that also keeps the quota
+  pub bound-admissible-within : (b : ℕ) → BoundHanded t s (word done b) → (os : List ℕ) → PassesWithin (taskOf t) os (stateOf s) → b ≤ paid (sasOf t .cost) os
+  bound-admissible-within b h os p = bound-admissible b h os (p .0)
 
   -- where the word is none, there is no such sequence
   pub none-admissible : BoundHanded t s (word nowhere 0) → (os : List ℕ) → Passes (sasOf t) os (stateOf s) → ⊥

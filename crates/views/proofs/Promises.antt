@@ -12,6 +12,7 @@ use Rattle.meaning.specs.Sas.{Passes, paid}
 use Rattle.meaning.specs.Views.{α, abstractStates}
 use Rattle.meaning.specs.Split.{sum, view}
 use Rattle.meaning.specs.Bound.{away, bound}
+use Rattle.meaning.specs.Quota.{PassesWithin}
 use Rattle.meaning.proofs.Theorems.{rounds-unique, rounds-at-most-states, sum-none-exactly-if-some, sum-number-exactly-if-all}
 use Rattle.meaning.proofs.Theorems.{bound-at-most-cost, none-so-no-sequence, one-none-so-no-sequence, sequence-so-every-number}
 use Rattle.scan.specs.declared.Found.{Found}
@@ -110,12 +111,19 @@ module _ (t : Tables) (s : List ℕ) where
       let c = bound-clean t s (h .0) in
       subst (λ (v : Cost). v ⊑ paid (sasOf t .cost) os) (h .1) (bound-at-most-cost (taskOf t) (c .0) os (stateOf s) (c .1) p)
 
+  -- so does every one that also keeps the quota, which is what may be run: the bound ignores the quota
+  pub bound-admissible-within : (b : ℕ) → BoundGiven t s (bounds.Of b) → (os : List ℕ) → PassesWithin (taskOf t) os (stateOf s) → b ≤ paid (sasOf t .cost) os
+  bound-admissible-within b given os p = bound-admissible b given os (p .0)
+
   -- where the answer is none, there is no such sequence
   pub none-admissible : BoundGiven t s bounds.Nowhere → (os : List ℕ) → Passes (sasOf t) os (stateOf s) → ⊥
   none-admissible given =
       let h = bound-answered t s none .0 given in
       let c = bound-clean t s (h .0) in
       none-so-no-sequence (taskOf t) (c .0) (stateOf s) (c .1) (h .1)
+
+  pub none-admissible-within : BoundGiven t s bounds.Nowhere → (os : List ℕ) → PassesWithin (taskOf t) os (stateOf s) → ⊥
+  none-admissible-within given os p = none-admissible given os (p .0)
 
   -- nor is there where one map's answer is none
   pub map-none-admissible : (m : ℕ) → DistanceGiven t m s distance.Nowhere → (os : List ℕ) → Passes (sasOf t) os (stateOf s) → ⊥
