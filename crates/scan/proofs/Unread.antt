@@ -27,7 +27,7 @@ use Rattle.scan.specs.declared.Found.{Found}
 use Rattle.scan.specs.declared.Found.the-variants.{Clean, Fault}
 use Rattle.scan.specs.Scan.{unless, _then_, each, within, factsFault, operatorFault, classesFault, mapFault, sharesFault, splitFault, taskFault, roomy}
 use Rattle.scan.specs.Scan.{tablesFault, stateFault, inputFault}
-use Rattle.scan.specs.Own.{OwnSame, OwnState}
+use Rattle.scan.specs.Own.{SameCounts, OwnSame, OwnState}
 use Rattle.scan.proofs.Walks.{clean-first, clean-next, rule-held, tests-held}
 use Rattle.scan.proofs.Rules.{within-says}
 use Rattle.scan.proofs.Validity.{clean-valid}
@@ -263,20 +263,31 @@ told-is t = ap (λ (q : ℕ). withQuota q (taskOf t)) (twice-read (t .counts .ed
     withQuota q T =
         record { sas = T .sas; maps = T .maps; class = T .class; share = T .share; edition = T .edition; quota = q; mark = T .mark }
 
-module _ (t u : Tables) (O : OwnSame t u) where
+-- tables of the same counts, as far as these are read, that agree where they have room and few variables
+module _ (t u : Tables) (C : SameCounts (t .counts) (u .counts)) (room : roomy t ≡ roomy u)
+    (A : roomy t ≡ true → t .counts .vars ≤ mostVars → Agree (t .counts) (t .facts) (u .facts) (t .costs) (u .costs) (t .shares) (u .shares)) where
   -- u's tables with the counts of t spell u's task
   abbrev beside : Tables
   beside = tables (t .counts) (u .facts) (u .costs) (u .shares)
 
   beside-is : taskOf beside ≡ taskOf u
   beside-is =
-      let c = O .counts in
       sym (told-is beside)
-      ∙ ap (λ (v : ℕ). told v (t .counts .ops) (t .counts .maps) (t .counts .edition) (quotaOf (t .counts)) u) (c .vars)
-      ∙ ap₂ (λ (o m : ℕ). told (u .counts .vars) o m (t .counts .edition) (quotaOf (t .counts)) u) (c .ops) (c .maps)
-      ∙ ap₂ (λ (e q : ℕ). told (u .counts .vars) (u .counts .ops) (u .counts .maps) e q u) (c .edition) (c .quota)
+      ∙ ap (λ (v : ℕ). told v (t .counts .ops) (t .counts .maps) (t .counts .edition) (quotaOf (t .counts)) u) (C .vars)
+      ∙ ap₂ (λ (o m : ℕ). told (u .counts .vars) o m (t .counts .edition) (quotaOf (t .counts)) u) (C .ops) (C .maps)
+      ∙ ap₂ (λ (e q : ℕ). told (u .counts .vars) (u .counts .ops) (u .counts .maps) e q u) (C .edition) (C .quota)
       ∙ told-is u
 
+  pub agree-alike : ReadAlike t u
+  unfolding tablesFault roomy
+  agree-alike =
+      let E = read-alike (t .counts) (t .facts) (u .facts) (t .costs) (u .costs) (t .shares) (u .shares) room A in
+      record {
+        fault = E .fault ∙ ap (λ (T : Task). unless (roomy u) TableTooShort then taskFault T) beside-is;
+        task = λ e. subst (SameTask (taskOf t)) beside-is (E .task e);
+      }
+
+module _ (t u : Tables) (O : OwnSame t u) where
   own-agree : Agree (t .counts) (t .facts) (u .facts) (t .costs) (u .costs) (t .shares) (u .shares)
   own-agree =
       record {
@@ -291,18 +302,8 @@ module _ (t u : Tables) (O : OwnSame t u) where
         mark = λ o l few. O .mark o l ∙ ap (λ (e : ℕ). readIn e (markAt (u .facts) o)) (sym (O .counts .edition));
       }
 
-  same-room : roomy t ≡ roomy beside
-  unfolding roomy
-  same-room = O .room
-
   pub own-alike : ReadAlike t u
-  unfolding tablesFault roomy
-  own-alike =
-      let E = read-alike (t .counts) (t .facts) (u .facts) (t .costs) (u .costs) (t .shares) (u .shares) same-room (λ e few. own-agree) in
-      record {
-        fault = E .fault ∙ ap (λ (T : Task). unless (roomy u) TableTooShort then taskFault T) beside-is;
-        task = λ e. subst (SameTask (taskOf t)) beside-is (E .task e);
-      }
+  own-alike = agree-alike t u (O .counts) (O .room) (λ e few. own-agree)
 
 -- ---- the state beside them
 
