@@ -8,8 +8,11 @@ pub const PLACES: usize = COUNTS + FACTS + COSTS + SHARES;
 pub const KINDS: usize = 8;
 
 /// Where the edition and the quota stand in the row of counts.
-pub const EDITION: usize = 3;
-pub const QUOTA_AT: usize = 4;
+const EDITION_AT: usize = 3;
+const QUOTA_AT: usize = 4;
+
+/// Where the operators' effects begin in the facts, 8 places each.
+const EFFECTS: usize = 8 * 67;
 
 /// A task's row of counts (variables, operators, maps, edition, quota) and its tables.
 #[derive(Clone)]
@@ -42,11 +45,16 @@ impl Tables {
     /// The same tables in this edition, with this quota and each operator marked as it is told.
     pub fn marked(&self, edition: u32, quota: u32, mark: impl Fn(u32) -> u8) -> Tables {
         let mut tables = self.clone();
-        (tables.counts[EDITION], tables.counts[QUOTA_AT]) = (edition, quota);
+        (tables.counts[EDITION_AT], tables.counts[QUOTA_AT]) = (edition, quota);
         for (op, place) in (0..).zip(&mut tables.facts[MARKS..]) {
             *place = mark(op);
         }
         tables
+    }
+
+    /// Takes an operator its effects.
+    pub fn make_idle(&mut self, op: u32) {
+        self.facts[EFFECTS + 8 * op as usize..][..8].fill(0);
     }
 
     /// Alters a place: to a number near the one that stands there, or near a limit.

@@ -264,7 +264,7 @@ static void most_tests(void)
 {
     static const uint32_t list[DESK_STEPS];
     load(ALWAYS);
-    EXPECT(DESK_QUOTA_MOST == 1024 && DESK_STEPS == 1024 && DESK_RUN_WORDS == 1035);
+    EXPECT(DESK_QUOTA_MOST == 1024 && DESK_QUOTA_MOST == DESK_STEPS);
     EXPECT(desk_judge(TASK, init, 1, list, DESK_STEPS) == word(DESK_DONE, 2 * 1024));
     run_of(list, DESK_STEPS);
     EXPECT(desk_run_stored(words) == 1024 && desk_run_paid(words, 0) == 1024 && desk_run_unshared(words) == 1024);

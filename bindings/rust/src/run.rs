@@ -39,7 +39,7 @@ impl Run {
         (&self.bytes, &self.words)
     }
 
-    /// Offers a step: its number and its operator. A refusal, and a repeat, leave the run as it was; so a test is never stored twice.
+    /// Offers a step: its number and its operator. A refusal, and a repeat, leave the run as it was: a step that is offered again stores no second test.
     pub fn offer(&mut self, task: &Task, number: Step, op: Operator) -> Result<Answer, Refusal> {
         let (kind, _) = told(ffi::offer(task.lent(), &mut self.bytes, &mut self.words, number.0, op.0))?;
         Ok(if kind == REPEATED { Answer::Repeated } else { Answer::Accepted })

@@ -5,8 +5,12 @@ mod ffi;
 
 use ffi::Lent;
 
-/// The places that are needed: of the row of counts, and of facts, costs and shares.
+/// The places that are needed: of the row of counts, facts, costs and shares; and of what is written.
 const NEEDED: [usize; 4] = [5, 1624, 64, 512];
+const TEXT: usize = 16384;
+const DISTANCES: usize = 4096;
+const RUN_BYTES: usize = 16;
+const RUN_WORDS: usize = 1035;
 
 /// The word of 8 at place 0, and that of the first list's empty part.
 const SHORT: u64 = 8;
@@ -23,7 +27,7 @@ fn lent(edition: u32, lengths: [usize; 4], ask: impl Fn(Lent<'_>)) {
 
 /// What each function answers that takes a task, and whether all that was lent to be written is as it was.
 fn answers(task: Lent<'_>) -> ([u64; 10], bool) {
-    let (mut buffer, mut out, mut bytes, mut words) = ([7; 16384], [7; 4096], [7; 16], [7; 1035]);
+    let (mut buffer, mut out, mut bytes, mut words) = ([7; TEXT], [7; DISTANCES], [7; RUN_BYTES], [7; RUN_WORDS]);
     let told = [
         ffi::write(task, &mut buffer),
         ffi::check(task),
@@ -36,7 +40,7 @@ fn answers(task: Lent<'_>) -> ([u64; 10], bool) {
         ffi::begin(task, &[0], &mut bytes, &mut words),
         ffi::offer(task, &mut bytes, &mut words, 1, 0),
     ];
-    let kept = buffer == [7; 16384] && out == [7; 4096] && bytes == [7; 16] && words == [7; 1035];
+    let kept = buffer == [7; TEXT] && out == [7; DISTANCES] && bytes == [7; RUN_BYTES] && words == [7; RUN_WORDS];
     (told, kept)
 }
 
