@@ -8,7 +8,7 @@ mod reading;
 mod views;
 mod writing;
 
-use mihaedop::{COSTS, FACTS, SHARES, STEPS};
+use mihaedop::{COSTS, COUNTS, FACTS, SHARES, STEPS};
 pub use reading::read;
 
 // The limits of the paper.
@@ -18,8 +18,10 @@ const OPERATORS: usize = 64;
 const MAPS: usize = 8;
 const COST: u32 = 1_000_000;
 const STATES: u32 = 4_096;
+const QUOTA: u32 = 1_024;
 
-// The facts stand in rows of 8 places: numbers of values, initial state, goal, preconditions and effects of each operator, classes of each variable in each map.
+// The facts stand in rows of 8 places: numbers of values, initial state, goal, preconditions and effects of each operator, classes of each variable in each map. Behind
+// them stand the marks, a place an operator.
 const ROW: usize = 8;
 const VALUES_ROW: usize = 0;
 const INITIAL_ROW: usize = 1;
@@ -27,6 +29,7 @@ const GOAL_ROW: usize = 2;
 const PRECONDITIONS: usize = 3;
 const EFFECTS: usize = PRECONDITIONS + OPERATORS;
 const CLASSES: usize = EFFECTS + OPERATORS;
+const MARKS: usize = ROW * (CLASSES + VARIABLES * MAPS);
 
 /// A task: its counts and its tables. In a row of facts 0 says nothing of a variable, and k + 1 says its value k.
 #[derive(Clone, Copy)]
@@ -34,6 +37,8 @@ pub struct Task<'a> {
     variables: usize,
     operators: usize,
     maps: usize,
+    edition: u32,
+    quota: u32,
     facts: &'a [u8],
     costs: &'a [u32],
     shares: &'a [u32],
@@ -58,6 +63,7 @@ pub struct Moment {
     pub state: [u8; VARIABLES],
     pub paid: [u32; MAPS],
     pub unshared: u32,
+    pub stored: u32,
 }
 
 /// A run: its start, the operators of its steps, how many they are, and the moment that they led to. Unused places are 0.
@@ -108,10 +114,35 @@ fn set(facts: &[u8], state: &mut [u8]) {
 }
 
 impl<'a> Task<'a> {
-    /// The task of lent tables; its counts are those of variables, operators and maps.
-    pub fn of(counts: [u32; 3], facts: &'a [u8], costs: &'a [u32], shares: &'a [u32]) -> Task<'a> {
-        let [variables, operators, maps] = counts.map(|count| count as usize);
-        Task { variables, operators, maps, facts, costs, shares }
+    /// The task of lent tables; its counts are those of variables, operators and maps, the edition and the quota.
+    pub fn of(counts: [u32; COUNTS], facts: &'a [u8], costs: &'a [u32], shares: &'a [u32]) -> Task<'a> {
+        let [.., edition, quota] = counts;
+        let [variables, operators, maps, ..] = counts.map(|count| count as usize);
+        Task { variables, operators, maps, edition, quota, facts, costs, shares }
+    }
+
+    /// Whether tests are stored: edition 2 has a quota and marks, and in edition 1 they aren't read.
+    fn counts_tests(&self) -> bool {
+        self.edition == 2
+    }
+
+    /// The line of the number of operators: it comes after the goal, or after the quota.
+    fn operators_line(&self) -> usize {
+        if self.counts_tests() {
+            7
+        } else {
+            6
+        }
+    }
+
+    /// Whether a step of this operator stores a test.
+    fn stores(&self, op: usize) -> bool {
+        self.counts_tests() && self.facts[MARKS + op] == 1
+    }
+
+    /// After so many stored tests a step of this operator keeps the quota.
+    fn keeps_quota(&self, stored: u32, op: usize) -> bool {
+        stored < self.quota || !self.stores(op)
     }
 
     /// A row of the facts, as far as there are variables.
@@ -140,28 +171,38 @@ impl<'a> Task<'a> {
         if self.facts.len() < FACTS || self.costs.len() < COSTS || self.shares.len() < SHARES {
             return refuse(8, 0);
         }
+        in_range((1..=2).contains(&self.edition), 1)?;
         in_range((1..=VARIABLES).contains(&self.variables), 2)?;
         let values = self.row(VALUES_ROW);
         in_range(values.iter().all(|values| (1..=VALUES).contains(values)), 3)?;
         in_range(self.holds_state(self.row(INITIAL_ROW)), 4)?;
         in_range(self.row_fits(GOAL_ROW), 5)?;
-        in_range(self.operators <= OPERATORS, 6)?;
+        in_range(!self.counts_tests() || self.quota <= QUOTA, 6)?;
+        let line = self.operators_line();
+        in_range(self.operators <= OPERATORS, line)?;
         for op in 0..self.operators {
-            in_range(self.costs[op] <= COST && self.row_fits(PRECONDITIONS + op) && self.row_fits(EFFECTS + op), 7 + op)?;
-            if idle(self.row(EFFECTS + op), self.row(PRECONDITIONS + op)) {
-                return refuse(18, 7 + op);
-            }
+            self.check_operator(op, line + 1 + op)?;
         }
-        in_range((1..=MAPS).contains(&self.maps), 7 + self.operators)?;
+        let line = line + 1 + self.operators;
+        in_range((1..=MAPS).contains(&self.maps), line)?;
         for map in 0..self.maps {
-            self.check_map(map)?;
+            self.check_map(map, line + 1 + map)?;
         }
-        self.check_shares()
+        self.check_shares(line + 1 + self.maps)
     }
 
-    /// The classes of a map: each in its range, none missing, not too many abstract states.
-    fn check_map(&self, map: usize) -> Result<(), Refusal> {
-        let line = 8 + self.operators + map;
+    /// An operator on its line: its numbers in their ranges, and not idle.
+    fn check_operator(&self, op: usize, line: usize) -> Result<(), Refusal> {
+        let marked = !self.counts_tests() || self.facts[MARKS + op] <= 1;
+        in_range(marked && self.costs[op] <= COST && self.row_fits(PRECONDITIONS + op) && self.row_fits(EFFECTS + op), line)?;
+        if idle(self.row(EFFECTS + op), self.row(PRECONDITIONS + op)) {
+            return refuse(18, line);
+        }
+        Ok(())
+    }
+
+    /// The classes of a map on its line: each in its range, none missing, not too many abstract states.
+    fn check_map(&self, map: usize, line: usize) -> Result<(), Refusal> {
         let mut states = 1;
         for (variable, &values) in self.row(VALUES_ROW).iter().enumerate() {
             let mut seen = 0u32;
@@ -180,18 +221,18 @@ impl<'a> Task<'a> {
         Ok(())
     }
 
-    /// The shares: each in its range, and last of all no operator's total above its cost.
-    fn check_shares(&self) -> Result<(), Refusal> {
+    /// The shares, from this line on: each in its range, and last of all no operator's total above its cost.
+    fn check_shares(&self, line: usize) -> Result<(), Refusal> {
         let mut totals = [0; OPERATORS];
         for map in 0..self.maps {
             let shares = self.shares(map);
-            in_range(shares.iter().all(|&share| share <= COST), 8 + self.operators + self.maps + map)?;
+            in_range(shares.iter().all(|&share| share <= COST), line + map)?;
             for (total, share) in totals.iter_mut().zip(shares) {
                 *total += share;
             }
         }
         match totals.iter().zip(&self.costs[..self.operators]).position(|(total, cost)| total > cost) {
-            Some(op) => refuse(6, 7 + op),
+            Some(op) => refuse(6, self.operators_line() + 1 + op),
             None => Ok(()),
         }
     }
@@ -234,7 +275,7 @@ impl<'a> Task<'a> {
         let mut now = Moment::fresh(run.start);
         for &op in log {
             let op = op as usize;
-            if op >= self.operators || !self.may_run(&now.state, op) {
+            if op >= self.operators || !self.may_run(&now.state, op) || !self.keeps_quota(now.stored, op) {
                 return false;
             }
             now.step(self, op);
@@ -245,10 +286,10 @@ impl<'a> Task<'a> {
 
 impl Moment {
     fn fresh(state: [u8; VARIABLES]) -> Moment {
-        Moment { state, paid: [0; MAPS], unshared: 0 }
+        Moment { state, paid: [0; MAPS], unshared: 0, stored: 0 }
     }
 
-    /// Runs an operator that may run: its effects hold, and its cost is booked.
+    /// Runs an operator that may run: its effects hold, its cost is booked, and a test that it stores is counted.
     fn step(&mut self, task: &Task, op: usize) {
         set(task.row(EFFECTS + op), &mut self.state);
         let mut rest = task.costs[op];
@@ -258,6 +299,7 @@ impl Moment {
             rest -= share;
         }
         self.unshared += rest;
+        self.stored += u32::from(task.stores(op));
     }
 }
 
@@ -298,6 +340,9 @@ impl Run {
         }
         if !task.may_run(&self.now.state, operator) {
             return refuse(12, place);
+        }
+        if !task.keeps_quota(self.now.stored, operator) {
+            return refuse(19, place);
         }
         self.log[place - 1] = op;
         self.steps = number;

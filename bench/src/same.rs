@@ -1,7 +1,8 @@
 //! That both sides answer the same, before anything is timed: every offer of the shift, offers that are refused, runs that no offers could have left, and faulty tables;
-//! judging, distances and texts are in the modules below.
+//! judging, distances, stored tests and texts are in the modules below.
 mod distances;
 mod judging;
+mod stored;
 mod text;
 
 use crate::judging::Passing;
@@ -32,6 +33,7 @@ pub fn compare(desk: &Desk, text: &[u8]) -> Result<usize, String> {
     let passing = Passing::of(&both.plain, desk.task.counts())?;
     both.judging(&passing)?;
     both.maps()?;
+    both.stored(&passing)?;
     both.tables(&passing)?;
     Ok(both.alike)
 }

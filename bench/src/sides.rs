@@ -1,6 +1,6 @@
 //! The two sides by one face: the desk, through the library for C, and the baseline. Both are asked by the same code.
 use crate::plain;
-use mihaedop::{Answer, Counts, Map, Operator, Refusal, Run, State, Step, Task, RUN_BYTES, RUN_WORDS, STEPS};
+use mihaedop::{Answer, Counts, Map, Operator, Refusal, Run, State, Step, Task, COUNTS, RUN_BYTES, RUN_WORDS, STEPS};
 
 /// What a side answers.
 #[derive(Clone, Copy, Debug, PartialEq, Eq)]
@@ -9,7 +9,7 @@ pub enum Told {
     Repeated,
     Cost(u64),
     Rounds(u32),
-    Counts([u32; 3]),
+    Counts([u32; COUNTS]),
     Length(usize),
     Refused { number: u8, place: u32 },
 }
@@ -43,7 +43,7 @@ pub trait Side {
     fn read(text: &[u8], facts: &mut [u8], costs: &mut [u32], shares: &mut [u32]) -> Told;
 
     /// Writes the text of any tables into a buffer.
-    fn write(counts: [u32; 3], facts: &[u8], costs: &[u32], shares: &[u32], buffer: &mut [u8]) -> Told;
+    fn write(counts: [u32; COUNTS], facts: &[u8], costs: &[u32], shares: &[u32], buffer: &mut [u8]) -> Told;
 }
 
 /// The desk with a task that it has read.
@@ -67,9 +67,8 @@ impl Desk {
 
 impl<'a> Plain<'a> {
     pub fn of(task: &'a Task) -> Plain<'a> {
-        let counts = task.counts();
         let (facts, costs, shares) = task.tables();
-        Plain { task: plain::Task::of([counts.variables, counts.operators, counts.maps], facts, costs, shares), start: task.initial() }
+        Plain { task: plain::Task::of(task.counts().row(), facts, costs, shares), start: task.initial() }
     }
 }
 
@@ -121,13 +120,11 @@ impl Side for Desk {
     }
 
     fn read(text: &[u8], facts: &mut [u8], costs: &mut [u32], shares: &mut [u32]) -> Told {
-        let counts = mihaedop::read(text, facts, costs, shares);
-        counts.map_or_else(refused, |counts| Told::Counts([counts.variables, counts.operators, counts.maps]))
+        mihaedop::read(text, facts, costs, shares).map_or_else(refused, |counts| Told::Counts(counts.row()))
     }
 
-    fn write([variables, operators, maps]: [u32; 3], facts: &[u8], costs: &[u32], shares: &[u32], buffer: &mut [u8]) -> Told {
-        let counts = Counts { variables, operators, maps };
-        mihaedop::write(counts, facts, costs, shares, buffer).map_or_else(refused, Told::Length)
+    fn write(counts: [u32; COUNTS], facts: &[u8], costs: &[u32], shares: &[u32], buffer: &mut [u8]) -> Told {
+        mihaedop::write(Counts::of_row(counts), facts, costs, shares, buffer).map_or_else(refused, Told::Length)
     }
 }
 
@@ -155,6 +152,7 @@ impl Side for Plain<'_> {
         run.steps = words[STEPS];
         run.now.paid.copy_from_slice(&words[STEPS + 1..STEPS + 9]);
         run.now.unshared = words[STEPS + 9];
+        run.now.stored = words[STEPS + 10];
         run
     }
 
@@ -166,6 +164,7 @@ impl Side for Plain<'_> {
         words[STEPS] = run.steps;
         words[STEPS + 1..STEPS + 9].copy_from_slice(&run.now.paid);
         words[STEPS + 9] = run.now.unshared;
+        words[STEPS + 10] = run.now.stored;
         (bytes, words)
     }
 
@@ -185,7 +184,7 @@ impl Side for Plain<'_> {
         plain::read(text, facts, costs, shares).map_or_else(plainly_refused, Told::Counts)
     }
 
-    fn write(counts: [u32; 3], facts: &[u8], costs: &[u32], shares: &[u32], buffer: &mut [u8]) -> Told {
+    fn write(counts: [u32; COUNTS], facts: &[u8], costs: &[u32], shares: &[u32], buffer: &mut [u8]) -> Told {
         plain::Task::of(counts, facts, costs, shares).write(buffer).map_or_else(plainly_refused, Told::Length)
     }
 }

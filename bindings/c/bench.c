@@ -1,8 +1,10 @@
-/* The desk from C: reads a task from a file, tells the bound of its initial state, offers the steps named after it one by one, and tells what is left after each.
+/* The desk from C: reads a task from a file, tells the bound of its initial state, offers the steps named after it one
+ * by one, and tells what is left after each.
  *
  *     bench TASK-FILE [OPERATOR ..]
  *
- * Ends with status 0, with 1 if the desk refused the task or a step, and with 2 if the file can't be read or the words are off. */
+ * Ends with status 0, with 1 if the desk refused the task or a step, and with 2 if the file can't be read or the words
+ * are off. */
 #include <stdio.h>
 #include <stdlib.h>
 #include "desk.h"
@@ -16,7 +18,8 @@ struct task {
 };
 
 /* The parameters that every function about a task begins with. */
-#define TASK(t) (t)->counts[0], (t)->counts[1], (t)->counts[2], (t)->facts, DESK_FACTS, (t)->costs, DESK_COSTS, (t)->shares, DESK_SHARES
+#define TABLES(t) (t)->facts, DESK_FACTS, (t)->costs, DESK_COSTS, (t)->shares, DESK_SHARES
+#define TASK(t) (t)->counts, DESK_COUNTS, TABLES(t)
 
 /* A run. Its bytes are its start and, from DESK_RUN_NOW on, its state now. */
 struct run {
@@ -35,7 +38,7 @@ static int refused(const char *what, desk_word w)
 /* The bound of a state, as the desk program writes it. */
 static void tell_bound(const struct task *t, const uint8_t *state)
 {
-    desk_word w = desk_bound(TASK(t), state, t->counts[0]);
+    desk_word w = desk_bound(TASK(t), state, t->counts[DESK_VARIABLES_AT]);
     if (desk_kind(w) == DESK_NONE)
         printf("bound=none\n");
     else if (desk_kind(w) == DESK_DONE)
@@ -49,9 +52,12 @@ static int offer(const struct task *t, struct run *r, uint32_t number, uint32_t 
     desk_word w = desk_offer(TASK(t), RUN(r), number, op);
     if (desk_is_refusal(w))
         return refused("offer", w);
-    printf("step %u operator %u %s, unshared %u, paid", (unsigned)number, (unsigned)op, desk_kind(w) == DESK_REPEATED ? "repeated" : "accepted",
-           (unsigned)desk_run_unshared(r->words));
-    for (uint32_t m = 0; m < t->counts[2]; m++)
+    const char *answer = desk_kind(w) == DESK_REPEATED ? "repeated" : "accepted";
+    printf("step %u operator %u %s, ", (unsigned)number, (unsigned)op, answer);
+    if (t->counts[DESK_EDITION_AT] == 2)
+        printf("stored %u of %u, ", (unsigned)desk_run_stored(r->words), (unsigned)t->counts[DESK_QUOTA_AT]);
+    printf("unshared %u, paid", (unsigned)desk_run_unshared(r->words));
+    for (uint32_t m = 0; m < t->counts[DESK_MAPS_AT]; m++)
         printf(" %u", (unsigned)desk_run_paid(r->words, m));
     printf("\n");
     tell_bound(t, r->bytes + DESK_RUN_NOW);
@@ -78,12 +84,12 @@ int main(int argc, char **argv)
         return 2;
     }
     fclose(f);
-    desk_word w = desk_read(text, n, t.counts, DESK_COUNTS, t.facts, DESK_FACTS, t.costs, DESK_COSTS, t.shares, DESK_SHARES);
+    desk_word w = desk_read(text, n, TASK(&t));
     if (desk_is_refusal(w))
         return refused("read", w);
     const uint8_t *init = t.facts + DESK_INITIAL;
     tell_bound(&t, init);
-    w = desk_begin(TASK(&t), init, t.counts[0], RUN(&r));
+    w = desk_begin(TASK(&t), init, t.counts[DESK_VARIABLES_AT], RUN(&r));
     if (desk_is_refusal(w))
         return refused("begin", w);
     for (int i = 2; i < argc; i++) {

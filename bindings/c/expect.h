@@ -32,9 +32,12 @@ static uint32_t counts[DESK_COUNTS];
 static uint8_t facts[DESK_FACTS];
 static uint32_t costs[DESK_COSTS];
 static uint32_t shares[DESK_SHARES];
-#define COUNTED counts[0], counts[1], counts[2]
+#define COUNTED counts, DESK_COUNTS
 #define TABLES facts, DESK_FACTS, costs, DESK_COSTS, shares, DESK_SHARES
 #define TASK COUNTED, TABLES
+
+/* the counts of a task of edition 1, as they are lent */
+#define OF(vars, ops, maps) (const uint32_t[DESK_COUNTS]){vars, ops, maps, 1, 0}, DESK_COUNTS
 
 /* Reads the text from a file; one that is too long is cut short, and still too long. */
 static int text_from(const char *path)

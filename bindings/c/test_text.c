@@ -21,7 +21,7 @@ static void reads(void)
     memset(c, 7, sizeof c);
     memset(s, 7, sizeof s);
     memset(n, 7, sizeof n);
-    EXPECT(desk_read(text, text_len, n, 2, f, DESK_FACTS, c, DESK_COSTS, s, DESK_SHARES) == SHORT);
+    EXPECT(desk_read(text, text_len, n, DESK_COUNTS - 1, f, DESK_FACTS, c, DESK_COSTS, s, DESK_SHARES) == SHORT);
     EXPECT(desk_read(text, text_len, WILD32, 0, f, DESK_FACTS, c, DESK_COSTS, s, DESK_SHARES) == SHORT);
     EXPECT(desk_read(text, text_len, n, DESK_COUNTS, f, DESK_FACTS - 1, c, DESK_COSTS, s, DESK_SHARES) == SHORT);
     EXPECT(desk_read(text, text_len, n, DESK_COUNTS, WILD8, 0, c, DESK_COSTS, s, DESK_SHARES) == SHORT);
@@ -41,7 +41,8 @@ static void reads(void)
     for (size_t i = 0; i < DESK_COUNTS; i++)
         EXPECT(n[i] == 0x07070707);
     EXPECT(desk_read(text, text_len, n, DESK_COUNTS, f, sizeof f, c, DESK_COSTS, s, DESK_SHARES) == word(DESK_DONE, 0));
-    EXPECT(n[0] == 3 && n[1] == 4 && n[2] == 3);
+    EXPECT(n[DESK_VARIABLES_AT] == 3 && n[DESK_OPERATORS_AT] == 4 && n[DESK_MAPS_AT] == 3);
+    EXPECT(n[DESK_EDITION_AT] == 1 && n[DESK_QUOTA_AT] == 0);
     EXPECT(f[0] == 2 && f[1] == 3 && f[2] == 3 && f[3] == 0 && f[DESK_FACTS] == 0);
     EXPECT(c[0] == 1 && c[3] == 1 && c[4] == 0);
     EXPECT(s[0] == 1 && s[64 + 1] == 1 && s[64 + 2] == 1 && s[128 + 3] == 1 && s[128] == 0);
@@ -68,22 +69,31 @@ static void written_back(void)
     }
 }
 
-/* Other numbers in every place of the tables beyond the task's own. */
+/* Whether a place of the facts is the task's own; in edition 1 no mark is. */
+static int own_fact(uint32_t place)
+{
+    uint32_t vars = counts[DESK_VARIABLES_AT], ops = counts[DESK_OPERATORS_AT];
+    uint32_t row = place / 8, column = place % 8, map = (row - CLASSES) / 8, variable = (row - CLASSES) % 8;
+    if (place >= DESK_MARKS)
+        return counts[DESK_EDITION_AT] == 2 && place - DESK_MARKS < ops;
+    if (row >= CLASSES)
+        return map < counts[DESK_MAPS_AT] && variable < vars && column < facts[variable];
+    return column < vars && (row < 3 || (row < EFFECTS ? row - 3 < ops : row - EFFECTS < ops));
+}
+
+/* Other numbers in every place of the counts and the tables beyond the task's own. */
 static void alter_beyond(void)
 {
-    for (uint32_t place = 0; place < DESK_FACTS; place++) {
-        uint32_t row = place / 8, column = place % 8, map = (row - CLASSES) / 8, variable = (row - CLASSES) % 8;
-        int of_op = row < EFFECTS ? row - 3 < counts[1] : row - EFFECTS < counts[1];
-        int own = row < CLASSES ? column < counts[0] && (row < 3 || of_op)
-                                : map < counts[2] && variable < counts[0] && column < facts[variable];
-        if (!own)
+    for (uint32_t place = 0; place < DESK_FACTS; place++)
+        if (!own_fact(place))
             facts[place] = OTHER;
-    }
-    for (uint32_t op = counts[1]; op < DESK_COSTS; op++)
+    for (uint32_t op = counts[DESK_OPERATORS_AT]; op < DESK_COSTS; op++)
         costs[op] = OTHER;
     for (uint32_t place = 0; place < DESK_SHARES; place++)
-        if (place / 64 >= counts[2] || place % 64 >= counts[1])
+        if (place / 64 >= counts[DESK_MAPS_AT] || place % 64 >= counts[DESK_OPERATORS_AT])
             shares[place] = OTHER;
+    if (counts[DESK_EDITION_AT] == 1)
+        counts[DESK_QUOTA_AT] = OTHER;
 }
 
 /* What was read is written, also with other numbers beyond the task's own; and what was written is read. */
@@ -97,7 +107,7 @@ static void round_trips(void)
     memcpy(n, counts, sizeof n);
     written_back();
     alter_beyond();
-    if (counts[1] < DESK_COSTS) /* else the task may have every place */
+    if (counts[DESK_OPERATORS_AT] < DESK_COSTS) /* else the task may have every place */
         EXPECT(memcmp(f, facts, sizeof f) != 0 && memcmp(c, costs, sizeof c) != 0 && memcmp(s, shares, sizeof s) != 0);
     written_back();
     EXPECT(desk_read(buffer, text_len, counts, DESK_COUNTS, TABLES) == word(DESK_DONE, 0));
@@ -119,9 +129,12 @@ static void refusals(void)
 {
     const uint8_t gap[3] = {0, 2, 2}, whole[3] = {0, 0, 0};
     EXPECT(desk_read(text, text_len, counts, DESK_COUNTS, TABLES) == word(DESK_DONE, 0));
-    counts[0] = 9;
+    counts[DESK_EDITION_AT] = 3;
+    refused(word(3, 1));
+    counts[DESK_EDITION_AT] = 1;
+    counts[DESK_VARIABLES_AT] = 9;
     refused(word(3, 2));
-    counts[0] = 3;
+    counts[DESK_VARIABLES_AT] = 3;
     costs[3] = 1000001;
     refused(word(3, 10));
     costs[3] = 1;
@@ -144,7 +157,7 @@ static void too_many_states(void)
     memset(facts, 8, 5);
     for (uint8_t place = 0; place < 5 * 8; place++)
         facts[8 * CLASSES + place] = place % 8;
-    counts[0] = 5, counts[1] = 0, counts[2] = 1;
+    counts[DESK_VARIABLES_AT] = 5, counts[DESK_OPERATORS_AT] = 0, counts[DESK_MAPS_AT] = 1;
     refused(word(7, 8));
 }
 
@@ -158,10 +171,12 @@ static void short_parts(void)
     EXPECT(desk_write(TASK, buffer, text_len) == SHORT);
     EXPECT(desk_write(TASK, WILD8, 0) == SHORT);
     EXPECT(desk_write(TASK, NULL, 0) == SHORT);
-    EXPECT(desk_write(COUNTED, facts, DESK_FACTS - 1, costs, DESK_COSTS, shares, DESK_SHARES, buffer, DESK_TEXT) == SHORT);
-    EXPECT(desk_write(COUNTED, facts, DESK_FACTS, costs, DESK_COSTS - 1, shares, DESK_SHARES, buffer, DESK_TEXT) == SHORT);
-    EXPECT(desk_write(COUNTED, facts, DESK_FACTS, costs, DESK_COSTS, shares, DESK_SHARES - 1, buffer, DESK_TEXT) == SHORT);
-    EXPECT(desk_write(9, 65, 0, WILD8, 0, WILD32, 0, WILD32, 0, buffer, DESK_TEXT) == SHORT);
+#define BUFFER buffer, DESK_TEXT
+    EXPECT(desk_write(counts, DESK_COUNTS - 1, TABLES, BUFFER) == SHORT);
+    EXPECT(desk_write(COUNTED, facts, DESK_FACTS - 1, costs, DESK_COSTS, shares, DESK_SHARES, BUFFER) == SHORT);
+    EXPECT(desk_write(COUNTED, facts, DESK_FACTS, costs, DESK_COSTS - 1, shares, DESK_SHARES, BUFFER) == SHORT);
+    EXPECT(desk_write(COUNTED, facts, DESK_FACTS, costs, DESK_COSTS, shares, DESK_SHARES - 1, BUFFER) == SHORT);
+    EXPECT(desk_write(OF(9, 65, 0), WILD8, 0, WILD32, 0, WILD32, 0, BUFFER) == SHORT);
     EXPECT(kept_from(0));
 }
 

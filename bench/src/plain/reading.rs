@@ -1,7 +1,7 @@
 //! The baseline reads a task's text: from left to right, the first fault deciding, into tables of its own that are handed over once the text is accepted.
-use super::{gapless, idle, in_range, refuse, Refusal, COST, MAPS, OPERATORS, ROW, STATES, VALUES, VARIABLES};
-use super::{CLASSES, EFFECTS, GOAL_ROW, INITIAL_ROW, PRECONDITIONS, VALUES_ROW};
-use mihaedop::{COSTS, FACTS, SHARES, TEXT};
+use super::{gapless, idle, in_range, refuse, Refusal, COST, MAPS, OPERATORS, QUOTA, ROW, STATES, VALUES, VARIABLES};
+use super::{CLASSES, EFFECTS, GOAL_ROW, INITIAL_ROW, MARKS, PRECONDITIONS, VALUES_ROW};
+use mihaedop::{COSTS, COUNTS, FACTS, SHARES, TEXT};
 use std::ops::RangeInclusive;
 
 /// A text, where its next byte is, and the line that this byte stands on.
@@ -13,23 +13,23 @@ struct Reader<'a> {
 
 /// What was read so far. Unused places are 0.
 struct Tables {
-    counts: [usize; 3],
+    counts: [usize; COUNTS],
     facts: [u8; FACTS],
     costs: [u32; COSTS],
     shares: [u32; SHARES],
 }
 
-/// Reads a text into tables, whose other places are 0 then: its numbers of variables, operators and maps. A refusal leaves the tables alone.
+/// Reads a text into tables, whose other places are 0 then: its counts, edition and quota among them. A refusal leaves the tables alone.
 // Not inlined, as `Run::offer` isn't.
 #[inline(never)]
-pub fn read(text: &[u8], facts: &mut [u8], costs: &mut [u32], shares: &mut [u32]) -> Result<[u32; 3], Refusal> {
+pub fn read(text: &[u8], facts: &mut [u8], costs: &mut [u32], shares: &mut [u32]) -> Result<[u32; COUNTS], Refusal> {
     if facts.len() < FACTS || costs.len() < COSTS || shares.len() < SHARES {
         return refuse(8, 0);
     }
     if text.len() > TEXT {
         return refuse(1, 0);
     }
-    let mut read = Tables { counts: [0; 3], facts: [0; FACTS], costs: [0; COSTS], shares: [0; SHARES] };
+    let mut read = Tables { counts: [0; COUNTS], facts: [0; FACTS], costs: [0; COSTS], shares: [0; SHARES] };
     Reader { text, at: 0, line: 1 }.task(&mut read)?;
     hand_over(&read.facts, facts);
     hand_over(&read.costs, costs);
@@ -52,7 +52,7 @@ fn row(facts: &mut [u8], row: usize, variables: usize) -> &mut [u8] {
 impl Reader<'_> {
     /// The whole text. That no operator's shares total above its cost is asked last of all.
     fn task(&mut self, to: &mut Tables) -> Result<(), Refusal> {
-        self.count(b"edition=", 1..=1)?;
+        let edition = self.count(b"edition=", 1..=2)?;
         let variables = self.count(b"vars=", 1..=VARIABLES)?;
         let values = &mut [0; VARIABLES][..variables];
         self.values(values)?;
@@ -61,9 +61,11 @@ impl Reader<'_> {
         self.expect(b"goal=")?;
         self.facts(row(&mut to.facts, GOAL_ROW, variables), values)?;
         self.line_end()?;
+        let quota = if edition == 2 { self.count(b"quota=", 0..=QUOTA as usize)? } else { 0 };
         let operators = self.count(b"ops=", 0..=OPERATORS)?;
+        let first = self.line;
         for op in 0..operators {
-            to.costs[op] = self.operator(&mut to.facts, op, values)?;
+            to.costs[op] = self.operator(&mut to.facts, op, values, edition)?;
         }
         let maps = self.count(b"maps=", 1..=MAPS)?;
         for classes in to.facts[ROW * CLASSES..].chunks_exact_mut(ROW * VARIABLES).take(maps) {
@@ -76,9 +78,9 @@ impl Reader<'_> {
         if self.at < self.text.len() {
             return self.off_form();
         }
-        to.counts = [variables, operators, maps];
+        to.counts = [variables, operators, maps, edition, quota];
         match totals.iter().zip(&to.costs).position(|(total, cost)| total > cost) {
-            Some(op) => refuse(6, 7 + op),
+            Some(op) => refuse(6, first + op),
             None => Ok(()),
         }
     }
@@ -190,16 +192,21 @@ impl Reader<'_> {
         }
     }
 
-    /// An operator's facts into their rows, and its cost. Whether it is idle is judged before its line end is read.
-    fn operator(&mut self, facts: &mut [u8], op: usize, values: &[u8]) -> Result<u32, Refusal> {
+    /// An operator's facts into their rows, in edition 2 its mark, and its cost. Whether it is idle is judged before its line end is read.
+    fn operator(&mut self, facts: &mut [u8], op: usize, values: &[u8], edition: usize) -> Result<u32, Refusal> {
         self.expect(b"op=")?;
         let cost = self.number(0..=COST)?;
         self.expect(b";")?;
+        let (facts, marks) = facts.split_at_mut(MARKS);
         let (asked, effects) = facts.split_at_mut(ROW * EFFECTS);
         let (asked, effects) = (row(asked, PRECONDITIONS + op, values.len()), row(effects, op, values.len()));
         self.facts(asked, values)?;
         self.expect(b";")?;
         self.facts(effects, values)?;
+        if edition == 2 {
+            self.expect(b";")?;
+            marks[op] = self.below(2)?;
+        }
         if idle(effects, asked) {
             return refuse(18, self.line);
         }

@@ -1,5 +1,5 @@
 //! The baseline writes a task's text: line by line into the buffer, each number digit by digit.
-use super::{refuse, Refusal, Task, EFFECTS, GOAL_ROW, INITIAL_ROW, PRECONDITIONS, VALUES_ROW};
+use super::{refuse, Refusal, Task, EFFECTS, GOAL_ROW, INITIAL_ROW, MARKS, PRECONDITIONS, VALUES_ROW};
 use mihaedop::TEXT;
 
 /// A buffer, and where its next byte goes.
@@ -18,7 +18,7 @@ impl Task<'_> {
         }
         self.check()?;
         let mut pen = Pen { buffer, at: 0 };
-        pen.count(b"edition=", 1);
+        pen.count(b"edition=", self.edition as usize);
         pen.count(b"vars=", self.variables);
         pen.word(b"dom=");
         pen.digits(self.row(VALUES_ROW));
@@ -27,6 +27,9 @@ impl Task<'_> {
         pen.word(b"\ngoal=");
         pen.facts(self.row(GOAL_ROW));
         pen.byte(b'\n');
+        if self.counts_tests() {
+            pen.count(b"quota=", self.quota as usize);
+        }
         pen.count(b"ops=", self.operators);
         (0..self.operators).for_each(|op| self.write_operator(op, &mut pen));
         pen.count(b"maps=", self.maps);
@@ -42,6 +45,10 @@ impl Task<'_> {
         pen.facts(self.row(PRECONDITIONS + op));
         pen.byte(b';');
         pen.facts(self.row(EFFECTS + op));
+        if self.counts_tests() {
+            pen.byte(b';');
+            pen.digit(self.facts[MARKS + op]);
+        }
         pen.byte(b'\n');
     }
 

@@ -2,7 +2,7 @@
 use super::{Both, Chance};
 use crate::sides::{Desk, Plain, Side, Told};
 use crate::tables::Tables;
-use mihaedop::{COSTS, FACTS, SHARES, TEXT};
+use mihaedop::{COSTS, COUNTS, FACTS, SHARES, TEXT};
 
 /// What stands in a place before it is written.
 const MARK: u8 = 0xa5;
@@ -53,7 +53,7 @@ impl Both<'_> {
     pub fn write(
         &mut self,
         what: &str,
-        counts: [u32; 3],
+        counts: [u32; COUNTS],
         facts: &[u8],
         costs: &[u32],
         shares: &[u32],
@@ -130,13 +130,13 @@ impl Both<'_> {
                 self.read_into("a text", text, places)?;
             }
         }
-        for counts in [whole.counts, [0; 3]] {
+        for counts in [whole.counts, [0; COUNTS]] {
             for bytes in [0, 1, text.len(), TEXT - 1, TEXT, TEXT + 1] {
                 self.write("the task's tables", counts, &whole.facts, &whole.costs, &whole.shares, bytes)?;
             }
         }
         for bytes in [text.len() + 1, TEXT, TEXT + 1] {
-            for (text, more) in [(text, b'\n'), (text, b'e'), (b"edition=1", b'1')] {
+            for (text, more) in [(text, b'\n'), (text, b'e'), (b"edition=1", b'1'), (b"edition=2", b'2')] {
                 let mut longer = text.to_vec();
                 longer.resize(bytes, more);
                 self.read(&format!("a text of {bytes} bytes"), &longer)?;

@@ -25,7 +25,11 @@ fn bench(text: &[u8], operators: &[Operator]) -> Result<(), Refusal> {
             Answer::Accepted => "accepted",
             Answer::Repeated => "repeated",
         };
-        print!("step {} operator {} {}, unshared {}, paid", step.0, op.0, answer, run.unshared());
+        print!("step {} operator {} {}, ", step.0, op.0, answer);
+        if let Some(quota) = task.quota() {
+            print!("stored {} of {}, ", run.stored(), quota);
+        }
+        print!("unshared {}, paid", run.unshared());
         for map in 0..task.counts().maps {
             print!(" {}", run.paid(Map(map)));
         }

@@ -17,11 +17,34 @@ mod script;
 
 /// What the reader of scripts lends.
 mod tables {
-    #[derive(Clone, Copy, Default)]
+    use std::fmt;
+
+    #[derive(Clone, Copy)]
     pub struct Counts {
         pub vars: u32,
         pub ops: u32,
         pub maps: u32,
+        pub edition: u32,
+        pub quota: u32,
+    }
+
+    impl Counts {
+        pub fn of_edition_1(vars: u32, ops: u32, maps: u32) -> Counts {
+            Counts { vars, ops, maps, edition: 1, quota: 0 }
+        }
+    }
+
+    /// As the script prints them: edition and quota only where they aren't those of edition 1.
+    impl fmt::Display for Counts {
+        fn fmt(&self, f: &mut fmt::Formatter<'_>) -> fmt::Result {
+            let Counts { vars, ops, maps, edition, quota } = self;
+            write!(f, "{vars} {ops} {maps}")?;
+            if (*edition, *quota) == (1, 0) {
+                Ok(())
+            } else {
+                write!(f, " {edition} {quota}")
+            }
+        }
     }
 
     #[derive(Clone, Copy)]
@@ -43,7 +66,7 @@ mod run {
         pub log: [u32; STEPS],
         pub len: u32,
         pub now: [u8; VARS],
-        pub columns: [u32; MAPS + 1],
+        pub columns: [u32; MAPS + 2],
     }
 
     impl Run {
@@ -81,7 +104,7 @@ mod desk {
     impl fmt::Display for Answer {
         fn fmt(&self, f: &mut fmt::Formatter<'_>) -> fmt::Result {
             match self {
-                Answer::Read(Counts { vars, ops, maps }) => write!(f, "accepted {vars} {ops} {maps}"),
+                Answer::Read(counts) => write!(f, "accepted {counts}"),
                 Answer::Told(line) => f.write_str(line),
             }
         }
@@ -102,41 +125,44 @@ mod desk {
         })
     }
 
-    fn over(lent: Lent<'_>) -> ffi::Lent<'_> {
-        let Counts { vars, ops, maps } = lent.counts;
-        ffi::Lent { counts: [vars, ops, maps], facts: lent.facts, costs: lent.costs, shares: lent.shares }
+    /// The word for a lent task; its counts go over as a row.
+    fn over(lent: Lent<'_>, ask: impl FnOnce(ffi::Lent<'_>) -> u64) -> u64 {
+        let Counts { vars, ops, maps, edition, quota } = lent.counts;
+        ask(ffi::Lent { counts: &[vars, ops, maps, edition, quota], facts: lent.facts, costs: lent.costs, shares: lent.shares })
     }
 
     pub fn read(text: &[u8], facts: &mut [u8], costs: &mut [u32], shares: &mut [u32]) -> Answer {
-        let mut counts = [0; 3];
-        match ffi::read(text, &mut counts, facts, costs, shares) {
-            0 => Answer::Read(Counts { vars: counts[0], ops: counts[1], maps: counts[2] }),
-            word => told(word, "", false),
+        let mut row = [0; 5];
+        let word = ffi::read(text, &mut row, facts, costs, shares);
+        let [vars, ops, maps, edition, quota] = row;
+        match word {
+            0 => Answer::Read(Counts { vars, ops, maps, edition, quota }),
+            _ => told(word, "", false),
         }
     }
 
     pub fn write(lent: Lent<'_>, buffer: &mut [u8]) -> Answer {
-        told(ffi::write(over(lent), buffer), "length", true)
+        told(over(lent, |task| ffi::write(task, buffer)), "length", true)
     }
 
     pub fn check(lent: Lent<'_>) -> Answer {
-        told(ffi::check(over(lent)), "clean", false)
+        told(over(lent, ffi::check), "clean", false)
     }
 
     pub fn distances(lent: Lent<'_>, map: u32, out: &mut [u32]) -> Answer {
-        told(ffi::distances(over(lent), map, out), "rounds", true)
+        told(over(lent, |task| ffi::distances(task, map, out)), "rounds", true)
     }
 
     pub fn distance_at(lent: Lent<'_>, map: u32, state: &[u8]) -> Answer {
-        told(ffi::distance_at(over(lent), map, state), "of", true)
+        told(over(lent, |task| ffi::distance_at(task, map, state)), "of", true)
     }
 
     pub fn bound(lent: Lent<'_>, state: &[u8]) -> Answer {
-        told(ffi::bound(over(lent), state), "of", true)
+        told(over(lent, |task| ffi::bound(task, state)), "of", true)
     }
 
     pub fn judge(lent: Lent<'_>, state: &[u8], list: &[u32]) -> Answer {
-        told(ffi::judge(over(lent), state, list), "passed", true)
+        told(over(lent, |task| ffi::judge(task, state, list)), "passed", true)
     }
 
     /// The library has no function for a row of records: it is lent the tables that the row stands for.
@@ -147,11 +173,11 @@ mod desk {
     }
 
     pub fn cheaper(lent: Lent<'_>, state: &[u8], a: &[u32], b: &[u32]) -> Answer {
-        told(ffi::cheaper(over(lent), state, a, b), "", false)
+        told(over(lent, |task| ffi::cheaper(task, state, a, b)), "", false)
     }
 
     pub fn opening(lent: Lent<'_>, state: &[u8], a: &[u32], b: &[u32]) -> Answer {
-        let word = ffi::opening(over(lent), state, a, b);
+        let word = over(lent, |task| ffi::opening(task, state, a, b));
         let (list, of) = if word % 256 == 131 { (2, b) } else { (1, a) };
         let part = &of[..(word / 256) as usize];
         let ops: String = part.iter().map(|op| format!(" {op}")).collect();
@@ -160,14 +186,14 @@ mod desk {
 
     /// A refused start leaves the memory of zeros that it is lent here, and so the script's run of zeros.
     pub fn begin(lent: Lent<'_>, start: &[u8]) -> (Run, Answer) {
-        let (mut bytes, mut words) = ([0; 2 * VARS], [0; STEPS + 1 + MAPS + 1]);
-        let word = ffi::begin(over(lent), start, &mut bytes, &mut words);
+        let (mut bytes, mut words) = ([0; 2 * VARS], [0; STEPS + 1 + MAPS + 2]);
+        let word = over(lent, |task| ffi::begin(task, start, &mut bytes, &mut words));
         (Run::of(&bytes, &words), told(word, "fresh", false))
     }
 
     pub fn offer(run: &Run, lent: Lent<'_>, number: u32, op: u32) -> (Run, Answer) {
         let (mut bytes, mut words) = run.lent();
-        let word = ffi::offer(over(lent), &mut bytes, &mut words, number, op);
+        let word = over(lent, |task| ffi::offer(task, &mut bytes, &mut words, number, op));
         (Run::of(&bytes, &words), told(word, "accepted", false))
     }
 }

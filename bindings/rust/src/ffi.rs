@@ -1,13 +1,13 @@
 //! The desk's exported functions, as include/desk.h declares them, each behind a safe function that takes slices: a slice goes over as its pointer and its length, and
 //! lends what it says, so nothing of what the functions ask of a C caller is left to ask.
 
-/// Declares exported functions. Each begins with a task: its counts and its tables.
+/// Declares exported functions. Each begins with a task: its row of counts and its tables.
 macro_rules! of_a_task {
     ($($function:ident($($word:ident: $kind:ty),*);)*) => {
         #[link(name = "desk_c", kind = "static")]
         extern "C" {
             $(fn $function(
-                vars: u32, ops: u32, maps: u32,
+                counts: *const u32, counts_len: usize,
                 facts: *const u8, facts_len: usize, costs: *const u32, costs_len: usize, shares: *const u32, shares_len: usize
                 $(, $word: $kind)*
             ) -> u64;)*
@@ -43,10 +43,10 @@ extern "C" {
     ) -> u64;
 }
 
-/// A task's counts and tables, lent for reading.
+/// A task's row of counts and its tables, lent for reading.
 #[derive(Clone, Copy)]
 pub struct Lent<'a> {
-    pub counts: [u32; 3],
+    pub counts: &'a [u32],
     pub facts: &'a [u8],
     pub costs: &'a [u32],
     pub shares: &'a [u32],
@@ -59,9 +59,8 @@ macro_rules! call {
         // The slices lend the places that their lengths count, and Rust lets no part that is written overlap another.
         unsafe {
             $function(
-                t.counts[0],
-                t.counts[1],
-                t.counts[2],
+                t.counts.as_ptr(),
+                t.counts.len(),
                 t.facts.as_ptr(),
                 t.facts.len(),
                 t.costs.as_ptr(),

@@ -1,4 +1,5 @@
-//! The sequence desk for Rust: a task read from its text and written back, the least bench seconds any sequence still needs, sequences judged, and a run with its ledger.
+//! The sequence desk for Rust: a task read from its text and written back, the least bench seconds any sequence still needs, sequences judged, and a run with its ledger
+//! and its stored tests.
 //!
 //! Everything here goes to the proved desk (`libdesk_c.a`, x86-64 Linux) and comes back as it answered; this crate only gives the numbers types that can't be mixed up.
 //! A [`Refusal`] carries the desk's number and place, and then nothing was altered. What the desk's answers mean, and what is proved of them, is in the repository's
@@ -11,12 +12,19 @@ pub use refusal::{Place, Refusal};
 pub use run::{Answer, Run, RUN_BYTES, RUN_WORDS};
 use std::fmt;
 
-/// The places of a task's tables.
+/// The places of a task's row of counts, and of its tables.
+pub const COUNTS: usize = 5;
 pub const FACTS: usize = 1624;
 pub const COSTS: usize = 64;
 pub const SHARES: usize = 512;
 
-/// The bytes of a buffer for a task's text, whatever the task; no task's text has more than 10,449.
+/// Where the marks of the operators begin in the facts, a place each: in edition 2 it is 1 if the operator stores a test, else 0.
+pub const MARKS: usize = 1560;
+
+/// The highest quota.
+pub const QUOTA: u32 = 1024;
+
+/// The bytes of a buffer for a task's text, whatever the task; no task's text has more than that.
 pub const TEXT: usize = 16384;
 
 /// The places of a table of distances.
@@ -45,16 +53,22 @@ pub struct Step(pub u32);
 #[derive(Clone, Copy, Debug, PartialEq, Eq, PartialOrd, Ord, Hash)]
 pub struct Seconds(pub u64);
 
+/// A number of stored tests.
+#[derive(Clone, Copy, Debug, PartialEq, Eq, PartialOrd, Ord, Hash)]
+pub struct Tests(pub u32);
+
 /// The rounds after which a map's distances are settled.
 #[derive(Clone, Copy, Debug, PartialEq, Eq, PartialOrd, Ord, Hash)]
 pub struct Rounds(pub u32);
 
-/// How many variables, operators and maps a task has.
+/// How many variables, operators and maps a task has, its edition, and its quota: how many tests a sequence or a run may store. In edition 1 the quota isn't read.
 #[derive(Clone, Copy, Debug, PartialEq, Eq, Hash)]
 pub struct Counts {
     pub variables: u32,
     pub operators: u32,
     pub maps: u32,
+    pub edition: u32,
+    pub quota: u32,
 }
 
 /// A state: a value for each variable. Any bytes may be one; the desk judges it.
@@ -69,10 +83,10 @@ pub enum Cheaper {
     Neither,
 }
 
-/// A task, as its tables.
+/// A task, as its row of counts and its tables.
 #[derive(Clone)]
 pub struct Task {
-    counts: Counts,
+    counts: [u32; COUNTS],
     facts: [u8; FACTS],
     costs: [u32; COSTS],
     shares: [u32; SHARES],
@@ -107,27 +121,33 @@ fn numbers(list: &[Operator]) -> &[u32] {
 
 /// Reads a task's text into lent tables of at least [`FACTS`], [`COSTS`] and [`SHARES`] places: its counts. Every place beyond the task's own is 0 then.
 pub fn read(text: &[u8], facts: &mut [u8], costs: &mut [u32], shares: &mut [u32]) -> Result<Counts, Refusal> {
-    let mut counts = [0; 3];
-    told(ffi::read(text, &mut counts, facts, costs, shares))?;
-    let [variables, operators, maps] = counts;
-    Ok(Counts { variables, operators, maps })
+    let mut row = [0; COUNTS];
+    told(ffi::read(text, &mut row, facts, costs, shares))?;
+    Ok(Counts::of_row(row))
 }
 
-/// Writes the text of tables into a lent buffer of at least [`TEXT`] bytes: the text's length. Faulty tables are refused as by [`check`].
+/// Writes the text of tables, in their edition, into a lent buffer of at least [`TEXT`] bytes: the text's length. Faulty tables are refused as by [`check`].
 ///
-/// The bytes after the text are as they were. Places of the tables beyond the task's own aren't read: with whatever they hold, the text is the same.
+/// The bytes after the text are as they were. Places of the tables beyond the task's own aren't read, in edition 1 the quota and the marks neither: with whatever they
+/// hold, the text is the same.
 pub fn write(counts: Counts, facts: &[u8], costs: &[u32], shares: &[u32], buffer: &mut [u8]) -> Result<usize, Refusal> {
-    told(ffi::write(ffi::Lent { counts: counts.lent(), facts, costs, shares }, buffer)).map(|(_, length)| length as usize)
+    told(ffi::write(ffi::Lent { counts: &counts.row(), facts, costs, shares }, buffer)).map(|(_, length)| length as usize)
 }
 
-/// Checks tables by the rules of the text: they are a task's, or the first fault with the line that the same task's text would have.
+/// Checks counts and tables by the rules of the text: they are a task's, or the first fault with the line that the same task's text would have.
 pub fn check(counts: Counts, facts: &[u8], costs: &[u32], shares: &[u32]) -> Result<(), Refusal> {
-    told(ffi::check(ffi::Lent { counts: counts.lent(), facts, costs, shares })).map(|_| ())
+    told(ffi::check(ffi::Lent { counts: &counts.row(), facts, costs, shares })).map(|_| ())
 }
 
 impl Counts {
-    fn lent(self) -> [u32; 3] {
-        [self.variables, self.operators, self.maps]
+    /// The counts that stand in a row.
+    pub fn of_row([variables, operators, maps, edition, quota]: [u32; COUNTS]) -> Counts {
+        Counts { variables, operators, maps, edition, quota }
+    }
+
+    /// The row, as the desk is lent it.
+    pub fn row(self) -> [u32; COUNTS] {
+        [self.variables, self.operators, self.maps, self.edition, self.quota]
     }
 }
 
@@ -149,29 +169,44 @@ impl Task {
         let mut facts = [0; FACTS];
         let mut costs = [0; COSTS];
         let mut shares = [0; SHARES];
-        let counts = read(text, &mut facts, &mut costs, &mut shares)?;
+        let counts = read(text, &mut facts, &mut costs, &mut shares)?.row();
         Ok(Task { counts, facts, costs, shares })
     }
 
     /// The task of tables that were made otherwise, once the desk has checked them.
     pub fn of_tables(counts: Counts, facts: [u8; FACTS], costs: [u32; COSTS], shares: [u32; SHARES]) -> Result<Task, Refusal> {
         check(counts, &facts, &costs, &shares)?;
-        Ok(Task { counts, facts, costs, shares })
+        Ok(Task { counts: counts.row(), facts, costs, shares })
     }
 
-    /// Its text; each task has one. [`Task::read`] gives the same counts and tables for it, with 0 in every place beyond the task's own, and a task that was read has the text
-    /// that was read.
+    /// Its text; each task has one. [`Task::read`] gives the same counts and tables for it, with 0 in every place beyond the task's own (in edition 1 for the quota and the
+    /// marks too), and a task that was read has the text that was read.
     ///
     /// There is nothing to refuse: a `Task` has tables that the desk has accepted, and [`write()`] refuses just what [`check`] refuses and a buffer of less than [`TEXT`] bytes.
     pub fn to_text(&self) -> Vec<u8> {
         let mut buffer = [0; TEXT];
-        let length = write(self.counts, &self.facts, &self.costs, &self.shares, &mut buffer).expect("tables that the desk has accepted");
+        let length = write(self.counts(), &self.facts, &self.costs, &self.shares, &mut buffer).expect("tables that the desk has accepted");
         buffer[..length].to_vec()
     }
 
-    /// How many variables, operators and maps it has.
+    /// How many variables, operators and maps it has, its edition and its quota.
     pub fn counts(&self) -> Counts {
-        self.counts
+        Counts::of_row(self.counts)
+    }
+
+    /// Its edition, 1 or 2.
+    pub fn edition(&self) -> u32 {
+        self.counts().edition
+    }
+
+    /// How many tests a sequence or a run may store; none is told in edition 1, in which no operator stores one.
+    pub fn quota(&self) -> Option<Tests> {
+        (self.edition() == 2).then(|| Tests(self.counts().quota))
+    }
+
+    /// Whether each step of this operator stores a test. In edition 1 none does, nor does an operator that the task hasn't.
+    pub fn stores(&self, op: Operator) -> bool {
+        self.edition() == 2 && op.0 < self.counts().operators && self.facts[MARKS + op.0 as usize] == 1
     }
 
     /// Its tables, as the desk is lent them: facts, costs and shares.
@@ -181,14 +216,15 @@ impl Task {
 
     /// Its initial state: the second row of the facts.
     pub fn initial(&self) -> State {
-        State::of(&self.facts[8..8 + self.counts.variables as usize])
+        State::of(&self.facts[8..8 + self.counts().variables as usize])
     }
 
     fn lent(&self) -> ffi::Lent<'_> {
-        ffi::Lent { counts: self.counts.lent(), facts: &self.facts, costs: &self.costs, shares: &self.shares }
+        ffi::Lent { counts: &self.counts, facts: &self.facts, costs: &self.costs, shares: &self.shares }
     }
 
     /// The distances of a map at all its abstract states, into a table of at least [`DISTANCES`] places ([`NO_DISTANCE`] for none); places beyond the map are left alone.
+    /// The quota counts for nothing here, nor in a distance or a bound.
     pub fn distances(&self, map: Map, table: &mut [u32]) -> Result<Rounds, Refusal> {
         told(ffi::distances(self.lent(), map.0, table)).map(|(_, rounds)| Rounds(rounds as u32))
     }
@@ -205,12 +241,12 @@ impl Task {
         seconds(ffi::bound(self.lent(), &state.0))
     }
 
-    /// Judges a sequence from a state: its cost, if every step may run and the end meets the goal.
+    /// Judges a sequence from a state: its cost, if every step may run, no more tests are stored than the quota, and the end meets the goal.
     pub fn judge(&self, state: &State, list: &[Operator]) -> Result<Seconds, Refusal> {
         told(ffi::judge(self.lent(), &state.0, numbers(list))).map(|(_, cost)| Seconds(cost))
     }
 
-    /// The cheaper of two lists, each judged up to the first moment a goal holds; equal costs name the first.
+    /// The cheaper of two lists, each judged up to the first moment a goal holds, and each with the whole quota; equal costs name the first.
     pub fn cheaper(&self, state: &State, a: &[Operator], b: &[Operator]) -> Result<Cheaper, Refusal> {
         let (kind, cost) = told(ffi::cheaper(self.lent(), &state.0, numbers(a), numbers(b)))?;
         Ok(match kind {
@@ -236,6 +272,12 @@ impl Task {
 }
 
 impl fmt::Display for Seconds {
+    fn fmt(&self, f: &mut fmt::Formatter<'_>) -> fmt::Result {
+        self.0.fmt(f)
+    }
+}
+
+impl fmt::Display for Tests {
     fn fmt(&self, f: &mut fmt::Formatter<'_>) -> fmt::Result {
         self.0.fmt(f)
     }

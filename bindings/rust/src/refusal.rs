@@ -44,7 +44,7 @@ impl Refusal {
             3 if self.place == 0 => Place::Nowhere,
             2..=7 | 18 => Place::Line(self.place),
             9 => Place::Variable(self.place),
-            10 | 12..=15 => Place::Step(self.place),
+            10 | 12..=15 | 19 => Place::Step(self.place),
             16 => Place::Length(self.place),
             _ => Place::Nowhere,
         }
@@ -72,6 +72,7 @@ impl Refusal {
             16 => "the sequence ends without the goal",
             17 => "the run isn't what its start and log give",
             18 => "an operator is idle: it has no effect but what it asks for",
+            19 => "the step would store a test beyond the quota",
             _ => "a number that this crate does not know",
         }
     }

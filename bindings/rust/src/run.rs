@@ -1,10 +1,10 @@
 //! A run and its ledger, in memory that the desk is lent.
-use crate::{ffi, told, Map, Operator, Refusal, Seconds, State, Step, Task, REPEATED, STEPS};
+use crate::{ffi, told, Map, Operator, Refusal, Seconds, State, Step, Task, Tests, REPEATED, STEPS};
 use std::convert::TryFrom;
 
 /// The places of a run in memory: bytes for its start and its state now, words for its log, the number of its steps and its columns.
 pub const RUN_BYTES: usize = 16;
-pub const RUN_WORDS: usize = STEPS + 10;
+pub const RUN_WORDS: usize = STEPS + 11;
 
 /// What an offer that was not refused is answered.
 #[derive(Clone, Copy, Debug, PartialEq, Eq)]
@@ -39,7 +39,7 @@ impl Run {
         (&self.bytes, &self.words)
     }
 
-    /// Offers a step: its number and its operator. A refusal, and a repeat, leave the run as it was.
+    /// Offers a step: its number and its operator. A refusal, and a repeat, leave the run as it was: a step that is offered again stores no second test.
     pub fn offer(&mut self, task: &Task, number: Step, op: Operator) -> Result<Answer, Refusal> {
         let (kind, _) = told(ffi::offer(task.lent(), &mut self.bytes, &mut self.words, number.0, op.0))?;
         Ok(if kind == REPEATED { Answer::Repeated } else { Answer::Accepted })
@@ -74,5 +74,10 @@ impl Run {
     /// What no map was paid.
     pub fn unshared(&self) -> Seconds {
         Seconds(u64::from(self.words[STEPS + 9]))
+    }
+
+    /// How many tests were stored: the steps that were really run and whose operators store one.
+    pub fn stored(&self) -> Tests {
+        Tests(self.words[STEPS + 10])
     }
 }

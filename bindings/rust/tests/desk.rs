@@ -1,24 +1,8 @@
 //! The crate on the cases of the bench: what each entry answers, what a refusal says, and that nothing moves where the desk says no.
-use mihaedop::*;
+mod shared;
 
-const A: &str = "edition=1
-vars=3
-dom=2,3,3
-init=0,0,0
-goal=0:1,1:2,2:2
-ops=4
-op=1;0:0;0:1
-op=1;1:0,2:0;1:1,2:1
-op=1;1:1;1:2
-op=1;2:1;2:2
-maps=3
-map=0,1/0,0,0/0,0,0
-map=0,0/0,1,2/0,0,0
-map=0,0/0,0,0/0,1,2
-share=1,0,0,0
-share=0,1,1,0
-share=0,0,0,1
-";
+use mihaedop::*;
+use shared::{ops, refusal, task, A};
 
 const E: &str = "edition=1
 vars=2
@@ -34,22 +18,6 @@ share=1
 share=0
 ";
 
-fn task(text: &str) -> Task {
-    Task::read(text.as_bytes()).unwrap_or_else(|refusal| panic!("{refusal}"))
-}
-
-fn ops(numbers: &[u32]) -> Vec<Operator> {
-    numbers.iter().map(|&op| Operator(op)).collect()
-}
-
-/// The number and the place of a refusal.
-fn refusal<T>(answer: Result<T, Refusal>) -> (u8, u32) {
-    match answer {
-        Ok(_) => panic!("not refused"),
-        Err(refusal) => (refusal.number(), refusal.place_number()),
-    }
-}
-
 /// The limit as the refusals write it.
 fn most_steps() -> String {
     format!("{},{:03}", STEPS / 1000, STEPS % 1000)
@@ -63,7 +31,7 @@ fn without_end() -> Task {
 #[test]
 fn reads_and_refuses_texts() {
     let a = task(A);
-    assert_eq!(a.counts(), Counts { variables: 3, operators: 4, maps: 3 });
+    assert_eq!(a.counts(), Counts { variables: 3, operators: 4, maps: 3, edition: 1, quota: 0 });
     assert_eq!(a.initial(), State::of(&[0, 0, 0]));
     assert_eq!(task(&A.replace("init=0,0,0", "init=1,2,0")).initial(), State::of(&[1, 2, 0]));
     assert_eq!(refusal(Task::read(b"")), (2, 1));
@@ -120,7 +88,7 @@ fn refusals_say_number_place_and_meaning() {
 
 #[test]
 fn checks_tables_of_any_length() {
-    let counts = Counts { variables: 1, operators: 0, maps: 1 };
+    let counts = Counts { variables: 1, operators: 0, maps: 1, edition: 1, quota: 0 };
     let mut facts = [0; FACTS];
     facts[0] = 1;
     assert_eq!(check(counts, &facts, &[0; COSTS], &[0; SHARES]), Ok(()));
@@ -189,7 +157,7 @@ fn sequences_and_the_cheaper_of_two() {
 
 #[test]
 fn so_many_steps_pass_and_one_more_is_too_many() {
-    assert_eq!((STEPS, RUN_WORDS), (1024, 1034));
+    assert_eq!((STEPS, RUN_WORDS), (1024, 1035));
     let a = without_end();
     let start = a.initial();
     let list = |steps: usize| [vec![Operator(0); steps - 3], ops(&[1, 2, 3])].concat();
@@ -282,6 +250,7 @@ fn a_run_of_any_contents_tells_nothing_beyond_its_steps_and_maps() {
     assert_eq!([0, 7].map(|map| run.paid(Map(map))), [STEPS + 1, STEPS + 8].map(place));
     assert_eq!([8, 9, u32::MAX].map(|map| run.paid(Map(map))), [0; 3].map(Seconds));
     assert_eq!(run.unshared(), place(STEPS + 9));
+    assert_eq!(run.stored(), Tests(1000 + STEPS as u32 + 10));
     for more in [STEPS as u32, STEPS as u32 + 1, u32::MAX] {
         words[STEPS] = more;
         assert_eq!(Run::of_parts([0; RUN_BYTES], words).log().len(), STEPS);

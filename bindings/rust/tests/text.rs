@@ -1,18 +1,23 @@
 //! The text of a task, read and written back: each accepted task has one, what is beyond it stays, and nothing moves where the desk says no.
-use mihaedop::*;
+mod shared;
 
-const A: &str = include_str!("../../../cases/A.txt");
+use mihaedop::*;
+use shared::{refusal, task, A, G};
+
 const C: &str = include_str!("../../../cases/C.txt");
 
-/// The cases of the bench that are accepted, a task without operators, and one with every count at its limit.
-const ACCEPTED: [&str; 7] = [
+/// The cases of the bench that are accepted, a task without operators in each edition, and those with every count at its limit.
+const ACCEPTED: [&str; 10] = [
     A,
+    G,
     include_str!("../../../cases/D.txt"),
     include_str!("../../../cases/E.txt"),
     include_str!("../../../cases/F-package.txt"),
     include_str!("../../../cases/F-package-and-truck.txt"),
     "edition=1\nvars=1\ndom=1\ninit=0\ngoal=-\nops=0\nmaps=1\nmap=0\nshare=-\n",
+    "edition=2\nvars=1\ndom=1\ninit=0\ngoal=-\nquota=0\nops=0\nmaps=1\nmap=0\nshare=-\n",
     include_str!("../../../bench/largest.txt"),
+    include_str!("../../../bench/largest2.txt"),
 ];
 
 /// What stands in a place before it is written, and in one that isn't read.
@@ -35,7 +40,7 @@ const CLASSES: usize = 131;
 impl Tables {
     /// Tables with no task in them.
     fn others() -> Tables {
-        let counts = Counts { variables: 0, operators: 0, maps: 0 };
+        let counts = Counts { variables: 0, operators: 0, maps: 0, edition: 0, quota: OTHER_WORD };
         Tables { counts, facts: [OTHER; FACTS], costs: [OTHER_WORD; COSTS], shares: [OTHER_WORD; SHARES] }
     }
 
@@ -44,10 +49,15 @@ impl Tables {
         Tables { counts: task.counts(), facts: *facts, costs: *costs, shares: *shares }
     }
 
-    /// The same task, with other numbers in every place beyond its own.
+    /// The same task, with other numbers in every place beyond its own. In edition 1 the quota and the marks are none of its own.
     fn with_others_beyond(&self) -> Tables {
         let [variables, operators, maps] = [self.counts.variables, self.counts.operators, self.counts.maps].map(|count| count as usize);
         let mut tables = Tables { counts: self.counts, ..Tables::others() };
+        if self.counts.edition == 1 {
+            tables.counts.quota = OTHER_WORD;
+        } else {
+            tables.facts[MARKS..][..operators].copy_from_slice(&self.facts[MARKS..][..operators]);
+        }
         let mut keep = |row: usize, places: usize| {
             let own = 8 * row..8 * row + places;
             tables.facts[own.clone()].copy_from_slice(&self.facts[own]);
@@ -68,18 +78,6 @@ impl Tables {
 
     fn write(&self, buffer: &mut [u8]) -> Result<usize, Refusal> {
         write(self.counts, &self.facts, &self.costs, &self.shares, buffer)
-    }
-}
-
-fn task(text: &str) -> Task {
-    Task::read(text.as_bytes()).unwrap_or_else(|refusal| panic!("{refusal}"))
-}
-
-/// The number and the place of a refusal.
-fn refusal<T>(answer: Result<T, Refusal>) -> (u8, u32) {
-    match answer {
-        Ok(_) => panic!("not refused"),
-        Err(refusal) => (refusal.number(), refusal.place_number()),
     }
 }
 
@@ -135,17 +133,20 @@ fn a_refused_text_leaves_the_tables_as_they_were() {
     assert_eq!(tables, Tables::others());
 }
 
-/// Tables that break a rule, and what they are refused with: case A with a place altered, and a map of eight classes in each of five variables.
+/// Tables that break a rule, and what they are refused with: case A or case G with a place altered, and a map of eight classes in each of five variables.
 fn faulty() -> Vec<(Tables, (u8, u32))> {
-    let altered = |alter: fn(&mut Tables), told| {
-        let mut tables = Tables::of(&task(A));
+    let altered_of = |text: &str, alter: fn(&mut Tables), told| {
+        let mut tables = Tables::of(&task(text));
         alter(&mut tables);
         (tables, told)
     };
-    let mut large = Tables { counts: Counts { variables: 5, operators: 0, maps: 1 }, facts: [0; FACTS], ..Tables::others() };
+    let altered = |alter: fn(&mut Tables), told| altered_of(A, alter, told);
+    let counts = Counts { variables: 5, operators: 0, maps: 1, edition: 1, quota: 0 };
+    let mut large = Tables { counts, facts: [0; FACTS], ..Tables::others() };
     large.facts[..5].fill(8);
     (0..5).for_each(|variable| large.facts[8 * (CLASSES + variable)..][..8].copy_from_slice(&[0, 1, 2, 3, 4, 5, 6, 7]));
     vec![
+        altered(|tables| tables.counts.edition = 3, (3, 1)),
         altered(|tables| tables.counts.variables = 9, (3, 2)),
         altered(|tables| tables.counts.operators = u32::MAX, (3, 6)),
         altered(|tables| tables.facts[0] = 9, (3, 3)),
@@ -153,6 +154,10 @@ fn faulty() -> Vec<(Tables, (u8, u32))> {
         altered(|tables| tables.facts[8 * (CLASSES + 1)..][..3].copy_from_slice(&[0, 2, 2]), (5, 12)),
         altered(|tables| tables.shares[64 * 2 + 1] = 1, (6, 8)),
         altered(|tables| tables.facts[8 * EFFECTS] = 0, (18, 7)),
+        altered_of(G, |tables| tables.counts.quota = QUOTA + 1, (3, 6)),
+        altered_of(G, |tables| tables.facts[MARKS + 2] = 2, (3, 10)),
+        altered_of(G, |tables| tables.facts[8 * (EFFECTS + 2)..][..2].fill(0), (18, 10)),
+        altered_of(G, |tables| tables.shares[1] = 4, (6, 9)),
         (large, (7, 8)),
     ]
 }
