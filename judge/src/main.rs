@@ -31,6 +31,8 @@ mod tests_idle;
 #[cfg(test)]
 mod tests_moments;
 #[cfg(test)]
+mod tests_rows;
+#[cfg(test)]
 mod tests_writing;
 mod text;
 mod writer;
@@ -77,7 +79,7 @@ fn vectors(seed: u64, count: usize) -> Vec<u8> {
 
 /// Scripts of one vector by chance, one a seed from the first on; the seed also tells the kind.
 fn seeds(first: u64, count: usize) -> Vec<u8> {
-    let vectors: Vec<_> = (0..count).map(|i| kinds::any_by_chance(&mut rng::Rng::new(first + i as u64), i)).collect();
+    let vectors: Vec<_> = (0..count).map(|i| kinds::any_by_chance(&mut rng::Rng::of_either_edition(first + i as u64), i)).collect();
     builder::script_of(&vectors)
 }
 
@@ -87,7 +89,7 @@ fn output(words: &[&str]) -> Option<Vec<u8>> {
         ["vectors", seed, count] => Some(vectors(seed.parse().ok()?, count.parse().ok()?)),
         ["seeds", first, count] => Some(seeds(first.parse().ok()?, count.parse().ok()?)),
         ["long"] => Some(builder::script_of(&edges::long())),
-        ["text", seed] => Some(damages::some_text(&mut rng::Rng::new(seed.parse().ok()?))),
+        ["text", seed] => Some(damages::some_text(&mut rng::Rng::of_either_edition(seed.parse().ok()?))),
         ["expect"] => Some(script::expect(&input())),
         ["desk"] => Some(desk::program(&input()).into_bytes()),
         ["format"] => Some(desk::format_program(&input())),

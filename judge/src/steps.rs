@@ -25,11 +25,12 @@ const THERE_CHEAPLY: u32 = 5;
 /// There and back between two values, and home from any, each at the highest cost and paid by one map; there and back at the
 /// same cost, paid by none; and there for 1, paid by the other map. The goal is to be home.
 fn shuttle() -> Task {
-    let op = |cost, from, to| Op { cost, pre: vec![from], eff: vec![Some(to)] };
+    let op = |cost, from, to| Op::new(cost, vec![from], vec![Some(to)]);
     Task {
         dom: vec![3],
         init: vec![0],
         goal: vec![Some(2)],
+        quota: None,
         ops: vec![
             op(COST, Some(0), 1),
             op(COST, Some(1), 0),

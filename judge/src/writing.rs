@@ -176,12 +176,13 @@ fn other_rules() -> Vec<Vector> {
 /// The longest text: eight variables of eight values, and every list full. A cost of seven digits can be split into eight shares
 /// of six; one share of seven would leave nothing for the others.
 pub fn largest() -> Task {
-    let op = Op { cost: COST, pre: vec![Some(0); VARS], eff: vec![Some(7); VARS] };
+    let op = Op::new(COST, vec![Some(0); VARS], vec![Some(7); VARS]);
     let kept = |m: usize, v: usize| (0..VALUES).map(|value| if (v + m) % VARS < 4 { value } else { 0 }).collect();
     Task {
         dom: vec![VALUES; VARS],
         init: vec![0; VARS],
         goal: vec![Some(7); VARS],
+        quota: None,
         ops: vec![op; OPS],
         maps: (0..MAPS).map(|m| (0..VARS).map(|v| kept(m, v)).collect()).collect(),
         shares: vec![vec![COST / MAPS as u64; OPS]; MAPS],
@@ -201,7 +202,8 @@ fn of_one_value(vars: usize, ops: usize) -> Task {
         dom: vec![1; vars],
         init: vec![0; vars],
         goal: vec![None; vars],
-        ops: vec![Op { cost: 0, pre: vec![None; vars], eff: vec![Some(0); vars] }; ops],
+        quota: None,
+        ops: vec![Op::new(0, vec![None; vars], vec![Some(0); vars]); ops],
         maps: vec![vec![vec![0]; vars]],
         shares: vec![vec![0; ops]],
     }
