@@ -40,6 +40,24 @@ share=1
 share=0
 ";
 
+/// The coupling that nearly left: it is mounted, torqued while its test is stored, and its mark is taken back. One test may be
+/// stored, so a second one is refused, and a retry of the first isn't a second one.
+pub const G: &str = "\
+edition=2
+vars=2
+dom=2,2
+init=0,0
+goal=0:1,1:1
+quota=1
+ops=3
+op=2;0:0;0:1;0
+op=3;0:1,1:0;1:1;1
+op=1;1:1;1:0;0
+maps=1
+map=0,1/0,1
+share=2,3,1
+";
+
 /// Case A with one thing put in place of another that stands there.
 pub fn a_with(old: &str, new: &str) -> String {
     assert!(A.contains(old), "{} stands in case A", old);

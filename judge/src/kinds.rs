@@ -6,6 +6,7 @@ use crate::edges::run_of;
 use crate::idle;
 use crate::limits::*;
 use crate::moments;
+use crate::quota;
 use crate::random::*;
 use crate::rng::Rng;
 use crate::rows;
@@ -46,8 +47,8 @@ const KINDS: [Kind; 24] = [
 ];
 
 /// The kinds over a row of records, over sums of which some terms are none, over runs watched at every moment, over lists and
-/// runs of any length, over an idle operator, and over writing.
-const LATER_KINDS: [Kind; 9] = [
+/// runs of any length, over an idle operator, over writing, and over edition 2.
+const LATER_KINDS: [Kind; 13] = [
     rows::row_of_a_task,
     rows::damaged_row,
     sums::mixed,
@@ -57,6 +58,10 @@ const LATER_KINDS: [Kind; 9] = [
     writing::rubbish_and_lengths,
     writing::damaged_tables,
     writing::damaged_text,
+    quota::lists_at_the_quota,
+    quota::run_to_the_quota,
+    quota::unread_in_edition_1,
+    quota::damaged_additions,
 ];
 
 /// The i-th vector by chance: the kinds take turns.

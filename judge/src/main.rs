@@ -11,6 +11,9 @@ mod idle_texts;
 mod kinds;
 mod limits;
 mod moments;
+mod quota;
+mod quota_tables;
+mod quota_texts;
 mod random;
 mod rng;
 mod round_trips;
@@ -30,6 +33,8 @@ mod tests;
 mod tests_idle;
 #[cfg(test)]
 mod tests_moments;
+#[cfg(test)]
+mod tests_quota;
 #[cfg(test)]
 mod tests_rows;
 #[cfg(test)]
@@ -57,7 +62,7 @@ fn input() -> Vec<u8> {
 }
 
 /// The cases by name, then vectors by chance, as many as are asked for; then the small texts, the rows of records, the sums, the watched
-/// runs, the lists and runs of many steps, the idle operators, and those over writing last.
+/// runs, the lists and runs of many steps, the idle operators, those over writing, and those over edition 2 last.
 fn vectors(seed: u64, count: usize) -> Vec<u8> {
     let mut vectors = cases::bench();
     vectors.extend(edges::edges());
@@ -74,6 +79,7 @@ fn vectors(seed: u64, count: usize) -> Vec<u8> {
     vectors.extend(steps::steps(seed));
     vectors.extend(idle::idle(seed));
     vectors.extend(writing::writing(seed));
+    vectors.extend(quota::quotas(seed));
     builder::script_of(&vectors)
 }
 
@@ -83,12 +89,17 @@ fn seeds(first: u64, count: usize) -> Vec<u8> {
     builder::script_of(&vectors)
 }
 
+/// The vectors that take long, or whose output is long.
+fn long() -> Vec<builder::Vector> {
+    edges::long().into_iter().chain([quota::long()]).collect()
+}
+
 /// The output for the words of the command line, if they make sense.
 fn output(words: &[&str]) -> Option<Vec<u8>> {
     match words {
         ["vectors", seed, count] => Some(vectors(seed.parse().ok()?, count.parse().ok()?)),
         ["seeds", first, count] => Some(seeds(first.parse().ok()?, count.parse().ok()?)),
-        ["long"] => Some(builder::script_of(&edges::long())),
+        ["long"] => Some(builder::script_of(&long())),
         ["text", seed] => Some(damages::some_text(&mut rng::Rng::of_either_edition(seed.parse().ok()?))),
         ["expect"] => Some(script::expect(&input())),
         ["desk"] => Some(desk::program(&input()).into_bytes()),

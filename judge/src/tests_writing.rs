@@ -5,6 +5,7 @@ use crate::cases::{a_with, row_of_ops, A, E};
 use crate::damages::{damaged, renumbered, some_places};
 use crate::desk::{self, Answer};
 use crate::limits::*;
+use crate::quota_texts::all_storing;
 use crate::random::{task, FULL, LARGE, MEDIUM, SMALL, TINY};
 use crate::rng::Rng;
 use crate::round_trips::with_round_trips;
@@ -119,6 +120,15 @@ fn the_longest_text_has_9597_bytes() {
     assert_eq!(text.len(), 9_597);
     assert_eq!(read(&text), largest());
     assert!(some_tasks(8, 100).iter().all(|task| written(task).len() < text.len()));
+}
+
+/// A line of 11 bytes more, and two bytes more in each of 64.
+#[test]
+fn the_longest_text_of_edition_2_has_9736_bytes() {
+    let task = all_storing(largest(), 1_024);
+    assert_eq!(written(&task).len(), 9_597 + 11 + 64 * 2);
+    assert_eq!(written(&task).len(), 9_736);
+    assert_eq!(read(&written(&task)), task);
 }
 
 /// The tables with something in every place that isn't the task's own.

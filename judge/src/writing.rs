@@ -20,7 +20,7 @@ fn case() -> Task {
 }
 
 /// A text that is read, and a buffer full of a byte that no text has.
-fn over_rubbish(title: &str, text: &[u8]) -> Vector {
+pub fn over_rubbish(title: &str, text: &[u8]) -> Vector {
     Vector::new(title).text(text).lines("R; e 14 255")
 }
 
@@ -29,7 +29,7 @@ fn a(title: &str) -> Vector {
 }
 
 /// The text's last byte, the place behind it, and the places at the end of what is lent after a reset and of the buffer.
-fn around_its_end(text: &[u8]) -> String {
+pub fn around_its_end(text: &[u8]) -> String {
     format!("p 14 {}; p 14 {}; p 14 16383; p 14 16384; p 14 16499", text.len() - 1, text.len())
 }
 
@@ -197,7 +197,7 @@ fn costs() -> Task {
 }
 
 /// Variables of one value, and one map, without operators or with one that sets them all.
-fn of_one_value(vars: usize, ops: usize) -> Task {
+pub fn of_one_value(vars: usize, ops: usize) -> Task {
     Task {
         dom: vec![1; vars],
         init: vec![0; vars],
@@ -272,7 +272,7 @@ fn places_that_are_not_read() -> Vec<Vector> {
 }
 
 /// A byte of the written text changed, what stands there read and its tables written; and the text as it was read again.
-fn one_byte(vector: Vector, text: &[u8], i: usize, byte: u8) -> Vector {
+pub fn one_byte(vector: Vector, text: &[u8], i: usize, byte: u8) -> Vector {
     vector.lines(&format!("s 14 {i} {byte}; u {0}; R; T; s 14 {i} {1}; u {0}; R", text.len(), text[i]))
 }
 
