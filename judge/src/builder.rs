@@ -5,13 +5,15 @@ use crate::round_trips::with_round_trips;
 use crate::row::Record;
 use crate::run::Run;
 use crate::script::*;
-use crate::tables::{counts_of, text_of, write_tables, Lent};
-use crate::task::{Facts, State, Task};
+use crate::tables::{counts_of, text_of, write_tables, Counts, Lent};
+use crate::task::{Facts, Op, State, Task};
 
 /// One vector: what it tries, and its lines after the reset.
 pub struct Vector {
     title: String,
     body: Vec<u8>,
+    /// the last task was of edition 2: its records have marks, and its runs a number of stored tests
+    marked: bool,
 }
 
 /// The tables of a task, as long as the task needs them.
@@ -35,7 +37,8 @@ pub fn row_of(task: &Task) -> Vec<Record> {
         facts.iter().zip(&mut places).for_each(|(fact, place)| *place = fact.map_or(0, |value| value as u8 + 1));
         places
     };
-    task.ops.iter().map(|op| Record { cost: op.cost as u32, pre: places(&op.pre), eff: places(&op.eff) }).collect()
+    let record = |op: &Op| Record { cost: op.cost as u32, pre: places(&op.pre), eff: places(&op.eff), mark: u8::from(op.stores) };
+    task.ops.iter().map(record).collect()
 }
 
 pub fn text_of_task(task: &Task) -> Vec<u8> {
@@ -55,7 +58,7 @@ pub fn script_of(vectors: &[Vector]) -> Vec<u8> {
 
 impl Vector {
     pub fn new(title: &str) -> Vector {
-        Vector { title: title.to_string(), body: Vec::new() }
+        Vector { title: title.to_string(), body: Vec::new(), marked: false }
     }
 
     /// Lines as they stand, parted by a semicolon.
@@ -75,7 +78,17 @@ impl Vector {
     }
 
     pub fn task(self, task: &Task) -> Vector {
-        self.text(&text_of_task(task)).lines("R")
+        self.text(&text_of_task(task)).lines("R").of_edition(task)
+    }
+
+    /// What follows is about this task.
+    fn of_edition(mut self, task: &Task) -> Vector {
+        self.marked = task.quota.is_some();
+        self
+    }
+
+    pub fn counts(self, counts: Counts) -> Vector {
+        self.lines(&format!("n {}", counts))
     }
 
     /// The places of an array from the given one on, as many to a line as it holds.
@@ -95,11 +108,12 @@ impl Vector {
         self.set(k, 0, values).lines(&format!("l {} {}", k, values.len()))
     }
 
-    /// A record of the row, in its places.
+    /// A record of the row, in its places, and its mark if the task is of edition 2.
     pub fn record(self, o: usize, record: &Record) -> Vector {
         let facts = [record.pre, record.eff].concat().into_iter().map(u32::from);
         let places: Vec<u32> = std::iter::once(record.cost).chain(facts).collect();
-        self.set(RECORDS, RECORD * o, &places)
+        let marks = vec![u32::from(record.mark); usize::from(self.marked)];
+        self.set(RECORDS, RECORD * o, &places).set(MARK, o, &marks)
     }
 
     /// A row of records, lent with just these.
@@ -113,14 +127,15 @@ impl Vector {
         self.set(STATE, 0, &values)
     }
 
-    /// The fields of a run, one by one; of the log no more than an accepted offer can have written.
+    /// The fields of a run, one by one; of the log no more than an accepted offer can have written, and likewise of the columns.
     pub fn run(self, run: &Run) -> Vector {
         let written = run.log.len().min(run.len as usize + 1);
+        let columns = if self.marked { COLUMNS } else { STORED };
         self.set(START, 0, &run.start.map(u32::from))
             .set(LOG, 0, &run.log[..written])
             .set(LEN, 0, &[run.len])
             .set(NOW, 0, &run.now.map(u32::from))
-            .set(COLUMN, 0, &run.columns)
+            .set(COLUMN, 0, &run.columns[..columns])
     }
 
     /// The tables of a task set by hand where they are read: these rows of its facts, its maps and its shares.
@@ -137,15 +152,22 @@ impl Vector {
             }
             self = self.set(SHARES, OPS * m, &tables.shares[OPS * m..OPS * m + ops]);
         }
-        self
+        self.of_edition(task)
     }
 
     /// A task set by hand, its counts, operators and costs too.
     pub fn tables(self, task: &Task) -> Vector {
-        let (counts, ops) = (counts_of(task), task.ops.len());
-        self.lines(&format!("n {} {} {}", counts.vars, counts.ops, counts.maps))
+        let ops = task.ops.len();
+        self.counts(counts_of(task))
             .by_hand(task, (0..ROW_PRE + ops).chain(ROW_EFF..ROW_EFF + ops))
             .set(COSTS, 0, &tables_of(task).costs[..ops])
+            .marks(task)
+    }
+
+    /// Where they are read, the marks of a task's operators.
+    fn marks(self, task: &Task) -> Vector {
+        let marks: Vec<u32> = task.ops.iter().filter(|_| task.quota.is_some()).map(|op| u32::from(op.stores)).collect();
+        self.set(FACTS, ROW * ROW_MARK, &marks)
     }
 
     /// Something in every place of the tables and of the distance table.

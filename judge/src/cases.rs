@@ -40,6 +40,24 @@ share=1
 share=0
 ";
 
+/// The coupling that nearly left: it is mounted, torqued while its test is stored, and its mark is taken back. One test may be
+/// stored, so a second one is refused, and a retry of the first isn't a second one.
+pub const G: &str = "\
+edition=2
+vars=2
+dom=2,2
+init=0,0
+goal=0:1,1:1
+quota=1
+ops=3
+op=2;0:0;0:1;0
+op=3;0:1,1:0;1:1;1
+op=1;1:1;1:0;0
+maps=1
+map=0,1/0,1
+share=2,3,1
+";
+
 /// Case A with one thing put in place of another that stands there.
 pub fn a_with(old: &str, new: &str) -> String {
     assert!(A.contains(old), "{} stands in case A", old);
@@ -68,22 +86,30 @@ pub fn f(keeps_truck_a: bool) -> Task {
     let mut ops = Vec::new();
     for truck in 1..=2 {
         for side in 0..2 {
-            ops.push(Op { cost: 1, pre: fact(&[(truck, side), (0, side)]), eff: fact(&[(0, truck + 1)]) });
-            ops.push(Op { cost: 1, pre: fact(&[(truck, side), (0, truck + 1)]), eff: fact(&[(0, side)]) });
-            ops.push(Op { cost: 1, pre: fact(&[(truck, side)]), eff: fact(&[(truck, 1 - side)]) });
+            ops.push(Op::new(1, fact(&[(truck, side), (0, side)]), fact(&[(0, truck + 1)])));
+            ops.push(Op::new(1, fact(&[(truck, side), (0, truck + 1)]), fact(&[(0, side)])));
+            ops.push(Op::new(1, fact(&[(truck, side)]), fact(&[(truck, 1 - side)])));
         }
     }
     let truck_a = if keeps_truck_a { vec![0, 1] } else { vec![0, 0] };
     let shares = vec![vec![1; ops.len()]];
-    Task { dom, init: vec![0, 1, 1], goal: fact(&[(0, 1)]), ops, maps: vec![vec![vec![0, 1, 2, 3], truck_a, vec![0, 0]]], shares }
+    Task {
+        dom,
+        init: vec![0, 1, 1],
+        goal: fact(&[(0, 1)]),
+        quota: None,
+        ops,
+        maps: vec![vec![vec![0, 1, 2, 3], truck_a, vec![0, 0]]],
+        shares,
+    }
 }
 
 /// A task of one variable with that many operators, of the costs given in turn.
 pub fn row_of_ops(costs: &[u64]) -> Task {
-    let op = |cost: &u64| Op { cost: *cost, pre: vec![None], eff: vec![Some(1)] };
+    let op = |cost: &u64| Op::new(*cost, vec![None], vec![Some(1)]);
     let ops: Vec<Op> = costs.iter().map(op).collect();
     let shares = vec![vec![0; ops.len()]];
-    Task { dom: vec![2], init: vec![0], goal: vec![Some(1)], ops, maps: vec![vec![vec![0, 1]]], shares }
+    Task { dom: vec![2], init: vec![0], goal: vec![Some(1)], quota: None, ops, maps: vec![vec![vec![0, 1]]], shares }
 }
 
 fn a(title: &str) -> Vector {

@@ -10,6 +10,11 @@ use crate::task::Task;
 /// One byte deleted, doubled, changed or put in, or the text cut.
 pub fn damaged(rng: &mut Rng, text: &[u8]) -> Vec<u8> {
     let i = rng.below(text.len());
+    damaged_at(rng, text, i)
+}
+
+/// The same at this byte.
+pub fn damaged_at(rng: &mut Rng, text: &[u8], i: usize) -> Vec<u8> {
     let likely = b"0123456789,:;/-=\n";
     match rng.below(6) {
         0 => [&text[..i], &text[i + 1..]].concat(),
@@ -77,6 +82,10 @@ fn some_place(rng: &mut Rng, task: &Task) -> (u32, usize, u32, u32) {
     let tables = tables_of(task);
     let (vars, ops, maps) = (task.dom.len(), task.ops.len().max(1), task.maps.len());
     let (v, o, m) = (rng.below(vars), rng.below(ops), rng.below(maps));
+    if task.quota.is_some() && rng.chance(1, 6) {
+        let place = ROW * ROW_MARK + if rng.chance(7, 8) { o } else { rng.below(OPS) };
+        return (FACTS, place, u32::from(tables.facts[place]), rng.pick(&[0, 1, 2, 255]));
+    }
     let row = match rng.below(9) {
         0 => ROW_DOM,
         1 => ROW_INIT,

@@ -33,7 +33,7 @@ pub enum Answer {
 impl fmt::Display for Answer {
     fn fmt(&self, f: &mut fmt::Formatter) -> fmt::Result {
         match self {
-            Answer::Read(counts) => write!(f, "accepted {} {} {}", counts.vars, counts.ops, counts.maps),
+            Answer::Read(counts) => write!(f, "accepted {}", counts),
             Answer::Length(length) => write!(f, "length {}", length),
             Answer::Clean => write!(f, "clean"),
             Answer::Rounds(rounds) => write!(f, "rounds {}", rounds),

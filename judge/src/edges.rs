@@ -11,7 +11,7 @@ fn counting_ops(vars: usize, from: usize, among: usize, values: usize) -> Vec<Op
     let mut ops = Vec::new();
     for v in from..from + among {
         for value in 0..values - 1 {
-            let mut op = Op { cost: COST, pre: vec![None; vars], eff: vec![None; vars] };
+            let mut op = Op::new(COST, vec![None; vars], vec![None; vars]);
             for lower in from..v {
                 op.pre[lower] = Some(values - 1);
                 op.eff[lower] = Some(0);
@@ -33,18 +33,18 @@ pub fn counters(count: usize, among: usize, values: usize) -> Task {
     let maps = (0..count).map(|c| (0..vars).map(|v| classes(c, v)).collect()).collect();
     let each = ops.len() / count;
     let shares = (0..count).map(|c| (0..ops.len()).map(|o| if o / each == c { COST } else { 0 }).collect()).collect();
-    Task { dom: vec![values; vars], init: vec![0; vars], goal: vec![Some(values - 1); vars], ops, maps, shares }
+    Task { dom: vec![values; vars], init: vec![0; vars], goal: vec![Some(values - 1); vars], quota: None, ops, maps, shares }
 }
 
 /// A switch that goes on and off; a goal is 'on'. Beside it is a thing of one value: two steps set it, which changes nothing;
 /// neither asks for that value, so they aren't idle.
 pub fn switch() -> Task {
-    let op = |cost, on, to, beside| Op { cost, pre: vec![on, None], eff: vec![to, beside] };
+    let op = |cost, on, to, beside| Op::new(cost, vec![on, None], vec![to, beside]);
     let ops =
         vec![op(COST, Some(0), Some(1), None), op(3, Some(1), Some(0), None), op(COST, None, None, Some(0)), op(0, Some(1), None, Some(0))];
     let maps = [[0, 1], [0, 0], [1, 0]].map(|classes| vec![classes.to_vec(), vec![0]]).to_vec();
     let shares = vec![vec![400_000, 1, COST, 0], vec![0, 0, 0, 0], vec![599_999, 2, 0, 0]];
-    Task { dom: vec![2, 1], init: vec![0, 0], goal: vec![Some(1), None], ops, maps, shares }
+    Task { dom: vec![2, 1], init: vec![0, 0], goal: vec![Some(1), None], quota: None, ops, maps, shares }
 }
 
 fn on_off(length: usize) -> Vec<u32> {
@@ -54,11 +54,12 @@ fn on_off(length: usize) -> Vec<u32> {
 /// Variables of eight values; the map keeps so many of them apart.
 pub fn wide(vars: usize, kept: usize) -> Task {
     let classes = |v: usize| (0..8).map(|value| if v < kept { value } else { 0 }).collect();
-    let op = Op { cost: 5, pre: vec![None; vars], eff: vec![Some(7); vars] };
+    let op = Op::new(5, vec![None; vars], vec![Some(7); vars]);
     Task {
         dom: vec![8; vars],
         init: vec![0; vars],
         goal: vec![Some(7); vars],
+        quota: None,
         ops: vec![op],
         maps: vec![(0..vars).map(classes).collect()],
         shares: vec![vec![5]],
@@ -89,7 +90,8 @@ fn distances_at_the_edge() -> Vec<Vector> {
         dom: vec![1; 8],
         init: vec![0; 8],
         goal: vec![None; 8],
-        ops: vec![Op { cost: 4, pre: vec![Some(0); 8], eff: vec![None; 8] }],
+        quota: None,
+        ops: vec![Op::new(4, vec![Some(0); 8], vec![None; 8])],
         maps: vec![vec![vec![0]; 8]; 8],
         shares: vec![vec![0]; 8],
     };

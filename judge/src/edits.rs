@@ -5,7 +5,7 @@ use crate::cases::{a_with, A};
 use crate::rng::Rng;
 
 /// What stands in case A, and what is put in its place.
-const EDITS: &[(&str, &str)] = &[
+pub const EDITS: &[(&str, &str)] = &[
     ("edition=1", "edition=2"),
     ("edition=1", "edition=0"),
     ("edition=1", "edition=01"),

@@ -67,9 +67,9 @@ fn pairs(values: [u32; 2]) -> Vec<[u32; 2]> {
 /// Every operator over two variables of so many values, in the tables and as a record.
 fn every_operator(title: &str, values: [u32; 2]) -> Vector {
     let dom = values.map(|count| count as usize).to_vec();
-    let op = Op { cost: 0, pre: vec![None, None], eff: vec![None, None] };
+    let op = Op::new(0, vec![None, None], vec![None, None]);
     let maps = vec![dom.iter().map(|count| vec![0; *count]).collect()];
-    let task = Task { init: vec![0, 0], goal: vec![None, None], ops: vec![op], maps, shares: vec![vec![0]], dom };
+    let task = Task { init: vec![0, 0], goal: vec![None, None], quota: None, ops: vec![op], maps, shares: vec![vec![0]], dom };
     let begun = Vector::new(title).tables(&task).row(&row_of(&task));
     let all = pairs(values);
     all.iter().flat_map(|asked| all.iter().map(move |effects| (asked, effects))).fold(begun, |vector, (asked, effects)| {
@@ -80,9 +80,10 @@ fn every_operator(title: &str, values: [u32; 2]) -> Vector {
 
 /// Eight variables, all asked for and set to just that; then with one of them altered, not asked for, or not set.
 fn eight_variables() -> Vector {
-    let op = Op { cost: 1, pre: vec![Some(1); VARS], eff: vec![Some(1); VARS] };
+    let op = Op::new(1, vec![Some(1); VARS], vec![Some(1); VARS]);
     let maps = vec![vec![vec![0; 3]; VARS]];
-    let task = Task { dom: vec![3; VARS], init: vec![1; VARS], goal: vec![None; VARS], ops: vec![op], maps, shares: vec![vec![1]] };
+    let task =
+        Task { dom: vec![3; VARS], init: vec![1; VARS], goal: vec![None; VARS], quota: None, ops: vec![op], maps, shares: vec![vec![1]] };
     let begun = Vector::new("eight effects that are preconditions, and each of them in turn altered").tables(&task).lines("K");
     (0..VARS).fold(begun, |vector, v| {
         let (asked, effect) = (pre(0) + v, eff(0) + v);

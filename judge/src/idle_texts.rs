@@ -5,7 +5,7 @@ use crate::cases::{a_with, row_of_ops, A};
 use crate::limits::{OPS, TEXT};
 
 /// Lines of idle operators, of the variables of case A: without effects, or with effects of which each is a precondition.
-const IDLE: &[&str] = &[
+pub const IDLE: &[&str] = &[
     "op=0;-;-",
     "op=1000000;-;-",
     "op=1;0:0;-",
@@ -21,7 +21,7 @@ const IDLE: &[&str] = &[
 ];
 
 /// Lines of operators that aren't: some effect isn't among the preconditions.
-const BUSY: &[&str] = &[
+pub const BUSY: &[&str] = &[
     "op=1;-;0:0",
     "op=1;-;0:0,1:0,2:0",
     "op=1;0:1;0:0",
@@ -60,7 +60,7 @@ const GOING_ON: &[&str] = &[
 ];
 
 /// Faults of the line itself, which are told before; the text is cut there.
-const OWN_FAULTS: &[&str] = &[
+pub const OWN_FAULTS: &[&str] = &[
     "op=1000001;-;-",
     "op=4294967296;0:0;0:0",
     "op=01;-;-",
@@ -87,7 +87,7 @@ const OWN_FAULTS: &[&str] = &[
 ];
 
 /// What else is wrong in case A, beside its operator 2 (line 9) being idle; told first if it stands before.
-const BESIDE: &[(&str, &str)] = &[
+pub const BESIDE: &[(&str, &str)] = &[
     ("edition=1", "edition=2"),
     ("vars=3", "vars=9"),
     ("dom=2,3,3", "dom=2,3,9"),
@@ -128,7 +128,7 @@ fn whole(op: &str) -> String {
 }
 
 /// Texts read one after another.
-fn read(vector: Vector, texts: impl IntoIterator<Item = String>) -> Vector {
+pub fn read(vector: Vector, texts: impl IntoIterator<Item = String>) -> Vector {
     texts.into_iter().fold(vector, |vector, text| vector.text(text.as_bytes()).lines("R"))
 }
 

@@ -6,6 +6,7 @@ use crate::edges::run_of;
 use crate::idle;
 use crate::limits::*;
 use crate::moments;
+use crate::quota;
 use crate::random::*;
 use crate::rng::Rng;
 use crate::rows;
@@ -46,8 +47,8 @@ const KINDS: [Kind; 24] = [
 ];
 
 /// The kinds over a row of records, over sums of which some terms are none, over runs watched at every moment, over lists and
-/// runs of any length, over an idle operator, and over writing.
-const LATER_KINDS: [Kind; 9] = [
+/// runs of any length, over an idle operator, over writing, and over edition 2.
+const LATER_KINDS: [Kind; 13] = [
     rows::row_of_a_task,
     rows::damaged_row,
     sums::mixed,
@@ -57,6 +58,10 @@ const LATER_KINDS: [Kind; 9] = [
     writing::rubbish_and_lengths,
     writing::damaged_tables,
     writing::damaged_text,
+    quota::lists_at_the_quota,
+    quota::run_to_the_quota,
+    quota::unread_in_edition_1,
+    quota::damaged_additions,
 ];
 
 /// The i-th vector by chance: the kinds take turns.
@@ -161,7 +166,10 @@ fn states(rng: &mut Rng) -> Vector {
 /// A list with or without a fault somewhere.
 pub fn some_list(rng: &mut Rng, task: &Task, start: &State) -> Vec<u32> {
     let steps = rng.between(0, 12);
-    let mut list = walk_to_goal(rng, task, start, 40).filter(|_| rng.chance(3, 4)).unwrap_or_else(|| walk(rng, task, start, steps).0);
+    // now and then the quota isn't kept
+    let free = task.quota.is_some() && rng.chance(1, 3);
+    let walked = &Task { quota: task.quota.filter(|_| !free), ..task.clone() };
+    let mut list = walk_to_goal(rng, walked, start, 40).filter(|_| rng.chance(3, 4)).unwrap_or_else(|| walk(rng, walked, start, steps).0);
     if rng.chance(1, 3) && !list.is_empty() {
         let i = rng.below(list.len());
         let any = rng.word();
@@ -255,7 +263,9 @@ fn honest_run(rng: &mut Rng) -> Vector {
 
 /// One field of the run set to something else.
 pub fn some_field(rng: &mut Rng, task: &Task, run: &Run) -> (u32, usize, u32, u32) {
-    let (v, i, c) = (rng.below(VARS), rng.below(STEPS), rng.below(MAPS + 1));
+    // of a task of edition 1 the column of stored tests has vectors of its own
+    let columns = if task.quota.is_some() { COLUMNS } else { STORED };
+    let (v, i, c) = (rng.below(VARS), rng.below(STEPS), rng.below(columns));
     let any = rng.word();
     let near = rng.below(4) as u32;
     let step = if run.len > 0 && rng.chance(3, 4) { rng.below(run.len as usize) } else { i };

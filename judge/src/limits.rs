@@ -8,6 +8,8 @@ pub const COST: u64 = 1_000_000;
 pub const MAPS: usize = 8;
 pub const STATES: usize = 4_096;
 pub const STEPS: usize = 1_024;
+/// The highest quota of stored tests.
+pub const QUOTA: usize = 1_024;
 
 /// Stands for none in a distance table.
 pub const NONE: u32 = u32::MAX;
@@ -20,6 +22,13 @@ pub const ROW_GOAL: usize = 2;
 pub const ROW_PRE: usize = 3;
 pub const ROW_EFF: usize = 67;
 pub const ROW_MAP: usize = 131;
+/// The last rows have a place an operator: its mark.
+pub const ROW_MARK: usize = 195;
+
+/// The columns of a run: one a map, then the unshared one, then the one of stored tests.
+pub const UNSHARED: usize = MAPS;
+pub const STORED: usize = MAPS + 1;
+pub const COLUMNS: usize = MAPS + 2;
 
 pub const FACTS_ROOM: usize = 203 * ROW;
 pub const COSTS_ROOM: usize = OPS;

@@ -11,6 +11,9 @@ mod idle_texts;
 mod kinds;
 mod limits;
 mod moments;
+mod quota;
+mod quota_tables;
+mod quota_texts;
 mod random;
 mod rng;
 mod round_trips;
@@ -30,6 +33,10 @@ mod tests;
 mod tests_idle;
 #[cfg(test)]
 mod tests_moments;
+#[cfg(test)]
+mod tests_quota;
+#[cfg(test)]
+mod tests_rows;
 #[cfg(test)]
 mod tests_writing;
 mod text;
@@ -55,7 +62,7 @@ fn input() -> Vec<u8> {
 }
 
 /// The cases by name, then vectors by chance, as many as are asked for; then the small texts, the rows of records, the sums, the watched
-/// runs, the lists and runs of many steps, the idle operators, and those over writing last.
+/// runs, the lists and runs of many steps, the idle operators, those over writing, and those over edition 2 last.
 fn vectors(seed: u64, count: usize) -> Vec<u8> {
     let mut vectors = cases::bench();
     vectors.extend(edges::edges());
@@ -72,13 +79,19 @@ fn vectors(seed: u64, count: usize) -> Vec<u8> {
     vectors.extend(steps::steps(seed));
     vectors.extend(idle::idle(seed));
     vectors.extend(writing::writing(seed));
+    vectors.extend(quota::quotas(seed));
     builder::script_of(&vectors)
 }
 
 /// Scripts of one vector by chance, one a seed from the first on; the seed also tells the kind.
 fn seeds(first: u64, count: usize) -> Vec<u8> {
-    let vectors: Vec<_> = (0..count).map(|i| kinds::any_by_chance(&mut rng::Rng::new(first + i as u64), i)).collect();
+    let vectors: Vec<_> = (0..count).map(|i| kinds::any_by_chance(&mut rng::Rng::of_either_edition(first + i as u64), i)).collect();
     builder::script_of(&vectors)
+}
+
+/// The vectors that take long, or whose output is long.
+fn long() -> Vec<builder::Vector> {
+    edges::long().into_iter().chain([quota::long()]).collect()
 }
 
 /// The output for the words of the command line, if they make sense.
@@ -86,8 +99,8 @@ fn output(words: &[&str]) -> Option<Vec<u8>> {
     match words {
         ["vectors", seed, count] => Some(vectors(seed.parse().ok()?, count.parse().ok()?)),
         ["seeds", first, count] => Some(seeds(first.parse().ok()?, count.parse().ok()?)),
-        ["long"] => Some(builder::script_of(&edges::long())),
-        ["text", seed] => Some(damages::some_text(&mut rng::Rng::new(seed.parse().ok()?))),
+        ["long"] => Some(builder::script_of(&long())),
+        ["text", seed] => Some(damages::some_text(&mut rng::Rng::of_either_edition(seed.parse().ok()?))),
         ["expect"] => Some(script::expect(&input())),
         ["desk"] => Some(desk::program(&input()).into_bytes()),
         ["format"] => Some(desk::format_program(&input())),

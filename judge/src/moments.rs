@@ -172,11 +172,12 @@ fn case() -> Task {
 /// Two things to do at a price of 5, each with a map of its own; and a step that costs 1, after which the first can't be done.
 fn pit() -> Task {
     let only = |v: usize, value: usize| (0..2).map(|at| (at == v).then_some(value)).collect();
-    let op = |cost: u64, v: usize, to: usize| Op { cost, pre: only(v, 0), eff: only(v, to) };
+    let op = |cost: u64, v: usize, to: usize| Op::new(cost, only(v, 0), only(v, to));
     Task {
         dom: vec![3, 2],
         init: vec![0, 0],
         goal: vec![Some(1), Some(1)],
+        quota: None,
         ops: vec![op(5, 0, 1), op(5, 1, 1), op(1, 0, 2)],
         maps: vec![vec![vec![0, 1, 2], vec![0, 0]], vec![vec![0, 0, 0], vec![0, 1]]],
         shares: vec![vec![5, 0, 1], vec![0, 5, 0]],
@@ -186,11 +187,12 @@ fn pit() -> Task {
 /// Values in a ring, each with a step to the next; the last is the goal. One map keeps all apart, the other every two of
 /// them together; each pays its share of any step.
 fn ring(values: usize, cost: u64, shares: [u64; 2]) -> Task {
-    let on = |from: usize| Op { cost, pre: vec![Some(from)], eff: vec![Some((from + 1) % values)] };
+    let on = |from: usize| Op::new(cost, vec![Some(from)], vec![Some((from + 1) % values)]);
     Task {
         dom: vec![values],
         init: vec![0],
         goal: vec![Some(values - 1)],
+        quota: None,
         ops: (0..values).map(on).collect(),
         maps: [1, 2].iter().map(|together| vec![(0..values).map(|value| value / together).collect()]).collect(),
         shares: shares.iter().map(|share| vec![*share; values]).collect(),
@@ -238,8 +240,9 @@ fn bounds_now() -> Vec<Vector> {
 /// one on which the maps say the most different things.
 pub fn telling_watch(rng: &mut Rng) -> Watch {
     let loses = rng.chance(1, 2);
+    let edition = rng.edition();
     let some = |rng: &mut Rng| {
-        let task = task(rng, WATCHED);
+        let task = task_of(rng, WATCHED, edition);
         Watch::by_chance(rng, &task)
     };
     let telling = |watch: &Watch| {

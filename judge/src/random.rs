@@ -47,7 +47,7 @@ fn op(rng: &mut Rng, dom: &[usize]) -> Op {
         return moving(rng, dom, v, from, to);
     }
     let (pre, eff) = (rng.between(0, 3), rng.between(0, 4));
-    let mut op = Op { cost: cost(rng), pre: facts(rng, dom, pre, places), eff: facts(rng, dom, eff, places) };
+    let mut op = Op::new(cost(rng), facts(rng, dom, pre, places), facts(rng, dom, eff, places));
     if op.is_idle() {
         alter(&mut op, dom, v, to);
     }
@@ -55,7 +55,7 @@ fn op(rng: &mut Rng, dom: &[usize]) -> Op {
 }
 
 fn moving(rng: &mut Rng, dom: &[usize], v: usize, from: usize, to: usize) -> Op {
-    let mut op = Op { cost: cost(rng), pre: facts(rng, dom, 1, 3 * dom.len()), eff: vec![None; dom.len()] };
+    let mut op = Op::new(cost(rng), facts(rng, dom, 1, 3 * dom.len()), vec![None; dom.len()]);
     op.pre[v] = Some(from);
     alter(&mut op, dom, v, to);
     op
@@ -141,8 +141,32 @@ fn parts(rng: &mut Rng, cost: u64, maps: usize) -> Vec<u64> {
     parts
 }
 
+/// How many tests may be stored: few, so that a walk comes to the last, or the most, or any number.
+fn quota(rng: &mut Rng) -> usize {
+    match rng.below(8) {
+        0 => 0,
+        1..=4 => rng.between(1, 5),
+        5 => rng.between(6, 40),
+        6 => rng.below(QUOTA),
+        _ => QUOTA,
+    }
+}
+
+/// The task with a quota and marks by chance, which make it one of edition 2.
+fn storing(rng: &mut Rng, mut task: Task) -> Task {
+    task.quota = Some(quota(rng));
+    let often = rng.between(1, 3);
+    task.ops.iter_mut().for_each(|op| op.stores = rng.chance(often, 4));
+    task
+}
+
 /// A valid task, with no idle operator; its goal is met after some steps, or empty, or anything.
 pub fn task(rng: &mut Rng, size: Size) -> Task {
+    let edition = rng.edition();
+    task_of(rng, size, edition)
+}
+
+pub fn task_of(rng: &mut Rng, size: Size, edition: usize) -> Task {
     let vars = rng.between(size.vars.0, size.vars.1);
     let dom: Vec<usize> = (0..vars).map(|_| rng.between(size.values.0, size.values.1)).collect();
     let far = rng.chance(1, 2);
@@ -155,8 +179,11 @@ pub fn task(rng: &mut Rng, size: Size) -> Task {
     let maps: Vec<_> = (0..rng.between(size.maps.0, size.maps.1)).map(|_| map(rng, &dom)).collect();
     let shares = split(rng, &ops, maps.len());
     let init = if far { vec![0; vars] } else { state(rng, &dom) };
-    let mut task = Task { goal: vec![None; vars], dom, init, ops, maps, shares };
+    let mut task = Task { goal: vec![None; vars], dom, init, quota: None, ops, maps, shares };
     task.goal = goal(rng, &task, if far { 40 } else { 8 });
+    if edition == 2 {
+        return storing(rng, task);
+    }
     task
 }
 
@@ -185,12 +212,12 @@ fn different(task: &Task, m: usize) -> usize {
     least.len()
 }
 
-/// Up to so many steps that may run, and the state after them; a step that moves is preferred.
+/// Up to so many steps that may run and keep the quota, and the state after them; a step that moves is preferred.
 pub fn walk(rng: &mut Rng, task: &Task, start: &State, steps: usize) -> (Vec<u32>, State) {
-    let mut state = start.clone();
+    let (mut state, mut stored) = (start.clone(), 0);
     let mut list = Vec::new();
     while list.len() < steps {
-        let able: Vec<usize> = (0..task.ops.len()).filter(|o| task.may_run(*o, &state)).collect();
+        let able: Vec<usize> = (0..task.ops.len()).filter(|o| task.may_run(*o, &state) && !task.is_past_quota(*o, stored)).collect();
         let moving: Vec<usize> = able.iter().copied().filter(|o| task.after(*o, &state) != state).collect();
         let choice = if moving.is_empty() || rng.chance(1, 8) { &able } else { &moving };
         if choice.is_empty() {
@@ -198,6 +225,7 @@ pub fn walk(rng: &mut Rng, task: &Task, start: &State, steps: usize) -> (Vec<u32
         }
         let o = rng.pick(choice);
         state = task.after(o, &state);
+        stored += usize::from(task.ops[o].stores);
         list.push(o as u32);
     }
     (list, state)
@@ -223,8 +251,13 @@ pub fn walk_to_goal(rng: &mut Rng, task: &Task, start: &State, steps: usize) -> 
 
 /// A task on which walks go on for ever, and whose goal is met on the way.
 pub fn lively_task(rng: &mut Rng, size: Size) -> Task {
+    let edition = rng.edition();
+    lively_task_of(rng, size, edition)
+}
+
+pub fn lively_task_of(rng: &mut Rng, size: Size, edition: usize) -> Task {
     loop {
-        let task = task(rng, size);
+        let task = task_of(rng, size, edition);
         let init = task.init.clone();
         let (list, end) = walk(rng, &task, &init, 40);
         let moves = end != init || list.iter().any(|o| task.after(*o as usize, &init) != init);

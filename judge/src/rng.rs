@@ -2,11 +2,23 @@
 
 pub struct Rng {
     state: u64,
+    /// tasks by chance are of either edition, and not of edition 1 alone
+    either_edition: bool,
 }
 
 impl Rng {
     pub fn new(seed: u64) -> Rng {
-        Rng { state: seed.wrapping_mul(0x9E37_79B9_7F4A_7C15).wrapping_add(0x1234_5678_9ABC_DEF1) }
+        Rng { state: seed.wrapping_mul(0x9E37_79B9_7F4A_7C15).wrapping_add(0x1234_5678_9ABC_DEF1), either_edition: false }
+    }
+
+    /// Two seeds of `new` give the same numbers, some draws apart; these are scattered.
+    pub fn of_either_edition(seed: u64) -> Rng {
+        Rng { state: Rng::new(seed).next(), either_edition: true }
+    }
+
+    /// The edition of the next task. Where it can only be 1 no number is drawn for it.
+    pub fn edition(&mut self) -> usize {
+        1 + usize::from(self.either_edition && self.chance(1, 2))
     }
 
     fn next(&mut self) -> u64 {

@@ -9,6 +9,7 @@ use crate::random::*;
 use crate::rng::Rng;
 use crate::row::Record;
 use crate::script::*;
+use crate::tables::{counts_of, Counts};
 use crate::task::{Op, Task};
 use crate::text::read_text;
 
@@ -16,12 +17,11 @@ use crate::text::read_text;
 const BY_CHANCE: usize = 24;
 
 /// An operator that says nothing.
-const EMPTY: Record = Record { cost: 0, pre: [0; VARS], eff: [0; VARS] };
+const EMPTY: Record = Record { cost: 0, pre: [0; VARS], eff: [0; VARS], mark: 0 };
 
 /// A task with its operators in the row alone: where they would stand in the tables is rubbish, and the count says none.
 pub fn row_alone(title: &str, task: &Task) -> Vector {
-    let (vars, maps) = (task.dom.len(), task.maps.len());
-    let dirty = Vector::new(title).lines("e 0 201; e 1 4000000000").lines(&format!("n {} 0 {}", vars, maps));
+    let dirty = Vector::new(title).lines("e 0 201; e 1 4000000000").counts(Counts { ops: 0, ..counts_of(task) });
     dirty.by_hand(task, 0..ROW_PRE).row(&row_of(task))
 }
 
@@ -128,10 +128,17 @@ fn records_at_the_edge() -> Vec<Vector> {
 
 /// One operator with a precondition and an effect on each of the most variables, and what its last places say.
 fn eight_variables() -> Vector {
-    let op = Op { cost: 3, pre: vec![Some(0); VARS], eff: vec![Some(1); VARS] };
+    let op = Op::new(3, vec![Some(0); VARS], vec![Some(1); VARS]);
     let map = vec![vec![0, 0]; VARS];
-    let task =
-        Task { dom: vec![2; VARS], init: vec![0; VARS], goal: vec![Some(1); VARS], ops: vec![op], maps: vec![map], shares: vec![vec![3]] };
+    let task = Task {
+        dom: vec![2; VARS],
+        init: vec![0; VARS],
+        goal: vec![Some(1); VARS],
+        quota: None,
+        ops: vec![op],
+        maps: vec![map],
+        shares: vec![vec![3]],
+    };
     row_alone("a record with facts on eight variables", &task)
         .lend(FIRST, &[0])
         .lines("W; s 13 8 2; W; s 13 8 1; s 13 16 1; W; s 13 16 3; W")
@@ -155,7 +162,7 @@ pub fn row_of_a_task(rng: &mut Rng) -> Vector {
     if rng.chance(1, 2) {
         let any = rng.word();
         let ops = rng.pick(&[0, 1, 65, any]);
-        vector = vector.lines(&format!("n {} {} {}; l 1 {}", task.dom.len(), ops, task.maps.len(), rng.below(81)));
+        vector = vector.counts(Counts { ops, ..counts_of(&task) }).lines(&format!("l 1 {}", rng.below(81)));
     }
     for _ in 0..6 {
         let list = some_list(rng, &task, &task.init);
@@ -171,6 +178,10 @@ fn some_record(rng: &mut Rng, task: &Task, row: &[Record]) -> (usize, Record) {
     let value = if rng.chance(3, 4) { rng.below(10) as u8 } else { rng.below(256) as u8 };
     let mut record = row[o];
     let vars = task.dom.len();
+    if task.quota.is_some() && rng.chance(1, 5) {
+        record.mark = rng.pick(&[1 - record.mark, 2, value]);
+        return (o, record);
+    }
     match rng.below(6) {
         0 | 1 => record.pre[v] = value,
         2 | 3 => record.eff[v] = value,

@@ -1,6 +1,6 @@
 //! The run and its ledger.
 
-use crate::limits::{MAPS, STEPS, VARS};
+use crate::limits::{COLUMNS, STEPS, STORED, UNSHARED, VARS};
 use crate::task::{refuse, Fault, State, Task};
 
 #[derive(Clone, Debug, PartialEq, Eq)]
@@ -9,8 +9,8 @@ pub struct Run {
     pub log: [u32; STEPS],
     pub len: u32,
     pub now: [u8; VARS],
-    /// one paid column a map, and at the last place the unshared one
-    pub columns: [u32; MAPS + 1],
+    /// one paid column a map, then the unshared one, then the number of stored tests
+    pub columns: [u32; COLUMNS],
 }
 
 #[derive(Clone, Copy, Debug, PartialEq, Eq)]
@@ -22,7 +22,7 @@ pub enum Offered {
 
 impl Run {
     pub const fn zeros() -> Run {
-        Run { start: [0; VARS], log: [0; STEPS], len: 0, now: [0; VARS], columns: [0; MAPS + 1] }
+        Run { start: [0; VARS], log: [0; STEPS], len: 0, now: [0; VARS], columns: [0; COLUMNS] }
     }
 
     pub fn fresh(start: &State) -> Run {
@@ -38,7 +38,12 @@ impl Run {
         self.now[..task.dom.len()].iter().map(|value| *value as usize).collect()
     }
 
-    /// The run after one more step, which exists, may run and has room.
+    /// The operator would store a test beyond the quota.
+    fn is_past_quota(&self, task: &Task, o: usize) -> bool {
+        task.is_past_quota(o, self.columns[STORED] as usize)
+    }
+
+    /// The run after one more step, which exists, may run, keeps the quota and has room.
     pub fn with(&self, task: &Task, o: usize) -> Run {
         let mut run = self.clone();
         for (v, value) in task.after(o, &self.state(task)).iter().enumerate() {
@@ -49,7 +54,8 @@ impl Run {
         for (m, row) in task.shares.iter().enumerate() {
             run.columns[m] += row[o] as u32;
         }
-        run.columns[MAPS] += task.unshared(o) as u32;
+        run.columns[UNSHARED] += task.unshared(o) as u32;
+        run.columns[STORED] += u32::from(task.ops[o].stores);
         run
     }
 
@@ -62,7 +68,7 @@ impl Run {
         let mut run = Run::fresh(&start);
         for op in &self.log[..self.len as usize] {
             let o = *op as usize;
-            if o >= task.ops.len() || !task.may_run(o, &run.state(task)) {
+            if o >= task.ops.len() || !task.may_run(o, &run.state(task)) || run.is_past_quota(task, o) {
                 return None;
             }
             run = run.with(task, o);
@@ -99,6 +105,9 @@ impl Run {
         }
         if !task.may_run(op as usize, &self.state(task)) {
             return refuse(12, place);
+        }
+        if self.is_past_quota(task, op as usize) {
+            return refuse(19, place);
         }
         Ok(true)
     }

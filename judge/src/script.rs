@@ -31,15 +31,19 @@ pub const NOW: u32 = 10;
 pub const COLUMN: u32 = 11;
 pub const RECORDS: u32 = 13;
 pub const BUFFER: u32 = 14;
+pub const MARK: u32 = 18;
 
 /// The places of a record: its cost, and a place a variable for its preconditions and for its effects.
 pub const RECORD: usize = 1 + 2 * VARS;
 /// The room of the row, in records: more than there may be operators.
 pub const ROW_ROOM: usize = 80;
 
-/// The arrays by number: name, places, places lent after a reset, greatest value. There is no array 12. Of a record only
-/// the cost goes so far; the others of its places are bytes.
-pub const ARRAYS: [(&str, usize, usize, u32); 15] = [
+/// An array that isn't there.
+const NO_ARRAY: (&str, usize, usize, u32) = ("", 0, 0, 0);
+
+/// The arrays by number: name, places, places lent after a reset, greatest value. Of a record only the cost goes so far; the
+/// others of its places are bytes. The marks are lent with the records.
+pub const ARRAYS: [(&str, usize, usize, u32); 19] = [
     ("facts", 1_700, FACTS_ROOM, 255),
     ("costs", 80, COSTS_ROOM, u32::MAX),
     ("shares", 600, SHARES_ROOM, u32::MAX),
@@ -51,10 +55,14 @@ pub const ARRAYS: [(&str, usize, usize, u32); 15] = [
     ("log", STEPS, STEPS, u32::MAX),
     ("len", 1, 1, u32::MAX),
     ("now", VARS, VARS, 255),
-    ("column", MAPS + 1, MAPS + 1, u32::MAX),
-    ("", 0, 0, 0),
+    ("column", COLUMNS, COLUMNS, u32::MAX),
+    NO_ARRAY,
     ("records", RECORD * ROW_ROOM, 0, u32::MAX),
     ("buffer", TEXT_ROOM, BUFFER_ROOM, 255),
+    NO_ARRAY,
+    NO_ARRAY,
+    NO_ARRAY,
+    ("mark", ROW_ROOM, 0, 255),
 ];
 
 /// The greatest value that a place can hold.
@@ -109,7 +117,8 @@ pub fn expect(script: &[u8]) -> Vec<u8> {
 
 impl Bench {
     pub fn new() -> Bench {
-        let mut bench = Bench { arrays: Vec::new(), lent: Vec::new(), text: Vec::new(), counts: Counts::default(), printed: Vec::new() };
+        let counts = Counts::of_edition_1(0, 0, 0);
+        let mut bench = Bench { arrays: Vec::new(), lent: Vec::new(), text: Vec::new(), counts, printed: Vec::new() };
         bench.reset();
         bench
     }
@@ -118,7 +127,7 @@ impl Bench {
         self.arrays = ARRAYS.iter().map(|(_, places, _, _)| vec![0; *places]).collect();
         self.lent = ARRAYS.iter().map(|(_, _, lent, _)| *lent).collect();
         self.text = Vec::new();
-        self.counts = Counts::default();
+        self.counts = Counts::of_edition_1(0, 0, 0);
     }
 
     fn print(&mut self, line: &str) {
@@ -155,7 +164,10 @@ impl Bench {
     fn set(&mut self, letter: u8, numbers: &[u32]) -> bool {
         match (letter, numbers) {
             (b'z', []) => self.reset(),
-            (b'n', [vars, ops, maps]) => self.counts = Counts { vars: *vars, ops: *ops, maps: *maps },
+            (b'n', [vars, ops, maps]) => self.counts = Counts::of_edition_1(*vars, *ops, *maps),
+            (b'n', [vars, ops, maps, edition, quota]) => {
+                self.counts = Counts { vars: *vars, ops: *ops, maps: *maps, edition: *edition, quota: *quota };
+            }
             (b'l', [k, length]) => self.lend(*k as usize, *length as usize),
             (b's', [k, place, values @ ..]) if !values.is_empty() => self.write(*k as usize, *place as usize, values),
             (b'e', [k, value]) => {
@@ -165,10 +177,7 @@ impl Bench {
             (b'p', [k, place]) => self.show(*k as usize, *place as usize),
             (b'b', []) => self.put_bytes(BUFFER, &self.text.clone()),
             (b'u', [length]) => self.take_copy(*length as usize),
-            (b'q', []) => {
-                let Counts { vars, ops, maps } = self.counts;
-                self.print(&format!("counts {} {} {}", vars, ops, maps));
-            }
+            (b'q', []) => self.print(&format!("counts {}", self.counts)),
             _ => return false,
         }
         true
@@ -219,13 +228,19 @@ impl Bench {
         &self.arrays[k as usize][..self.lent[k as usize]]
     }
 
-    /// The records lent of the row.
+    /// The records lent of the row, each with its mark.
     fn row(&self) -> Vec<Record> {
         let places = &self.arrays[RECORDS as usize][..RECORD * self.lent[RECORDS as usize]];
+        let marks = &self.arrays[MARK as usize];
         let byte = |place: &u32| *place as u8;
         let facts = |places: &[u32]| -> [u8; VARS] { places.iter().map(byte).collect::<Vec<u8>>().try_into().unwrap() };
-        let record = |record: &[u32]| Record { cost: record[0], pre: facts(&record[1..1 + VARS]), eff: facts(&record[1 + VARS..]) };
-        places.chunks(RECORD).map(record).collect()
+        let record = |(record, mark): (&[u32], &u32)| Record {
+            cost: record[0],
+            pre: facts(&record[1..1 + VARS]),
+            eff: facts(&record[1 + VARS..]),
+            mark: byte(mark),
+        };
+        places.chunks(RECORD).zip(marks).map(record).collect()
     }
 
     fn put(&mut self, k: u32, values: &[u32]) {

@@ -3,13 +3,13 @@
 use crate::limits::STEPS;
 use crate::task::{refuse, Fault, State, Task};
 
-/// The cost of a sequence that may run step by step and ends at a goal.
+/// The cost of a sequence that may run step by step, keeps the quota and ends at a goal.
 pub fn judge(task: &Task, start: &State, list: &[u32]) -> Result<u64, Fault> {
     if list.len() > STEPS {
         return refuse(11, 0);
     }
     let mut state = start.clone();
-    let mut cost = 0;
+    let (mut cost, mut stored) = (0, 0);
     for (i, op) in list.iter().enumerate() {
         let o = *op as usize;
         if o >= task.ops.len() {
@@ -18,8 +18,12 @@ pub fn judge(task: &Task, start: &State, list: &[u32]) -> Result<u64, Fault> {
         if !task.may_run(o, &state) {
             return refuse(12, i + 1);
         }
+        if task.is_past_quota(o, stored) {
+            return refuse(19, i + 1);
+        }
         state = task.after(o, &state);
         cost += task.ops[o].cost;
+        stored += usize::from(task.ops[o].stores);
     }
     if !task.at_goal(&state) {
         return refuse(16, list.len());
@@ -34,17 +38,18 @@ pub fn opening(task: &Task, start: &State, list: &[u32]) -> Option<(usize, u64)>
         return None;
     }
     let mut state = start.clone();
-    let mut cost = 0;
+    let (mut cost, mut stored) = (0, 0);
     for (i, op) in list.iter().enumerate() {
         if task.at_goal(&state) {
             return Some((i, cost));
         }
         let o = *op as usize;
-        if o >= task.ops.len() || !task.may_run(o, &state) {
+        if o >= task.ops.len() || !task.may_run(o, &state) || task.is_past_quota(o, stored) {
             return None;
         }
         state = task.after(o, &state);
         cost += task.ops[o].cost;
+        stored += usize::from(task.ops[o].stores);
     }
     task.at_goal(&state).then_some((list.len(), cost))
 }

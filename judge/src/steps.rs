@@ -15,21 +15,22 @@ use crate::task::{Op, Task};
 const BY_CHANCE: usize = 8;
 
 /// The operators of the shuttle.
-const THERE: u32 = 0;
-const BACK: u32 = 1;
-const HOME: u32 = 2;
-const THERE_UNPAID: u32 = 3;
+pub const THERE: u32 = 0;
+pub const BACK: u32 = 1;
+pub const HOME: u32 = 2;
+pub const THERE_UNPAID: u32 = 3;
 const BACK_UNPAID: u32 = 4;
-const THERE_CHEAPLY: u32 = 5;
+pub const THERE_CHEAPLY: u32 = 5;
 
 /// There and back between two values, and home from any, each at the highest cost and paid by one map; there and back at the
 /// same cost, paid by none; and there for 1, paid by the other map. The goal is to be home.
-fn shuttle() -> Task {
-    let op = |cost, from, to| Op { cost, pre: vec![from], eff: vec![Some(to)] };
+pub fn shuttle() -> Task {
+    let op = |cost, from, to| Op::new(cost, vec![from], vec![Some(to)]);
     Task {
         dom: vec![3],
         init: vec![0],
         goal: vec![Some(2)],
+        quota: None,
         ops: vec![
             op(COST, Some(0), 1),
             op(COST, Some(1), 0),
@@ -43,12 +44,12 @@ fn shuttle() -> Task {
     }
 }
 
-fn by_turns(first: u32, second: u32, length: usize) -> Vec<u32> {
+pub fn by_turns(first: u32, second: u32, length: usize) -> Vec<u32> {
     (0..length).map(|i| if i % 2 == 0 { first } else { second }).collect()
 }
 
 /// So many steps, of which the last is the first that reaches the goal.
-fn to_home(length: usize) -> Vec<u32> {
+pub fn to_home(length: usize) -> Vec<u32> {
     let mut list = by_turns(THERE, BACK, length);
     list[length - 1] = HOME;
     list

@@ -21,7 +21,8 @@ pub fn switches(count: usize, stuck: &[usize]) -> Task {
         dom: vec![2; count],
         init: vec![0; count],
         goal: vec![Some(1); count],
-        ops: moved.iter().map(|v| Op { cost: price(*v), pre: only(*v, 0), eff: only(*v, 1) }).collect(),
+        quota: None,
+        ops: moved.iter().map(|v| Op::new(price(*v), only(*v, 0), only(*v, 1))).collect(),
         maps: (0..count).map(|m| (0..count).map(|v| if v == m { vec![0, 1] } else { vec![0, 0] }).collect()).collect(),
         shares: (0..count).map(|m| moved.iter().map(|v| if *v == m { price(m) } else { 0 }).collect()).collect(),
     }

@@ -3,12 +3,33 @@
 use crate::limits::*;
 use crate::task::{refuse, Facts, Fault, Task};
 use crate::text::read_any_length;
+use std::fmt;
 
-#[derive(Clone, Copy, Debug, Default, PartialEq, Eq)]
+#[derive(Clone, Copy, Debug, PartialEq, Eq)]
 pub struct Counts {
     pub vars: u32,
     pub ops: u32,
     pub maps: u32,
+    pub edition: u32,
+    pub quota: u32,
+}
+
+impl Counts {
+    /// The counts of a task of edition 1, whose quota isn't read.
+    pub fn of_edition_1(vars: u32, ops: u32, maps: u32) -> Counts {
+        Counts { vars, ops, maps, edition: 1, quota: 0 }
+    }
+}
+
+/// As the script has them: edition and quota are told unless they are those of edition 1.
+impl fmt::Display for Counts {
+    fn fmt(&self, f: &mut fmt::Formatter) -> fmt::Result {
+        write!(f, "{} {} {}", self.vars, self.ops, self.maps)?;
+        if (self.edition, self.quota) != (1, 0) {
+            write!(f, " {} {}", self.edition, self.quota)?;
+        }
+        Ok(())
+    }
 }
 
 /// The tables as an entry is lent them.
@@ -21,7 +42,13 @@ pub struct Lent<'a> {
 }
 
 pub fn counts_of(task: &Task) -> Counts {
-    Counts { vars: task.dom.len() as u32, ops: task.ops.len() as u32, maps: task.maps.len() as u32 }
+    Counts {
+        vars: task.dom.len() as u32,
+        ops: task.ops.len() as u32,
+        maps: task.maps.len() as u32,
+        edition: task.edition() as u32,
+        quota: task.quota.unwrap_or(0) as u32,
+    }
 }
 
 pub fn room_for_tables(facts: usize, costs: usize, shares: usize) -> Result<(), Fault> {
@@ -44,6 +71,7 @@ pub fn write_tables(task: &Task, facts: &mut [u8], costs: &mut [u32], shares: &m
     for (o, op) in task.ops.iter().enumerate() {
         write_facts(&op.pre, &mut facts[ROW * (ROW_PRE + o)..]);
         write_facts(&op.eff, &mut facts[ROW * (ROW_EFF + o)..]);
+        facts[ROW * ROW_MARK + o] = u8::from(op.stores);
         costs[o] = op.cost as u32;
     }
     for (m, map) in task.maps.iter().enumerate() {
@@ -71,21 +99,26 @@ pub fn read_tables(lent: Lent) -> Result<Task, Fault> {
     read_any_length(&text_of(lent))
 }
 
-/// The text that the tables spell. A count above its limit is a fault on its own line, so that
-/// the text need not be right after it, and the walks stop at the limit.
+/// The text that the tables spell. A count above its limit is a fault on its own line, and so is an
+/// edition that there isn't, so that the text need not be right after it, and the walks stop at the limit.
 pub fn text_of(lent: Lent) -> Vec<u8> {
     let vars = (lent.counts.vars as usize).min(VARS);
     let ops = (lent.counts.ops as usize).min(OPS);
     let maps = (lent.counts.maps as usize).min(MAPS);
     let row = |r: usize| &lent.facts[ROW * r..ROW * r + vars];
-    let mut text = format!("edition=1\nvars={}\n", lent.counts.vars);
+    let marked = lent.counts.edition == 2;
+    let mut text = format!("edition={}\nvars={}\n", lent.counts.edition, lent.counts.vars);
     text += &format!("dom={}\n", listed(row(ROW_DOM)));
     text += &format!("init={}\n", listed(row(ROW_INIT)));
     text += &format!("goal={}\n", facts_text(row(ROW_GOAL)));
+    if marked {
+        text += &format!("quota={}\n", lent.counts.quota);
+    }
     text += &format!("ops={}\n", lent.counts.ops);
     for o in 0..ops {
         let (pre, eff) = (facts_text(row(ROW_PRE + o)), facts_text(row(ROW_EFF + o)));
-        text += &format!("op={};{};{}\n", lent.costs[o], pre, eff);
+        let mark = if marked { format!(";{}", lent.facts[ROW * ROW_MARK + o]) } else { String::new() };
+        text += &format!("op={};{};{}{}\n", lent.costs[o], pre, eff, mark);
     }
     text += &format!("maps={}\n", lent.counts.maps);
     for m in 0..maps {

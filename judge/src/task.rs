@@ -21,9 +21,16 @@ pub struct Op {
     pub cost: u64,
     pub pre: Facts,
     pub eff: Facts,
+    /// It stores a test; none of a task of edition 1 does.
+    pub stores: bool,
 }
 
 impl Op {
+    /// An operator that stores no test.
+    pub fn new(cost: u64, pre: Facts, eff: Facts) -> Op {
+        Op { cost, pre, eff, stores: false }
+    }
+
     /// It has no effects, or each of them stands among its preconditions.
     pub fn is_idle(&self) -> bool {
         self.eff.iter().zip(&self.pre).all(|(effect, asked)| effect.is_none() || effect == asked)
@@ -36,6 +43,8 @@ pub struct Task {
     pub dom: Vec<usize>,
     pub init: State,
     pub goal: Facts,
+    /// in edition 2 how many tests may be stored; edition 1 has no quota
+    pub quota: Option<usize>,
     pub ops: Vec<Op>,
     /// the class of value k of variable v in map m is `maps[m][v][k]`
     pub maps: Vec<Vec<Vec<usize>>>,
@@ -63,14 +72,23 @@ impl Task {
         complies(&self.goal, state)
     }
 
+    pub fn edition(&self) -> usize {
+        1 + usize::from(self.quota.is_some())
+    }
+
+    /// The operator would store a test, and as many as the quota are stored already.
+    pub fn is_past_quota(&self, o: usize, stored: usize) -> bool {
+        self.ops[o].stores && self.quota.map_or(false, |quota| stored >= quota)
+    }
+
     /// What no map pays of the operator.
     pub fn unshared(&self, o: usize) -> u64 {
         let paid: u64 = self.shares.iter().map(|row| row[o]).sum();
         self.ops[o].cost - paid
     }
 
-    /// The line of operator o in the task's text.
-    pub fn line_of_op(o: usize) -> usize {
-        7 + o
+    /// The line of operator o in the task's text; one higher where a quota stands before.
+    pub fn line_of_op(&self, o: usize) -> usize {
+        6 + self.edition() + o
     }
 }

@@ -1,13 +1,12 @@
 //! The cases of the bench, and what must hold for any task.
 
-use crate::builder::{row_of, tables_of, text_of_task, Tables};
+use crate::builder::{tables_of, text_of_task, Tables};
 use crate::cases::{a_with, c, d, f, row_of_ops, A, E};
 use crate::desk;
 use crate::edges::{counters, run_of};
 use crate::limits::*;
 use crate::random::{self, Size};
 use crate::rng::Rng;
-use crate::row::Record;
 use crate::run::Offered;
 use crate::script::expect;
 use crate::space::{self, distances, view_by_classes, view_by_states};
@@ -103,8 +102,8 @@ fn a_full_run_at_the_highest_cost() {
     let whole = Task { shares: vec![vec![COST]], ..task.clone() };
     let list = [0; 1024];
     let (unpaid, paid) = (run_of(&task, &list), run_of(&whole, &list));
-    assert_eq!((unpaid.columns[0], unpaid.columns[MAPS]), (0, 1_024_000_000));
-    assert_eq!((paid.columns[0], paid.columns[MAPS]), (1_024_000_000, 0));
+    assert_eq!((unpaid.columns[0], unpaid.columns[UNSHARED]), (0, 1_024_000_000));
+    assert_eq!((paid.columns[0], paid.columns[UNSHARED]), (1_024_000_000, 0));
     assert_eq!(paid.offer(&whole, 1024, 0), (paid.clone(), Offered::Repeated));
     assert_eq!(paid.offer(&whole, 1025, 0), (paid.clone(), Offered::Refused(fault(15, 1025))));
 }
@@ -164,8 +163,8 @@ fn the_largest_task_has_a_text() {
     assert_eq!(read_text(&text_of_task(&task)), Ok(task));
 }
 
-fn some_tasks(seed: u64, count: usize, sizes: &[Size]) -> Vec<Task> {
-    let mut rng = Rng::new(seed);
+pub fn some_tasks(seed: u64, count: usize, sizes: &[Size]) -> Vec<Task> {
+    let mut rng = Rng::of_either_edition(seed);
     (0..count).map(|i| random::task(&mut rng, sizes[i % sizes.len()])).collect()
 }
 
@@ -180,14 +179,14 @@ fn views_by_states_and_by_classes_agree() {
 
 #[test]
 fn no_sequence_costs_less_than_the_bound() {
-    let mut rng = Rng::new(3);
+    let mut rng = Rng::of_either_edition(3);
     for _ in 0..50 {
         let task = random::lively_task(&mut rng, random::SMALL);
         if let Some(list) = random::walk_to_goal(&mut rng, &task, &task.init, 40) {
             let cost: u64 = list.iter().map(|o| task.ops[*o as usize].cost).sum();
             assert!(space::bound(&task, &task.init).unwrap() <= cost);
             let run = run_of(&task, &list);
-            assert_eq!(run.columns.iter().map(|column| u64::from(*column)).sum::<u64>(), cost);
+            assert_eq!(run.columns[..STORED].iter().map(|column| u64::from(*column)).sum::<u64>(), cost);
         }
     }
 }
@@ -224,27 +223,37 @@ fn scanned(counts: Counts, tables: &Tables) -> Result<(), Fault> {
     let place = |row: usize, v: usize| tables.facts[ROW * row + v] as usize;
     let facts_within = |row: usize| (0..vars).all(|v| place(row, v) <= place(ROW_DOM, v));
     let within = |ok: bool, line: usize| if ok { Ok(()) } else { refuse(3, line) };
+    within([1, 2].contains(&counts.edition), 1)?;
     within((1..=VARS).contains(&vars), 2)?;
     within((0..vars).all(|v| (1..=VALUES).contains(&place(ROW_DOM, v))), 3)?;
     within((0..vars).all(|v| place(ROW_INIT, v) < place(ROW_DOM, v)), 4)?;
     within(facts_within(ROW_GOAL), 5)?;
-    within(ops <= OPS, 6)?;
+    let (quota_within, mark_within): (bool, &dyn Fn(usize) -> bool) = match counts.edition {
+        1 => (true, &|_| true),
+        _ => (counts.quota <= 1_024, &|o| tables.facts[1_560 + o] <= 1),
+    };
+    within(quota_within, 6)?;
+    // the line of the number of operators, and of the first of them
+    let (line, first) = if counts.edition == 1 { (6, 7) } else { (7, 8) };
+    within(ops <= OPS, line)?;
     let idle = |o: usize| (0..vars).all(|v| [0, place(ROW_PRE + o, v)].contains(&place(ROW_EFF + o, v)));
     for o in 0..ops {
-        within(tables.costs[o] <= 1_000_000 && facts_within(ROW_PRE + o) && facts_within(ROW_EFF + o), 7 + o)?;
+        within(tables.costs[o] <= 1_000_000 && facts_within(ROW_PRE + o) && facts_within(ROW_EFF + o), first + o)?;
+        within(mark_within(o), first + o)?;
         if idle(o) {
-            return refuse(18, 7 + o);
+            return refuse(18, first + o);
         }
     }
-    within((1..=MAPS).contains(&maps), 7 + ops)?;
+    let behind = first + ops;
+    within((1..=MAPS).contains(&maps), behind)?;
     for m in 0..maps {
-        scanned_map(&|v, value| place(ROW_MAP + MAPS * m + v, value), &|v| place(ROW_DOM, v), vars, 8 + ops + m)?;
+        scanned_map(&|v, value| place(ROW_MAP + MAPS * m + v, value), &|v| place(ROW_DOM, v), vars, behind + 1 + m)?;
     }
     for m in 0..maps {
-        within((0..ops).all(|o| tables.shares[OPS * m + o] <= 1_000_000), 8 + ops + maps + m)?;
+        within((0..ops).all(|o| tables.shares[OPS * m + o] <= 1_000_000), behind + 1 + maps + m)?;
     }
     let overpaid = |o: &usize| (0..maps).map(|m| tables.shares[OPS * m + *o]).sum::<u32>() > tables.costs[*o];
-    (0..ops).find(overpaid).map_or(Ok(()), |o| refuse(6, 7 + o))
+    (0..ops).find(overpaid).map_or(Ok(()), |o| refuse(6, first + o))
 }
 
 fn scanned_map(class: &dyn Fn(usize, usize) -> usize, values: &dyn Fn(usize) -> usize, vars: usize, line: usize) -> Result<(), Fault> {
@@ -269,7 +278,7 @@ fn scanned_map(class: &dyn Fn(usize, usize) -> usize, values: &dyn Fn(usize) -> 
 }
 
 /// The operator's effects become what its preconditions are.
-fn repeat_preconditions(tables: &mut Tables, o: usize) {
+pub fn repeat_preconditions(tables: &mut Tables, o: usize) {
     let asked = ROW * (ROW_PRE + o);
     tables.facts.copy_within(asked..asked + ROW, ROW * (ROW_EFF + o));
 }
@@ -277,96 +286,39 @@ fn repeat_preconditions(tables: &mut Tables, o: usize) {
 #[test]
 fn tables_are_judged_as_their_text_is() {
     let mut rng = Rng::new(4);
-    let mut idle = 0;
-    for task in some_tasks(4, 2_000, &[random::TINY, random::SMALL, random::MEDIUM, random::LARGE]) {
+    let (mut idle, mut marks) = (0, 0);
+    for task in some_tasks(4, 4_000, &[random::TINY, random::SMALL, random::MEDIUM, random::LARGE]) {
         let mut tables = tables_of(&task);
         let mut counts = counts_of(&task);
         for _ in 0..rng.between(0, 3) {
             let (place, o) = (rng.below(FACTS_ROOM), rng.below(SHARES_ROOM));
-            match rng.below(9) {
+            match rng.below(12) {
                 0 => counts.vars = rng.below(10) as u32,
                 1 => counts.ops = rng.below(66) as u32,
                 2 => counts.maps = rng.below(10) as u32,
                 3 => tables.costs[o % OPS] = rng.below(1_000_002) as u32,
                 4 => tables.shares[o] = rng.below(1_000_002) as u32,
                 5 => repeat_preconditions(&mut tables, o % task.ops.len().max(1)),
+                6 => counts.edition = rng.below(4) as u32,
+                7 => counts.quota = rng.between(1_023, 1_026) as u32,
+                8 => tables.facts[ROW * ROW_MARK + o % task.ops.len().max(1)] = rng.below(4) as u8,
                 _ => tables.facts[place] = rng.below(9) as u8,
             }
         }
+        marks += usize::from(counts.edition == 2 && scanned(counts, &tables).is_err() && scanned(counts, &unmarked(&tables)).is_ok());
         let lent = Lent { counts, facts: &tables.facts, costs: &tables.costs, shares: &tables.shares };
         let scanned = scanned(counts, &tables);
         assert_eq!(read_tables(lent).map(|_| ()), scanned);
         idle += usize::from(matches!(scanned, Err(Fault { number: 18, .. })));
     }
-    assert!(idle > 200, "{}", idle);
+    assert!(idle > 200 && marks > 50, "{} and {}", idle, marks);
 }
 
-fn bytes(state: &[usize]) -> Vec<u8> {
-    state.iter().map(|value| *value as u8).collect()
-}
-
-/// What is answered for a row, with rubbish where the operators would stand in the tables, and no costs.
-fn by_row(task: &Task, row: &[Record], list: &[u32]) -> desk::Answer {
-    let mut tables = tables_of(task);
-    tables.facts[ROW * ROW_PRE..ROW * ROW_MAP].fill(201);
-    let counts = Counts { ops: 77, ..counts_of(task) };
-    desk::judge_row(Lent { counts, facts: &tables.facts, costs: &[], shares: &tables.shares }, row, &bytes(&task.init), list)
-}
-
-#[test]
-fn case_a_as_a_row() {
-    let task = read(A);
-    let said = |list: &[u32]| by_row(&task, &row_of(&task), list).to_string();
-    assert_eq!(said(&[0, 1, 2, 3]), "passed 4");
-    assert_eq!(said(&[0, 2]), "refused 12 2");
-    assert_eq!(said(&[0]), "refused 16 1");
-    assert_eq!(said(&[]), "refused 16 0");
-}
-
-#[test]
-fn a_row_has_the_length_that_it_has() {
-    let task = row_of_ops(&[7; 64]);
-    let row = row_of(&task);
-    let said = |row: &[Record], op: u32| by_row(&task, row, &[op]).to_string();
-    assert_eq!(said(&row, 63), "passed 7");
-    assert_eq!(said(&row[..63], 63), "refused 10 1");
-    assert_eq!(said(&[], 0), "refused 10 1");
-    assert_eq!(said(&[&row[..], &row[..1]].concat(), 63), "refused 3 6");
-    let tables = tables_of(&task);
-    let short = Lent { counts: counts_of(&task), facts: &tables.facts[1..], costs: &tables.costs, shares: &tables.shares };
-    assert_eq!(desk::judge_row(short, &row, &[0], &[0]).to_string(), "refused 8 0");
-}
-
-/// A row and tables with the same things changed in both.
-#[test]
-fn a_row_is_judged_as_its_tables_are() {
-    let mut rng = Rng::new(7);
-    let mut idle = 0;
-    for task in some_tasks(7, 1_000, &[random::TINY, random::SMALL, random::MEDIUM, random::LARGE]) {
-        let (mut row, mut tables) = (row_of(&task), tables_of(&task));
-        let changes = if row.is_empty() { 0 } else { rng.between(0, 2) };
-        for _ in 0..changes {
-            let (o, v, value) = (rng.below(row.len()), rng.below(VARS), rng.below(9) as u8);
-            match rng.below(4) {
-                0 => (row[o].pre[v], tables.facts[ROW * (ROW_PRE + o) + v]) = (value, value),
-                1 => (row[o].eff[v], tables.facts[ROW * (ROW_EFF + o) + v]) = (value, value),
-                2 => {
-                    row[o].eff = row[o].pre;
-                    repeat_preconditions(&mut tables, o);
-                }
-                _ => {
-                    let cost = rng.below(1_000_002) as u32;
-                    (row[o].cost, tables.costs[o]) = (cost, cost);
-                }
-            }
-        }
-        let (list, _) = random::walk(&mut rng, &task, &task.init, 9);
-        let lent = Lent { counts: counts_of(&task), facts: &tables.facts, costs: &tables.costs, shares: &tables.shares };
-        let judged = desk::judge(lent, &bytes(&task.init), &list);
-        assert_eq!(by_row(&task, &row, &list), judged);
-        idle += usize::from(matches!(judged, desk::Answer::Refused(Fault { number: 18, .. })));
-    }
-    assert!(idle > 100, "{}", idle);
+/// The same tables with marks of 0.
+fn unmarked(tables: &Tables) -> Tables {
+    let mut facts = tables.facts.clone();
+    facts[ROW * ROW_MARK..].fill(0);
+    Tables { facts, costs: tables.costs.clone(), shares: tables.shares.clone() }
 }
 
 #[test]

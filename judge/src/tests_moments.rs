@@ -11,7 +11,7 @@ use crate::text::read_text;
 
 /// Runs by chance of tasks of several sizes; one in four is chosen among some for what the maps say on it.
 fn some_watches(seed: u64, count: usize) -> Vec<Watch> {
-    let mut rng = Rng::new(seed);
+    let mut rng = Rng::of_either_edition(seed);
     let of_size = |rng: &mut Rng, size: Size| {
         let task = task(rng, size);
         Watch::by_chance(rng, &task)

@@ -5,6 +5,7 @@ use crate::cases::{a_with, row_of_ops, A, E};
 use crate::damages::{damaged, renumbered, some_places};
 use crate::desk::{self, Answer};
 use crate::limits::*;
+use crate::quota_texts::all_storing;
 use crate::random::{task, FULL, LARGE, MEDIUM, SMALL, TINY};
 use crate::rng::Rng;
 use crate::round_trips::with_round_trips;
@@ -27,7 +28,7 @@ fn read(text: &[u8]) -> Task {
 }
 
 fn some_tasks(seed: u64, count: usize) -> Vec<Task> {
-    let mut rng = Rng::new(seed);
+    let mut rng = Rng::of_either_edition(seed);
     (0..count).map(|i| task(&mut rng, [TINY, SMALL, MEDIUM, LARGE, FULL][i % 5])).collect()
 }
 
@@ -48,11 +49,12 @@ fn refusal(number: u32, place: u32) -> Answer {
 
 #[test]
 fn case_a_by_hand() {
-    let op = |pre: [Option<usize>; 3], eff: [Option<usize>; 3]| Op { cost: 1, pre: pre.to_vec(), eff: eff.to_vec() };
+    let op = |pre: [Option<usize>; 3], eff: [Option<usize>; 3]| Op::new(1, pre.to_vec(), eff.to_vec());
     let task = Task {
         dom: vec![2, 3, 3],
         init: vec![0, 0, 0],
         goal: vec![Some(1), Some(2), Some(2)],
+        quota: None,
         ops: vec![
             op([Some(0), None, None], [Some(1), None, None]),
             op([None, Some(0), Some(0)], [None, Some(1), Some(1)]),
@@ -71,8 +73,9 @@ fn case_a_by_hand() {
 
 #[test]
 fn empty_lists_are_dashes() {
-    let op = Op { cost: 0, pre: vec![None], eff: vec![Some(0)] };
-    let bare = Task { dom: vec![1], init: vec![0], goal: vec![None], ops: vec![], maps: vec![vec![vec![0]]], shares: vec![vec![]] };
+    let op = Op::new(0, vec![None], vec![Some(0)]);
+    let bare =
+        Task { dom: vec![1], init: vec![0], goal: vec![None], quota: None, ops: vec![], maps: vec![vec![vec![0]]], shares: vec![vec![]] };
     let begun = "edition=1\nvars=1\ndom=1\ninit=0\ngoal=-\n";
     assert_eq!(told(&bare), format!("{begun}ops=0\nmaps=1\nmap=0\nshare=-\n"));
     let one = Task { ops: vec![op], shares: vec![vec![0]], ..bare };
@@ -97,6 +100,7 @@ fn the_texts_of_the_cases_are_written_as_they_stand() {
         include_str!("../../cases/E.txt"),
         include_str!("../../cases/F-package.txt"),
         include_str!("../../cases/F-package-and-truck.txt"),
+        include_str!("../../cases/G.txt"),
     ];
     for text in cases {
         assert_eq!(told(&read(text.as_bytes())), text);
@@ -118,6 +122,15 @@ fn the_longest_text_has_9597_bytes() {
     assert!(some_tasks(8, 100).iter().all(|task| written(task).len() < text.len()));
 }
 
+/// A line of 11 bytes more, and two bytes more in each of 64.
+#[test]
+fn the_longest_text_of_edition_2_has_9736_bytes() {
+    let task = all_storing(largest(), 1_024);
+    assert_eq!(written(&task).len(), 9_597 + 11 + 64 * 2);
+    assert_eq!(written(&task).len(), 9_736);
+    assert_eq!(read(&written(&task)), task);
+}
+
 /// The tables with something in every place that isn't the task's own.
 fn among_rubbish(rng: &mut Rng, task: &Task) -> Tables {
     let mut tables = tables_of(task);
@@ -125,6 +138,7 @@ fn among_rubbish(rng: &mut Rng, task: &Task) -> Tables {
     for (i, place) in tables.facts.iter_mut().enumerate() {
         let (row, v) = (i / ROW, i % ROW);
         let unread = match row {
+            ROW_MARK.. => task.quota.is_none() || i - ROW * ROW_MARK >= ops,
             ROW_MAP.. => {
                 let (m, of) = ((row - ROW_MAP) / MAPS, (row - ROW_MAP) % MAPS);
                 m >= maps || of >= vars || v >= task.dom[of]
@@ -234,7 +248,7 @@ fn a_buffer_below_16384_places_is_8_before_all_else() {
 #[test]
 fn tables_that_break_a_rule_leave_the_buffer() {
     let mut rng = Rng::new(15);
-    let mut refused = [0; 19];
+    let mut refused = [0; 20];
     for task in some_tasks(15, 2_000) {
         let mut tables = tables_of(&task);
         let (k, place, _, new) = some_places(&mut rng, &task);

@@ -33,7 +33,7 @@ fn shares_within_costs(task: &Task) -> Result<(), Fault> {
     for (o, op) in task.ops.iter().enumerate() {
         let total: u64 = task.shares.iter().map(|row| row[o]).sum();
         if total > op.cost {
-            return refuse(6, Task::line_of_op(o));
+            return refuse(6, task.line_of_op(o));
         }
     }
     Ok(())
@@ -124,15 +124,22 @@ impl Reader<'_> {
         Ok(())
     }
 
-    /// Number 18 comes once the effects are over, before the line end is read.
-    fn op(&mut self, dom: &[usize]) -> Result<Op, Fault> {
+    /// The fourth field of edition 2: whether the operator stores a test.
+    fn mark(&mut self) -> Result<bool, Fault> {
+        self.expect(b";")?;
+        Ok(self.number(0, 1)? == 1)
+    }
+
+    /// Number 18 comes once the last field is over, before the line end is read.
+    fn op(&mut self, dom: &[usize], marked: bool) -> Result<Op, Fault> {
         self.expect(b"op=")?;
         let cost = self.number(0, COST)?;
         self.expect(b";")?;
         let pre = self.facts(dom)?;
         self.expect(b";")?;
         let eff = self.facts(dom)?;
-        let op = Op { cost, pre, eff };
+        let stores = marked && self.mark()?;
+        let op = Op { cost, pre, eff, stores };
         if op.is_idle() {
             return refuse(18, self.line);
         }
@@ -187,7 +194,7 @@ impl Reader<'_> {
     }
 
     fn task(&mut self) -> Result<Task, Fault> {
-        self.count(b"edition=", 1, 1)?;
+        let marked = self.count(b"edition=", 1, 2)? == 2;
         let vars = self.count(b"vars=", 1, VARS as u64)?;
         self.expect(b"dom=")?;
         let dom: Vec<usize> = self.numbers(1, &vec![VALUES as u64; vars])?.into_iter().map(|n| n as usize).collect();
@@ -197,11 +204,12 @@ impl Reader<'_> {
         self.expect(b"\ngoal=")?;
         let goal = self.facts(&dom)?;
         self.expect(b"\n")?;
+        let quota = if marked { Some(self.count(b"quota=", 0, QUOTA as u64)?) } else { None };
         let ops = self.count(b"ops=", 0, OPS as u64)?;
-        let ops: Vec<Op> = (0..ops).map(|_| self.op(&dom)).collect::<Result<_, _>>()?;
+        let ops: Vec<Op> = (0..ops).map(|_| self.op(&dom, marked)).collect::<Result<_, _>>()?;
         let maps = self.count(b"maps=", 1, MAPS as u64)?;
         let maps: Vec<_> = (0..maps).map(|_| self.map(&dom)).collect::<Result<_, _>>()?;
         let shares = maps.iter().map(|_| self.share(ops.len())).collect::<Result<_, _>>()?;
-        Ok(Task { dom, init, goal, ops, maps, shares })
+        Ok(Task { dom, init, goal, quota, ops, maps, shares })
     }
 }

@@ -1,22 +1,32 @@
 //! The text of a task: its lines in their order, each as the rules of the bench describe it.
 
-use crate::task::{Facts, Task};
+use crate::task::{Facts, Op, Task};
 
 /// The task's text. Every part of the form leaves one way to write it, so a task has no second text.
 pub fn written(task: &Task) -> Vec<u8> {
     let mut lines = vec![
-        "edition=1".to_string(),
+        format!("edition={}", task.edition()),
         format!("vars={}", task.dom.len()),
         format!("dom={}", numbers(&task.dom)),
         format!("init={}", numbers(&task.init)),
         format!("goal={}", facts(&task.goal)),
-        format!("ops={}", task.ops.len()),
     ];
-    lines.extend(task.ops.iter().map(|op| format!("op={};{};{}", op.cost, facts(&op.pre), facts(&op.eff))));
+    lines.extend(task.quota.map(|quota| format!("quota={}", quota)));
+    lines.push(format!("ops={}", task.ops.len()));
+    lines.extend(task.ops.iter().map(|op| operator(op, task.quota.is_some())));
     lines.push(format!("maps={}", task.maps.len()));
     lines.extend(task.maps.iter().map(|map| format!("map={}", classes(map))));
     lines.extend(task.shares.iter().map(|row| format!("share={}", or_dash(numbers(row)))));
     lines.iter().flat_map(|line| line.bytes().chain([b'\n'])).collect()
+}
+
+/// Its fields; the fourth is of edition 2.
+fn operator(op: &Op, marked: bool) -> String {
+    let fields = format!("op={};{};{}", op.cost, facts(&op.pre), facts(&op.eff));
+    if marked {
+        return format!("{};{}", fields, u8::from(op.stores));
+    }
+    fields
 }
 
 /// A dash stands for a list of nothing.

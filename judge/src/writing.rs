@@ -20,7 +20,7 @@ fn case() -> Task {
 }
 
 /// A text that is read, and a buffer full of a byte that no text has.
-fn over_rubbish(title: &str, text: &[u8]) -> Vector {
+pub fn over_rubbish(title: &str, text: &[u8]) -> Vector {
     Vector::new(title).text(text).lines("R; e 14 255")
 }
 
@@ -29,7 +29,7 @@ fn a(title: &str) -> Vector {
 }
 
 /// The text's last byte, the place behind it, and the places at the end of what is lent after a reset and of the buffer.
-fn around_its_end(text: &[u8]) -> String {
+pub fn around_its_end(text: &[u8]) -> String {
     format!("p 14 {}; p 14 {}; p 14 16383; p 14 16384; p 14 16499", text.len() - 1, text.len())
 }
 
@@ -176,12 +176,13 @@ fn other_rules() -> Vec<Vector> {
 /// The longest text: eight variables of eight values, and every list full. A cost of seven digits can be split into eight shares
 /// of six; one share of seven would leave nothing for the others.
 pub fn largest() -> Task {
-    let op = Op { cost: COST, pre: vec![Some(0); VARS], eff: vec![Some(7); VARS] };
+    let op = Op::new(COST, vec![Some(0); VARS], vec![Some(7); VARS]);
     let kept = |m: usize, v: usize| (0..VALUES).map(|value| if (v + m) % VARS < 4 { value } else { 0 }).collect();
     Task {
         dom: vec![VALUES; VARS],
         init: vec![0; VARS],
         goal: vec![Some(7); VARS],
+        quota: None,
         ops: vec![op; OPS],
         maps: (0..MAPS).map(|m| (0..VARS).map(|v| kept(m, v)).collect()).collect(),
         shares: vec![vec![COST / MAPS as u64; OPS]; MAPS],
@@ -196,12 +197,13 @@ fn costs() -> Task {
 }
 
 /// Variables of one value, and one map, without operators or with one that sets them all.
-fn of_one_value(vars: usize, ops: usize) -> Task {
+pub fn of_one_value(vars: usize, ops: usize) -> Task {
     Task {
         dom: vec![1; vars],
         init: vec![0; vars],
         goal: vec![None; vars],
-        ops: vec![Op { cost: 0, pre: vec![None; vars], eff: vec![Some(0); vars] }; ops],
+        quota: None,
+        ops: vec![Op::new(0, vec![None; vars], vec![Some(0); vars]); ops],
         maps: vec![vec![vec![0]; vars]],
         shares: vec![vec![0; ops]],
     }
@@ -270,7 +272,7 @@ fn places_that_are_not_read() -> Vec<Vector> {
 }
 
 /// A byte of the written text changed, what stands there read and its tables written; and the text as it was read again.
-fn one_byte(vector: Vector, text: &[u8], i: usize, byte: u8) -> Vector {
+pub fn one_byte(vector: Vector, text: &[u8], i: usize, byte: u8) -> Vector {
     vector.lines(&format!("s 14 {i} {byte}; u {0}; R; T; s 14 {i} {1}; u {0}; R", text.len(), text[i]))
 }
 
