@@ -34,13 +34,19 @@ abbrev pub E : String
 E =
     "edition=1\nvars=2\ndom=2,2\ninit=0,0\ngoal=0:1,1:1\nops=1\nop=1;0:0;0:1\nmaps=2\nmap=0,1/0,0\nmap=0,0/0,1\nshare=1\nshare=0\n"
 
--- G: the coupling that nearly left. Mount it; torque it and store the test; take the next one. Two stored tests are wanted; a store step that is sent again
--- is answered as a repeat and doesn't count, and a third is refused
+-- G: the coupling that nearly left. Mount it; torque it and store the test; take the next one. One stored test is wanted, and a second is refused
 abbrev pub headG : String
-headG = "edition=2\nvars=2\ndom=2,2\ninit=0,0\ngoal=0:1,1:1\nquota=2\nops=3\n"
+headG = "edition=2\nvars=2\ndom=2,2\ninit=0,0\ngoal=0:1,1:1\nquota=1\nops=3\n"
+
+abbrev pub restG : String
+restG = "op=2;0:0;0:1;0\nop=3;0:1,1:0;1:1;1\nop=1;1:1;1:0;0\nmaps=1\nmap=0,1/0,1\nshare=2,3,1\n"
 
 abbrev pub G : String
-G = headG ++ "op=2;0:0;0:1;0\nop=3;0:1,1:0;1:1;1\nop=1;1:1;1:0;0\nmaps=1\nmap=0,1/0,1\nshare=1,3,1\n"
+G = headG ++ restG
+
+-- the same where two stored tests are wanted: a store step that is sent again doesn't meet the quota
+abbrev pub G2 : String
+G2 = "edition=2\nvars=2\ndom=2,2\ninit=0,0\ngoal=0:1,1:1\nquota=2\nops=3\n" ++ restG
 
 -- THE TABLE
 unfoldable pub table : List Case
@@ -87,19 +93,28 @@ table =
       text = G;
       read = yes!;
       claims =
-          boundAt (0 ∷ 0 ∷ []) (fin 4)
+          distances 0 (fin 5 ∷ fin 3 ∷ fin 2 ∷ fin 0 ∷ []) 3
+          ∷ boundAt (0 ∷ 0 ∷ []) (fin 5)
           ∷ judging (0 ∷ 0 ∷ []) (0 ∷ 1 ∷ []) (costs 5)
-          ∷ judging (0 ∷ 0 ∷ []) (0 ∷ 1 ∷ 2 ∷ 1 ∷ []) (costs 9)
-          ∷ judging (0 ∷ 0 ∷ []) (0 ∷ 1 ∷ 2 ∷ 1 ∷ 2 ∷ 1 ∷ []) (no! 19 6)
-          ∷ judging (0 ∷ 0 ∷ []) (0 ∷ 1 ∷ 2 ∷ 1 ∷ 1 ∷ []) (no! 12 5)
+          ∷ judging (0 ∷ 0 ∷ []) (0 ∷ 1 ∷ 2 ∷ 1 ∷ []) (no! 19 4)
+          ∷ judging (0 ∷ 0 ∷ []) (0 ∷ 1 ∷ 1 ∷ []) (no! 12 3)
           ∷ run (0 ∷ 0 ∷ [])
-          (record { number = 1; operator = 0; answer = yes!; columns = 1 ∷ 0 ∷ 0 ∷ 0 ∷ 0 ∷ 0 ∷ 0 ∷ 0 ∷ 1 ∷ 0 ∷ [] }
-          ∷ record { number = 2; operator = 1; answer = yes!; columns = 4 ∷ 0 ∷ 0 ∷ 0 ∷ 0 ∷ 0 ∷ 0 ∷ 0 ∷ 1 ∷ 1 ∷ [] }
-          ∷ record { number = 2; operator = 1; answer = again; columns = 4 ∷ 0 ∷ 0 ∷ 0 ∷ 0 ∷ 0 ∷ 0 ∷ 0 ∷ 1 ∷ 1 ∷ [] }
-          ∷ record { number = 3; operator = 2; answer = yes!; columns = 5 ∷ 0 ∷ 0 ∷ 0 ∷ 0 ∷ 0 ∷ 0 ∷ 0 ∷ 1 ∷ 1 ∷ [] }
-          ∷ record { number = 4; operator = 1; answer = yes!; columns = 8 ∷ 0 ∷ 0 ∷ 0 ∷ 0 ∷ 0 ∷ 0 ∷ 0 ∷ 1 ∷ 2 ∷ [] }
-          ∷ record { number = 5; operator = 2; answer = yes!; columns = 9 ∷ 0 ∷ 0 ∷ 0 ∷ 0 ∷ 0 ∷ 0 ∷ 0 ∷ 1 ∷ 2 ∷ [] }
-          ∷ record { number = 6; operator = 1; answer = no! 19 6; columns = 9 ∷ 0 ∷ 0 ∷ 0 ∷ 0 ∷ 0 ∷ 0 ∷ 0 ∷ 1 ∷ 2 ∷ [] }
+          (record { number = 1; operator = 0; answer = yes!; columns = 2 ∷ 0 ∷ 0 ∷ 0 ∷ 0 ∷ 0 ∷ 0 ∷ 0 ∷ 0 ∷ 0 ∷ [] }
+          ∷ record { number = 2; operator = 1; answer = yes!; columns = 5 ∷ 0 ∷ 0 ∷ 0 ∷ 0 ∷ 0 ∷ 0 ∷ 0 ∷ 0 ∷ 1 ∷ [] }
+          ∷ record { number = 3; operator = 1; answer = no! 12 3; columns = 5 ∷ 0 ∷ 0 ∷ 0 ∷ 0 ∷ 0 ∷ 0 ∷ 0 ∷ 0 ∷ 1 ∷ [] }
+          ∷ record { number = 3; operator = 2; answer = yes!; columns = 6 ∷ 0 ∷ 0 ∷ 0 ∷ 0 ∷ 0 ∷ 0 ∷ 0 ∷ 0 ∷ 1 ∷ [] }
+          ∷ record { number = 4; operator = 1; answer = no! 19 4; columns = 6 ∷ 0 ∷ 0 ∷ 0 ∷ 0 ∷ 0 ∷ 0 ∷ 0 ∷ 0 ∷ 1 ∷ [] }
+          ∷ [])
+          ∷ [];
+    }
+    ∷ record {
+      text = G2;
+      read = yes!;
+      claims =
+          run (0 ∷ 0 ∷ [])
+          (record { number = 1; operator = 0; answer = yes!; columns = 2 ∷ 0 ∷ 0 ∷ 0 ∷ 0 ∷ 0 ∷ 0 ∷ 0 ∷ 0 ∷ 0 ∷ [] }
+          ∷ record { number = 2; operator = 1; answer = yes!; columns = 5 ∷ 0 ∷ 0 ∷ 0 ∷ 0 ∷ 0 ∷ 0 ∷ 0 ∷ 0 ∷ 1 ∷ [] }
+          ∷ record { number = 2; operator = 1; answer = again; columns = 5 ∷ 0 ∷ 0 ∷ 0 ∷ 0 ∷ 0 ∷ 0 ∷ 0 ∷ 0 ∷ 1 ∷ [] }
           ∷ [])
           ∷ [];
     }
