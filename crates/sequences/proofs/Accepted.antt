@@ -7,7 +7,7 @@ use Rattle.scan.specs.declared.Found.{Found}
 use Rattle.scan.specs.declared.Found.the-variants.{Clean}
 use Rattle.meaning.specs.Split.{Task}
 use Rattle.tables.specs.Layout.{Tables}
-use Rattle.tables.specs.Task.{taskOf, stateOf}
+use Rattle.tables.specs.Task.{sasOf, taskOf, stateOf}
 use Rattle.scan.specs.Scan.{inputFault}
 use Rattle.scan.proofs.Validity.{clean-valid}
 use Rattle.sequences.specs.declared.choosing.Choice.{Choice}
@@ -15,7 +15,7 @@ use Rattle.sequences.specs.Inside.Steps.{Usable, task}
 use Rattle.sequences.specs.Judging.{limited, judgedUnless, judgedOf}
 use Rattle.sequences.specs.Choosing.{chosenFrom, chosenUnless, chosenOf, listOf, stepsOf}
 use Rattle.sequences.specs.Opening.{Opening, OpeningOf}
-use Rattle.sequences.proofs.Alike.{SameSteps, same-steps, limited-alike, chosen-from-alike}
+use Rattle.sequences.proofs.Alike.{SameSteps, sas-self, limited-alike, chosen-from-alike}
 use Rattle.sequences.proofs.Passing.{input-clean}
 use Rattle.scan.proofs.Found as F
 
@@ -25,7 +25,7 @@ module _ (t : Tables) (s : List ℕ) where
   bare = task (t .counts) (t .facts) (t .costs)
 
   unsplit : SameSteps bare (taskOf t)
-  unsplit = same-steps refl refl refl
+  unsplit = record { sas = sas-self (sasOf t); quota = refl; mark = λ o l. refl }
 
   -- the steps may be walked
   pub usable : {f : Found} → f ≡ inputFault t s → f ≡ Clean → Usable bare

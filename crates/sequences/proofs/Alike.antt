@@ -1,7 +1,7 @@
 -- Tasks that agree at their own variables and operators are walked alike, from states that agree at the variables: step by step, the states under way agree.
 -- Maps and shares aren't read. Assumes nothing.
 use Prim.Native.Nat.{ℕ, suc, _+_, _<_}
-use mathlib.Core.Path.{_≡_, refl, ap, ap₂, _∙_, subst}
+use mathlib.Core.Path.{_≡_, refl, ap, ap₂, _∙_}
 use mathlib.Core.Bool.{Bool, cond}
 use mathlib.Core.List.{List, [], _∷_}
 use lib.Dec.{leb, ltb}
@@ -35,14 +35,12 @@ pub record SameSteps (T U : Task) : Type 0 where
 pub task-steps : {T U : Task} → SameTask T U → SameSteps T U
 task-steps E = record { sas = E .sas; quota = E .quota; mark = E .mark }
 
--- tasks of the same parts: of a task beside itself, or with another split
-pub same-steps : {T U : Task} → T .sas ≡ U .sas → T .quota ≡ U .quota → T .mark ≡ U .mark → SameSteps T U
-same-steps {T = T} e q m =
-    record {
-      sas = subst (SameSas (T .sas)) e (record { vars = refl; ops = refl; dom = λ v l. refl; goal = λ v l. refl; cost = λ o l. refl; pre = λ o v l h. refl; eff = λ o v l h. refl });
-      quota = q;
-      mark = λ o l. ap (λ (f : ℕ → ℕ). f o) m;
-    }
+-- a task is the same as itself
+pub sas-self : (S : Sas) → SameSas S S
+sas-self S = record { vars = refl; ops = refl; dom = λ v l. refl; goal = λ v l. refl; cost = λ o l. refl; pre = λ o v l h. refl; eff = λ o v l h. refl }
+
+pub steps-self : (T : Task) → SameSteps T T
+steps-self T = record { sas = sas-self (T .sas); quota = refl; mark = λ o l. refl }
 
 module _ {T U : Task} (E : SameSteps T U) where
   abbrev S : Sas

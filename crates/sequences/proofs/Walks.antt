@@ -28,7 +28,7 @@ use Rattle.sequences.specs.Inside.Steps.{Usable}
 use Rattle.sequences.specs.Judging.{onto, walked, limited}
 use Rattle.sequences.specs.Choosing.{orOut, reachedFrom, reachedOf, chosenFrom}
 use Rattle.sequences.proofs.Laws.{step-told, NotRan, refused-same, all-one, reached-goal}
-use Rattle.sequences.proofs.Alike.{SameSteps, same-steps, walked-alike, reached-alike, chosen-from-alike}
+use Rattle.sequences.proofs.Alike.{steps-self, walked-alike, reached-alike, chosen-from-alike}
 
 -- ---- a turn of a walk: after n stored tests the step o from the list s to the list t was taken, at the cost x, and stored y tests
 
@@ -120,10 +120,6 @@ module _ (T : Task) where
   abbrev S : Sas
   S = T .sas
 
-  -- a walk from a state that agrees at the variables is the same
-  self : SameSteps T T
-  self = same-steps refl refl refl
-
   module _ {s₀ : State} {ops s : List ℕ} {i n p : ℕ} (a : Along (walked T) s₀ ops i n p s) where
     walked-turns : i < length ops → walked T i n p (stateOf s) (drop i ops)
         ≡ onto (stepOf T n (stateOf s) (getD ops i 0)) (i + 1)
@@ -133,7 +129,7 @@ module _ (T : Task) where
 
     pub walked-on : {t : List ℕ} {x y : ℕ} → i < length ops → Turn T n s t (getD ops i 0) x y → Along (walked T) s₀ ops (i + 1) (n + y) (p + x) t
     walked-on h k =
-        along-on a T (Refused (NoSuchOperator (i + 1))) (Refused (MayNotRun (i + 1))) (Refused (BeyondQuota (i + 1))) (walked-turns h) (walked-alike self) h k
+        along-on a T (Refused (NoSuchOperator (i + 1))) (Refused (MayNotRun (i + 1))) (Refused (BeyondQuota (i + 1))) (walked-turns h) (walked-alike (steps-self T)) h k
 
     pub walked-refused : i < length ops → (m : Stepped) → m ≡ stepOf T n (stateOf s) (getD ops i 0) → NotRan m → onto m (i + 1) Passed ≡ walked T 0 0 0 s₀ ops
     walked-refused h =
@@ -157,7 +153,7 @@ module _ (T : Task) where
       reached-turns h = rw (drop-cons ops i 0, g, add-one i)
 
       pub reached-on : {t : List ℕ} {x y : ℕ} → i < length ops → Turn T n s t (getD ops i 0) x y → Along (reachedFrom T) s₀ ops (i + 1) (n + y) (p + x) t
-      reached-on h k = along-on a T Out Out Out (reached-turns h) (reached-alike self) h k
+      reached-on h k = along-on a T Out Out Out (reached-turns h) (reached-alike (steps-self T)) h k
 
       pub reached-refused : i < length ops → (m : Stepped) → m ≡ stepOf T n (stateOf s) (getD ops i 0) → NotRan m → Out ≡ reachedFrom T 0 0 0 s₀ ops
       reached-refused h m e r = all-one m Out ∙ along-out a T Out Out Out (reached-turns h) (λ c. Out) m e r
@@ -170,7 +166,7 @@ module _ (T : Task) where
 
   pub limited-within : (s t : State) (ops : List ℕ) → SameAt S t s → length ops ≤ mostSteps → walked T 0 0 0 t ops ≡ limited T s ops
   unfolding limited
-  limited-within s t ops h l = walked-alike self 0 0 0 t s ops h ∙ sym (rw (le-leb (length ops) mostSteps l))
+  limited-within s t ops h l = walked-alike (steps-self T) 0 0 0 t s ops h ∙ sym (rw (le-leb (length ops) mostSteps l))
 
   pub limited-above : (s : State) (ops : List ℕ) → mostSteps < length ops → Refused SequenceTooLong ≡ limited T s ops
   unfolding limited
@@ -185,7 +181,7 @@ module _ (T : Task) where
   reached-above s ops l = sym (rw (lt-leb (length ops) mostSteps l))
 
   pub chosen-same : (s t : State) (a b : List ℕ) → SameAt S s t → chosenFrom T s a b ≡ chosenFrom T t a b
-  chosen-same = chosen-from-alike self
+  chosen-same = chosen-from-alike (steps-self T)
 
   -- the copy of a lent state agrees with it
   pub same-copied : (s t : List ℕ) → Usable T → t ≡ copied s (S .vars) → SameAt S (stateOf t) (stateOf s)
