@@ -1,4 +1,4 @@
--- The cheaper of two: the named opening part passes at exactly the named cost, and no opening part of either list that passes costs less.
+-- The cheaper of two: the named opening part passes, within the quota, at exactly the named cost, and no opening part of either list that does costs less.
 -- Assumes nothing.
 use Prim.Native.Nat.{ℕ, suc, _≤_}
 use mathlib.Core.Path.{_≡_, refl}
@@ -8,11 +8,13 @@ use native.Mathlib.Omega.{arith}
 use lib.Dec.{leb}
 use lib.ListN.{length, take}
 use borrow.Author.Tests.{leb-true, leb-false}
-use Rattle.meaning.specs.Sas.{State, Sas, Passes, paid}
+use Rattle.meaning.specs.Sas.{State, paid}
+use Rattle.meaning.specs.Split.{Task}
+use Rattle.meaning.specs.Quota.{KeepsQuota, PassesWithin}
 use Rattle.scan.specs.declared.Found.{Found}
 use Rattle.scan.specs.declared.Found.the-variants.{Clean, Fault}
 use Rattle.tables.specs.Layout.{Tables}
-use Rattle.tables.specs.Task.{sasOf, stateOf}
+use Rattle.tables.specs.Task.{taskOf, stateOf}
 use Rattle.sequences.specs.declared.choosing.Reached.{Reached}
 use Rattle.sequences.specs.declared.choosing.Reached.the-variants.{After, Out}
 use Rattle.sequences.specs.declared.choosing.Choice.{Choice}
@@ -22,25 +24,26 @@ use Rattle.meaning.specs.Limits.{mostSteps}
 use Rattle.sequences.specs.Choosing.{reachedOf, choiceOf, chosenFrom, chosenUnless, chosenOf}
 use Rattle.sequences.proofs.Moments.{Moment, moment-of, moment-least, out-none}
 
--- every opening part of a list within the limit that passes costs at least p
-abbrev pub AtLeast : Sas → State → List ℕ → ℕ → Type 0
-AtLeast S s os p = (j : ℕ) → length os ≤ mostSteps → Passes S (take j os) s → p ≤ paid (S .cost) (take j os)
+-- every opening part of a list within the limit that passes, within the quota, costs at least p
+abbrev pub AtLeast : Task → State → List ℕ → ℕ → Type 0
+AtLeast T s os p = (j : ℕ) → length os ≤ mostSteps → PassesWithin T (take j os) s → p ≤ paid (T .sas .cost) (take j os)
 
--- no opening part of a list within the limit passes
-abbrev pub NonePasses : Sas → State → List ℕ → Type 0
-NonePasses S s os = (j : ℕ) → length os ≤ mostSteps → Passes S (take j os) s → ⊥
+-- no opening part of a list within the limit passes within the quota
+abbrev pub NonePasses : Task → State → List ℕ → Type 0
+NonePasses T s os = (j : ℕ) → length os ≤ mostSteps → PassesWithin T (take j os) s → ⊥
 
--- the first n steps of the list os, up to its first goal moment, pass at the cost p, and no opening part of it that passes is cheaper
-pub record Named (S : Sas) (s : State) (os : List ℕ) (n p : ℕ) : Type 0 where
+-- the first n steps of the list os, up to its first goal moment, pass at the cost p and keep the quota, and no opening part of it that does is cheaper
+pub record Named (T : Task) (s : State) (os : List ℕ) (n p : ℕ) : Type 0 where
   pub within : length os ≤ mostSteps
-  pub moment : Moment S s os n p
-  pub least : AtLeast S s os p
+  pub moment : Moment (T .sas) s os n p
+  pub quota : KeepsQuota T (take n os)
+  pub least : AtLeast T s os p
 
 -- what each choice promises; a tie names the first, so where the second is named the first costs more
 abbrev pub Promised : Tables → List ℕ → List ℕ → List ℕ → Choice → Type 0
-Promised t s a b (FirstPart n p) = (inputFault t s ≡ Clean) × Named (sasOf t) (stateOf s) a n p × AtLeast (sasOf t) (stateOf s) b p
-Promised t s a b (SecondPart n p) = (inputFault t s ≡ Clean) × Named (sasOf t) (stateOf s) b n p × AtLeast (sasOf t) (stateOf s) a (suc p)
-Promised t s a b NoPart = (inputFault t s ≡ Clean) × NonePasses (sasOf t) (stateOf s) a × NonePasses (sasOf t) (stateOf s) b
+Promised t s a b (FirstPart n p) = (inputFault t s ≡ Clean) × Named (taskOf t) (stateOf s) a n p × AtLeast (taskOf t) (stateOf s) b p
+Promised t s a b (SecondPart n p) = (inputFault t s ≡ Clean) × Named (taskOf t) (stateOf s) b n p × AtLeast (taskOf t) (stateOf s) a (suc p)
+Promised t s a b NoPart = (inputFault t s ≡ Clean) × NonePasses (taskOf t) (stateOf s) a × NonePasses (taskOf t) (stateOf s) b
 Promised t s a b (Unread r) = inputFault t s ≡ Fault r
 
 -- ---- which of two
@@ -70,37 +73,37 @@ choice-says Out Out = (refl, refl)
 
 -- ---- the lists
 
-module _ (S : Sas) (s : State) where
+module _ (T : Task) (s : State) where
   -- a list's opening parts cost at least what it reaches a goal at
-  at-least : (os : List ℕ) (p : ℕ) → NoLess (reachedOf S s os) p → AtLeast S s os p
-  at-least os p h j l g = at (reachedOf S s os) refl
+  at-least : (os : List ℕ) (p : ℕ) → NoLess (reachedOf T s os) p → AtLeast T s os p
+  at-least os p h j l g = at (reachedOf T s os) refl
     where
-      at : (r : Reached) → reachedOf S s os ≡ r → p ≤ paid (S .cost) (take j os)
-      at (After m q) e = omega (arith, h m q e, moment-least S s os m q j (moment-of S s os m q e .1) g)
-      at Out e = absurd (out-none S s os j e l g)
+      at : (r : Reached) → reachedOf T s os ≡ r → p ≤ paid (T .sas .cost) (take j os)
+      at (After m q) e = omega (arith, h m q e, moment-least (T .sas) s os m q j (moment-of T s os m q e .1) (g .0))
+      at Out e = absurd (out-none T s os j e l g)
 
-  named : (os : List ℕ) (n p : ℕ) → reachedOf S s os ≡ After n p → Named S s os n p
+  named : (os : List ℕ) (n p : ℕ) → reachedOf T s os ≡ After n p → Named T s os n p
   named os n p e =
-      let m = moment-of S s os n p e in
-      record { within = m .0; moment = m .1; least = λ j l g. moment-least S s os n p j (m .1) g }
+      let m = moment-of T s os n p e in
+      record { within = m .0; moment = m .1; quota = m .2; least = λ j l g. moment-least (T .sas) s os n p j (m .1) (g .0) }
 
-  none-passes : (os : List ℕ) → reachedOf S s os ≡ Out → NonePasses S s os
-  none-passes os e j l g = out-none S s os j e l g
+  none-passes : (os : List ℕ) → reachedOf T s os ≡ Out → NonePasses T s os
+  none-passes os e j l g = out-none T s os j e l g
 
 -- THE CHEAPER OF TWO costs at most either list that reaches a goal, and its opening part passes at exactly the named cost
 pub chosen-promised : (t : Tables) (s a b : List ℕ) → Promised t s a b (chosenOf t s a b)
 unfolding chosenOf
 chosen-promised t s a b = at (inputFault t s) refl
   where
-    S : Sas
-    S = sasOf t
+    T : Task
+    T = taskOf t
 
-    keeps : (d : Choice) → inputFault t s ≡ Clean → Says (reachedOf S (stateOf s) a) (reachedOf S (stateOf s) b) d → Promised t s a b d
-    keeps (FirstPart n p) e h = (e, named S (stateOf s) a n p (h .0), at-least S (stateOf s) b p (h .1))
-    keeps (SecondPart n p) e h = (e, named S (stateOf s) b n p (h .0), at-least S (stateOf s) a (suc p) (h .1))
-    keeps NoPart e h = (e, none-passes S (stateOf s) a (h .0), none-passes S (stateOf s) b (h .1))
+    keeps : (d : Choice) → inputFault t s ≡ Clean → Says (reachedOf T (stateOf s) a) (reachedOf T (stateOf s) b) d → Promised t s a b d
+    keeps (FirstPart n p) e h = (e, named T (stateOf s) a n p (h .0), at-least T (stateOf s) b p (h .1))
+    keeps (SecondPart n p) e h = (e, named T (stateOf s) b n p (h .0), at-least T (stateOf s) a (suc p) (h .1))
+    keeps NoPart e h = (e, none-passes T (stateOf s) a (h .0), none-passes T (stateOf s) b (h .1))
     keeps (Unread r) e h = absurd h
 
-    at : (f : Found) → inputFault t s ≡ f → Promised t s a b (chosenUnless f (chosenFrom S (stateOf s) a b))
-    at Clean e = keeps (chosenFrom S (stateOf s) a b) e (choice-says (reachedOf S (stateOf s) a) (reachedOf S (stateOf s) b))
+    at : (f : Found) → inputFault t s ≡ f → Promised t s a b (chosenUnless f (chosenFrom T (stateOf s) a b))
+    at Clean e = keeps (chosenFrom T (stateOf s) a b) e (choice-says (reachedOf T (stateOf s) a) (reachedOf T (stateOf s) b))
     at (Fault r) e = e

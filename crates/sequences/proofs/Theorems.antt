@@ -6,7 +6,9 @@ use native.Mathlib.Omega.{arith}
 use lib.ListN.{take}
 use denote.Ref.{RefT, now}
 use Rattle.graph.specs.Cost.{_⊑_}
-use Rattle.meaning.specs.Sas.{State, Sas, Passes, paid}
+use Rattle.meaning.specs.Sas.{State, Passes, paid}
+use Rattle.meaning.specs.Split.{Task}
+use Rattle.meaning.specs.Quota.{KeepsQuota, PassesWithin}
 use Rattle.meaning.specs.Bound.{bound}
 use Rattle.meaning.proofs.Bounds.{admissible}
 use Rattle.tables.specs.Layout.{Tables}
@@ -55,21 +57,21 @@ bound-below t s ops c e p q =
 pub passed-bound : (t : Tables) (s ops : List ℕ) (c : ℕ) → judgedOf t s ops ≡ Passed c → bound (taskOf t) (stateOf s) ⊑ c
 passed-bound t s ops c e =
     let h = passed-exactly t s ops c .0 e in
-    bound-below t s ops c (clean-input t s (h .tables) (h .state)) (h .passes) (h .cost)
+    bound-below t s ops c (clean-input t s (h .tables) (h .state)) (h .passes .0) (h .cost)
 
 -- ---- the cheaper of two
 
--- what the number of the named list and the named cost promise: that list has an opening part that passes at exactly that cost, and neither list has a
--- cheaper one; where the second is named, the first has none at that cost either. Neither: no opening part of either passes, and the cost is 0.
--- All of it of lists within the step limit; one above it is out
-abbrev pub CheaperPromised : Sas → State → List ℕ → List ℕ → ℕ → ℕ → Type 0
-CheaperPromised S s a b zero p = NonePasses S s a × NonePasses S s b × (p ≡ 0)
-CheaperPromised S s a b (suc zero) p = ((n : ℕ) × Named S s a n p) × AtLeast S s b p
-CheaperPromised S s a b (suc (suc k)) p = ((n : ℕ) × Named S s b n p) × AtLeast S s a (suc p)
+-- what the number of the named list and the named cost promise: that list has an opening part that passes, within the quota, at exactly that cost, and neither
+-- list has a cheaper one; where the second is named, the first has none at that cost either. Neither: no opening part of either passes within the quota, and the
+-- cost is 0. All of it of lists within the step limit; one above it is out
+abbrev pub CheaperPromised : Task → State → List ℕ → List ℕ → ℕ → ℕ → Type 0
+CheaperPromised T s a b zero p = NonePasses T s a × NonePasses T s b × (p ≡ 0)
+CheaperPromised T s a b (suc zero) p = ((n : ℕ) × Named T s a n p) × AtLeast T s b p
+CheaperPromised T s a b (suc (suc k)) p = ((n : ℕ) × Named T s b n p) × AtLeast T s a (suc p)
 
 module _ (t : Tables) (s a b : List ℕ) where
   abbrev PromisedOf : Cheaper → Type 0
-  PromisedOf x = CheaperPromised (sasOf t) (stateOf s) a b (listNamed x) (costNamed x)
+  PromisedOf x = CheaperPromised (taskOf t) (stateOf s) a b (listNamed x) (costNamed x)
 
   pub cheaper-promised : inputFault t s ≡ Clean → PromisedOf (cheaperOf t s a b)
   cheaper-promised e = at (chosenOf t s a b) (chosen-promised t s a b)
@@ -97,35 +99,36 @@ module _ (t : Tables) (s a b : List ℕ) where
 
 -- ---- the opening part that is handed back
 
--- it starts where the list starts, and passes at the cost p
-pub record PassingPart (S : Sas) (s : State) (r os : RefT (List ℕ)) (p : ℕ) : Type 0 where
+-- it starts where the list starts, and passes at the cost p, within the quota
+pub record PassingPart (T : Task) (s : State) (r os : RefT (List ℕ)) (p : ℕ) : Type 0 where
   pub place : r .ptr ≡ os .ptr
-  pub passes : Passes S (now r) s
-  pub cost : p ≡ paid (S .cost) (now r)
+  pub passes : PassesWithin T (now r) s
+  pub cost : p ≡ paid (T .sas .cost) (now r)
 
 -- by the number of the named list and the named cost; where none is named, the empty part at the start of the first list
-abbrev pub OpeningPromised : Sas → State → RefT (List ℕ) → RefT (List ℕ) → RefT (List ℕ) → ℕ → ℕ → Type 0
-OpeningPromised S s a b r zero p = (r .ptr ≡ a .ptr) × (now r ≡ [])
-OpeningPromised S s a b r (suc zero) p = PassingPart S s r a p
-OpeningPromised S s a b r (suc (suc k)) p = PassingPart S s r b p
+abbrev pub OpeningPromised : Task → State → RefT (List ℕ) → RefT (List ℕ) → RefT (List ℕ) → ℕ → ℕ → Type 0
+OpeningPromised T s a b r zero p = (r .ptr ≡ a .ptr) × (now r ≡ [])
+OpeningPromised T s a b r (suc zero) p = PassingPart T s r a p
+OpeningPromised T s a b r (suc (suc k)) p = PassingPart T s r b p
 
-passing-part : (S : Sas) (s : State) (r os : RefT (List ℕ)) (n p : ℕ) → Opening r os n → Moment S s (now os) n p → PassingPart S s r os p
-passing-part S s r os n p o m =
+passing-part : (T : Task) (s : State) (r os : RefT (List ℕ)) (n p : ℕ) → Opening r os n → Moment (T .sas) s (now os) n p → KeepsQuota T (take n (now os))
+    → PassingPart T s r os p
+passing-part T s r os n p o m q =
     record {
       place = o .place;
-      passes = subst (λ (l : List ℕ). Passes S l s) (sym (o .items)) (m .passes);
-      cost = subst (λ (l : List ℕ). p ≡ paid (S .cost) l) (sym (o .items)) (m .cost);
+      passes = subst (λ (l : List ℕ). PassesWithin T l s) (sym (o .items)) (m .passes, q);
+      cost = subst (λ (l : List ℕ). p ≡ paid (T .sas .cost) l) (sym (o .items)) (m .cost);
     }
 
 module _ (t : Tables) (s : List ℕ) (a b r : RefT (List ℕ)) where
   abbrev OpeningBy : Cheaper → Type 0
-  OpeningBy x = OpeningPromised (sasOf t) (stateOf s) a b r (listNamed x) (costNamed x)
+  OpeningBy x = OpeningPromised (taskOf t) (stateOf s) a b r (listNamed x) (costNamed x)
 
   pub opening-promised : OpeningOf t s a b r → OpeningBy (cheaperOf t s (now a) (now b))
   opening-promised o = at (chosenOf t s (now a) (now b)) (chosen-promised t s (now a) (now b)) o
     where
       at : (d : Choice) → Promised t s (now a) (now b) d → Opening r (listOf d a b) (stepsOf d) → OpeningBy (namedOf d)
-      at (FirstPart n p) h o = passing-part (sasOf t) (stateOf s) r a n p o (h .1 .moment)
-      at (SecondPart n p) h o = passing-part (sasOf t) (stateOf s) r b n p o (h .1 .moment)
+      at (FirstPart n p) h o = passing-part (taskOf t) (stateOf s) r a n p o (h .1 .moment) (h .1 .quota)
+      at (SecondPart n p) h o = passing-part (taskOf t) (stateOf s) r b n p o (h .1 .moment) (h .1 .quota)
       at NoPart h o = (o .place, o .items)
       at (Unread x) h o = (o .place, o .items)

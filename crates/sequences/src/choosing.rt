@@ -3,7 +3,7 @@ ghost use mathlib.Core.Path.{_≡_};
 ghost use Prim.Native.Nat.{_≤_};
 ghost use lib.ListN.{length};
 ghost use Rattle.tables.specs.Task.{stateOf, lent, was};
-ghost use Rattle.sequences.specs.Inside.Steps.{Usable, sas, task};
+ghost use Rattle.sequences.specs.Inside.Steps.{Usable, task};
 ghost use Rattle.meaning.specs.Limits.{mostSteps};
 ghost use Rattle.sequences.specs.Choosing.{reachedFrom, reachedOf, choiceOf, chosenFrom, chosenOf, namedOf};
 ghost use Rattle.sequences.specs.Opening.{Opening};
@@ -44,7 +44,7 @@ pub enum Cheaper {
 
 // The steps in order from a state, up to the first moment a goal holds.
 pub fn reach(c: Counts, facts: &[u8], costs: &[u32], start: [u8; 8], ops: &[u32]) -> Reached
-    requires { ⌜ Usable (sas c (now facts) (now costs)) × (length (now ops) ≤ mostSteps) ⌝ }
+    requires { ⌜ Usable (task c (now facts) (now costs)) × (length (now ops) ≤ mostSteps) ⌝ }
     ensures { λ r. ⌜ r ≡ reachedFrom (task c (was facts) (was costs)) 0 0 0 (stateOf start) (was ops) ⌝ }
 {
     let mut s = start;
@@ -73,7 +73,7 @@ pub fn reach(c: Counts, facts: &[u8], costs: &[u32], start: [u8; 8], ops: &[u32]
 
 // The same for a list of any length: one above the step limit is out.
 pub fn reach_within(c: Counts, facts: &[u8], costs: &[u32], start: [u8; 8], ops: &[u32]) -> Reached
-    requires { ⌜ Usable (sas c (now facts) (now costs)) ⌝ }
+    requires { ⌜ Usable (task c (now facts) (now costs)) ⌝ }
     ensures { λ r. ⌜ r ≡ reachedOf (task c (was facts) (was costs)) (stateOf start) (was ops) ⌝ }
 {
     if ops.len() > STEPS_MOST {
@@ -113,7 +113,7 @@ pub fn choose_lists(
     a: &[u32],
     b: &[u32],
 ) -> Choice
-    requires { ⌜ Usable (sas c (now facts) (now costs)) ⌝ }
+    requires { ⌜ Usable (task c (now facts) (now costs)) ⌝ }
     ensures { λ r. ⌜ r ≡ chosenFrom (task c (was facts) (was costs)) (stateOf (was s)) (was a) (was b) ⌝ }
 {
     let start = copy(c.vars, s);

@@ -3,7 +3,7 @@ ghost use mathlib.Core.Path.{_≡_};
 ghost use Prim.Native.Nat.{_≤_};
 ghost use lib.ListN.{length};
 ghost use Rattle.tables.specs.Task.{stateOf, was};
-ghost use Rattle.sequences.specs.Inside.Steps.{Usable, sas, task};
+ghost use Rattle.sequences.specs.Inside.Steps.{Usable, task};
 ghost use Rattle.meaning.specs.Limits.{mostSteps};
 ghost use Rattle.sequences.specs.Judging.{onto, walked, limited};
 use crate::stepping::Stepped;
@@ -37,7 +37,7 @@ pub fn refusal(m: Stepped, k: u32) -> Judged
 
 // The steps in order from a state; the goal last.
 pub fn walk(c: Counts, facts: &[u8], costs: &[u32], start: [u8; 8], ops: &[u32]) -> Judged
-    requires { ⌜ Usable (sas c (now facts) (now costs)) × (length (now ops) ≤ mostSteps) ⌝ }
+    requires { ⌜ Usable (task c (now facts) (now costs)) × (length (now ops) ≤ mostSteps) ⌝ }
     ensures { λ r. ⌜ r ≡ walked (task c (was facts) (was costs)) 0 0 0 (stateOf start) (was ops) ⌝ }
 {
     let mut s = start;
@@ -63,7 +63,7 @@ pub fn walk(c: Counts, facts: &[u8], costs: &[u32], start: [u8; 8], ops: &[u32])
 
 // The list from the lent state, once tables and state are accepted: its length first, then its steps.
 pub fn judge_list(c: Counts, facts: &[u8], costs: &[u32], s: &[u8], ops: &[u32]) -> Judged
-    requires { ⌜ Usable (sas c (now facts) (now costs)) ⌝ }
+    requires { ⌜ Usable (task c (now facts) (now costs)) ⌝ }
     ensures { λ r. ⌜ r ≡ limited (task c (was facts) (was costs)) (stateOf (was s)) (was ops) ⌝ }
 {
     if ops.len() > STEPS_MOST {

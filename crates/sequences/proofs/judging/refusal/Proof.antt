@@ -12,11 +12,18 @@ returns-2 c = rw (c .enum-told .given .1)
 returns-3 : tie.Need-returns-3
 returns-3 c = rw (c .enum-told2 .given .1)
 
+returns-4 : tie.Need-returns-4
+returns-4 c = rw (c .enum-told3 .given .1)
+
 pub refusal-spec : {M : Type 1} → statement M
-refusal-spec = tie.close (tie.spec
+refusal-spec =
+    tie.close
+    (tie.spec
+    (λ c. search needs)
     (λ c. search needs)
     (λ c. search needs)
     (λ c. search needs)
     returns
     returns-2
-    returns-3)
+    returns-3
+    returns-4)
