@@ -16,12 +16,11 @@ use Rattle.scan.specs.declared.Found.the-variants.{Clean, Fault}
 use Rattle.scan.specs.Scan.{tablesFault}
 use Rattle.scan.proofs.Numbers.{OfTables, tables-refused}
 use Rattle.tables.specs.Layout.{Tables}
-use Rattle.meaning.proofs.Facts.{by-cases, by-order}
 use Rattle.ledger.specs.declared.Run.{Run}
 use Rattle.ledger.specs.declared.Answer.{Answer}
 use Rattle.ledger.specs.declared.Answer.the-variants.{Accepted, Repeated, Refused}
 use Rattle.ledger.specs.Ledger.{canRun, withinQuota, isRun, oldStep, nextStep, offerJudged, refusedOr, answered, advanced, moved, offered}
-use Rattle.ledger.proofs.Answers.{next-full, next-not, next-beyond, judged-next}
+use Rattle.ledger.proofs.Answers.{next-cases, judged-next}
 
 -- ---- answers told apart by a number
 
@@ -145,22 +144,21 @@ module _ (t : Tables) (r : Run) (number o : ℕ) where
   pub accepted-had : answered t r number o ≡ Accepted → Had
   accepted-had e =
       let at = late-next Accepted (λ h. omega arith) e in
-      let room : r .len < mostSteps =
-      by-order (r .len) mostSteps (λ l. l)
-      (λ g. absurd (not-refused (RunFull number) (next-full (t .counts) (t .facts) r number o g ∙ at .answer))) in
-      let can : canRun (t .counts) (t .facts) (r .now) o ≡ true =
-      by-cases (canRun (t .counts) (t .facts) (r .now) o) (λ p. p)
-      (λ p. absurd (not-refused (MayNotRun number) (next-not (t .counts) (t .facts) r number o room p ∙ at .answer))) in
+      let tests =
+      next-cases (t .counts) (t .facts) r number o
+      (λ x.
+      x ≡ Accepted
+      → (r .len < mostSteps) × (canRun (t .counts) (t .facts) (r .now) o ≡ true) × (withinQuota (t .counts) (t .facts) (r .columns) o ≡ true))
+      (λ g e. absurd (not-refused (RunFull number) e)) (λ l p e. absurd (not-refused (MayNotRun number) e))
+      (λ l p q e. absurd (not-refused (BeyondQuota number) e)) (λ l p q e. (l, p, q)) (at .answer) in
       record {
         clean = at .clean;
         run = at .run;
         exists = at .exists;
         next = at .next;
-        room = room;
-        can = can;
-        keeps =
-            by-cases (withinQuota (t .counts) (t .facts) (r .columns) o) (λ p. p)
-            (λ p. absurd (not-refused (BeyondQuota number) (next-beyond (t .counts) (t .facts) r number o room can p ∙ at .answer)));
+        room = tests .0;
+        can = tests .1;
+        keeps = tests .2;
       }
 
   -- ---- the run that an offer hands back

@@ -1,6 +1,6 @@
 -- Each case of an answer, and of a test, from the facts that a way through the code has. Assumes nothing.
 use Prim.Native.Nat.{ℕ, _+_, _-_, _≤_, _<_}
-use mathlib.Core.Path.{_≡_, refl}
+use mathlib.Core.Path.{_≡_, refl, subst}
 use mathlib.Core.List.{List}
 use mathlib.Core.Bool.{Bool, true, false}
 use native.Mathlib.Omega.{arith}
@@ -10,7 +10,7 @@ use borrow.Author.Tests.{lt-ltb, le-ltb, le-leb, lt-leb, eq-eqb, ne-eqb}
 use Rattle.refusals.specs.declared.Refusal.the-variants.{NoSuchOperator, MayNotRun, NotTheNext, OtherOperator, RunFull, BeyondQuota}
 use Rattle.meaning.specs.Columns.{storedTests}
 use Rattle.meaning.specs.Quota.{mayStore}
-use Rattle.meaning.proofs.Facts.{and-left, and-right}
+use Rattle.meaning.proofs.Facts.{and-left, and-right, by-cases, by-order}
 use Rattle.tables.specs.declared.Counts.{Counts}
 use Rattle.tables.specs.Layout.{Tables, domAt}
 use Rattle.tables.specs.Task.{taskOf}
@@ -99,6 +99,21 @@ module _ (c : Counts) (facts : List ℕ) (r : Run) (number o : ℕ) where
       → Accepted ≡ nextStep c facts r number o
   unfolding nextStep
   next-go h e q = rw (lt-leb mostSteps (r .len) h, e, q) refl
+
+  -- these are all: what holds of each holds of the answer
+  pub next-cases : (P : Answer → Type 0) → (mostSteps ≤ r .len → P (Refused (RunFull number)))
+      → (r .len < mostSteps → canRun c facts (r .now) o ≡ false → P (Refused (MayNotRun number)))
+      → (r .len < mostSteps → canRun c facts (r .now) o ≡ true → withinQuota c facts (r .columns) o ≡ false → P (Refused (BeyondQuota number)))
+      → (r .len < mostSteps → canRun c facts (r .now) o ≡ true → withinQuota c facts (r .columns) o ≡ true → P Accepted)
+      → P (nextStep c facts r number o)
+  next-cases P full stuck beyond go =
+      by-order (r .len) mostSteps
+      (λ l.
+      by-cases (canRun c facts (r .now) o)
+      (λ p.
+      by-cases (withinQuota c facts (r .columns) o) (λ q. subst P (next-go l p q) (go l p q)) (λ q. subst P (next-beyond l p q) (beyond l p q)))
+      (λ p. subst P (next-not l p) (stuck l p)))
+      (λ g. subst P (next-full g) (full g))
 
   -- ---- the offer itself
 

@@ -8,7 +8,7 @@ use native.Mathlib.Omega.{arith}
 use Rattle.refusals.specs.declared.Refusal.the-variants.{BeyondQuota}
 use Rattle.meaning.specs.Limits.{mostSteps}
 use Rattle.meaning.specs.Sas.{MayRun}
-use Rattle.meaning.proofs.Facts.{by-cases, by-order, complies-true, true-complies}
+use Rattle.meaning.proofs.Facts.{complies-true, true-complies}
 use Rattle.meaning.proofs.Quota.{may-not-store, stores-beyond}
 use Rattle.scan.specs.declared.Found.the-variants.{Clean}
 use Rattle.scan.specs.Scan.{tablesFault}
@@ -21,30 +21,21 @@ use Rattle.ledger.specs.declared.Run.{Run}
 use Rattle.ledger.specs.declared.Answer.the-variants.{Refused}
 use Rattle.ledger.specs.Ledger.{canRun, withinQuota, nextStep, offered}
 use Rattle.ledger.specs.History.{GivenByStartAndLog, Sized, storedIn, StoresBeyond}
-use Rattle.ledger.proofs.Answers.{can-may, within-is, next-full, next-not, next-beyond, next-go}
+use Rattle.ledger.proofs.Answers.{can-may, within-is, next-cases, next-beyond}
 use Rattle.ledger.proofs.Accepted.{told, late-next, next-late}
 use Rattle.ledger.proofs.Sound.{run-exactly}
 use Rattle.ledger.proofs.Stored.{given-stores}
 
 -- what the next number's 19 came by
-module _ (t : Tables) (r : Run) (number o place : ℕ) (e : nextStep (t .counts) (t .facts) r number o ≡ Refused (BeyondQuota place)) where
-  next-room : r .len < mostSteps
-  next-room =
-      by-order (r .len) mostSteps (λ l. l)
-      (λ g. absurd (omega (arith, ap told (next-full (t .counts) (t .facts) r number o g ∙ e))))
-
-  next-can : canRun (t .counts) (t .facts) (r .now) o ≡ true
-  next-can =
-      by-cases (canRun (t .counts) (t .facts) (r .now) o) (λ p. p)
-      (λ p. absurd (omega (arith, ap told (next-not (t .counts) (t .facts) r number o next-room p ∙ e))))
-
-  next-stored : withinQuota (t .counts) (t .facts) (r .columns) o ≡ false
-  next-stored =
-      by-cases (withinQuota (t .counts) (t .facts) (r .columns) o)
-      (λ p. absurd (omega (arith, ap told (next-go (t .counts) (t .facts) r number o next-room next-can p ∙ e)))) (λ p. p)
-
-  next-place : place ≡ number
-  next-place = let h = next-beyond (t .counts) (t .facts) r number o next-room next-can next-stored ∙ e in let q : number ≡ place = cc in sym q
+came : (t : Tables) (r : Run) (number o place : ℕ) → nextStep (t .counts) (t .facts) r number o ≡ Refused (BeyondQuota place)
+    → (r .len < mostSteps) × (canRun (t .counts) (t .facts) (r .now) o ≡ true) × (withinQuota (t .counts) (t .facts) (r .columns) o ≡ false) × (place ≡ number)
+came t r number o place =
+    next-cases (t .counts) (t .facts) r number o
+    (λ x.
+    x ≡ Refused (BeyondQuota place)
+    → (r .len < mostSteps) × (canRun (t .counts) (t .facts) (r .now) o ≡ true) × (withinQuota (t .counts) (t .facts) (r .columns) o ≡ false) × (place ≡ number))
+    (λ g e. absurd (omega (arith, ap told e))) (λ l p e. absurd (omega (arith, ap told e)))
+    (λ l p q e. let same : number ≡ place = cc in (l, p, q, sym same)) (λ l p q e. absurd (omega (arith, ap told e)))
 
 -- an operator that exists can run exactly if it may
 can-runs : (t : Tables) (r : Run) (o : ℕ) → o < t .counts .ops → canRun (t .counts) (t .facts) (r .now) o ≡ true ↔ MayRun (sasOf t) o (stateOf (r .now))
@@ -64,19 +55,20 @@ module _ (t : Tables) (r : Run) (sized : Sized r) (number o : ℕ) where
         let at = late-next t r number o (Refused (BeyondQuota place)) (λ h. omega arith) e in
         let given = run-exactly t (at .clean) r sized .0 (at .run) in
         let within = given-stores t (at .clean) r given .within in
-        let beyond = may-not-store (taskOf t) (storedIn r) o (sym (within-is t (r .columns) o) ∙ next-stored t r number o place (at .answer)) in
+        let tests = came t r number o place (at .answer) in
+        let beyond = may-not-store (taskOf t) (storedIn r) o (sym (within-is t (r .columns) o) ∙ tests .2) in
         let mark = clean-valid t (at .clean) .marks o (at .exists) in (
           at .clean,
           given,
           record {
             next = at .next;
-            room = next-room t r number o place (at .answer);
+            room = tests .0;
             exists = at .exists;
-            runs = can-runs t r o (at .exists) .0 (next-can t r number o place (at .answer));
+            runs = can-runs t r o (at .exists) .0 (tests .1);
             stores = omega arith;
             met = omega arith;
           },
-          next-place t r number o place (at .answer),
+          tests .3,
         ),
     λ h.
         let step = h .2 in

@@ -7,8 +7,7 @@ use mathlib.Core.Bool.{Bool, true, false, cond, _||_, false≢true}
 use native.Mathlib.Omega.{arith}
 use lib.Dec.{leb, ltb, eqb}
 use lib.ListN.{getD}
-use Rattle.refusals.specs.declared.Refusal.the-variants.{NoSuchOperator, MayNotRun, NotTheNext, OtherOperator, RunFull, NotARun, BeyondQuota}
-use Rattle.meaning.specs.Limits.{mostSteps}
+use Rattle.refusals.specs.declared.Refusal.the-variants.{NoSuchOperator, NotTheNext, OtherOperator, NotARun}
 use Rattle.scan.specs.declared.Found.{Found}
 use Rattle.scan.specs.declared.Found.the-variants.{Clean, Fault}
 use Rattle.scan.specs.Scan.{tablesFault}
@@ -18,9 +17,10 @@ use Rattle.tables.specs.Layout.{Tables}
 use Rattle.tables.specs.Task.{taskOf}
 use Rattle.ledger.specs.declared.Run.{Run}
 use Rattle.ledger.specs.declared.Answer.{Answer}
-use Rattle.ledger.specs.declared.Answer.the-variants.{Accepted, Repeated, Refused}
-use Rattle.ledger.specs.Ledger.{canRun, withinQuota, isRun, oldStep, nextStep, offerJudged, answered, offered}
+use Rattle.ledger.specs.declared.Answer.the-variants.{Repeated, Refused}
+use Rattle.ledger.specs.Ledger.{isRun, oldStep, nextStep, offerJudged, answered, offered}
 use Rattle.ledger.specs.History.{GivenByStartAndLog, Sized}
+use Rattle.ledger.proofs.Answers.{next-cases}
 use Rattle.ledger.proofs.Accepted.{told, tables-other, answered-fault, answered-not-a-run, answered-judged}
 use Rattle.ledger.proofs.Sound.{given-told, run-exactly}
 use Rattle.ledger.proofs.Told.{offer-told}
@@ -41,12 +41,8 @@ module _ (t : Tables) (r : Run) (number o : ℕ) where
   old-other = either (eqb (getD (r .log) (number - 1) 0) o) Repeated (Refused (OtherOperator number)) (λ e. omega arith) (λ e. omega arith)
 
   next-other : Other (nextStep (t .counts) (t .facts) r number o)
-  unfolding nextStep
   next-other =
-      either (leb mostSteps (r .len)) (Refused (RunFull number)) _ (λ e. omega arith)
-      (either (canRun (t .counts) (t .facts) (r .now) o) _ (Refused (MayNotRun number))
-      (either (withinQuota (t .counts) (t .facts) (r .columns) o) Accepted (Refused (BeyondQuota number)) (λ e. omega arith) (λ e. omega arith))
-      (λ e. omega arith))
+      next-cases (t .counts) (t .facts) r number o Other (λ g e. omega arith) (λ l p e. omega arith) (λ l p q e. omega arith) (λ l p q e. omega arith)
 
   judged-other : Other (offerJudged (t .counts) (t .facts) r number o)
   unfolding offerJudged

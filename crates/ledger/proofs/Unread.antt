@@ -7,7 +7,7 @@ use mathlib.Core.List.{List, [], _∷_}
 use lib.Dec.{leb, ltb, eqb}
 use lib.ListN.{getD, set, take, drop, replicate}
 use borrow.Author.Tests.{ltb-true}
-use Rattle.refusals.specs.declared.Refusal.the-variants.{NoSuchOperator, NotTheNext, RunFull, NotARun, BeyondQuota}
+use Rattle.refusals.specs.declared.Refusal.the-variants.{NoSuchOperator, NotTheNext, NotARun}
 use Rattle.meaning.specs.Limits.{mostVars, mostSteps}
 use Rattle.meaning.specs.Sas.{put}
 use Rattle.meaning.specs.Columns.{storedTests}
@@ -29,7 +29,7 @@ use Rattle.ledger.specs.declared.Answer.the-variants.{Accepted, Repeated
 use Rattle.ledger.specs.Ledger.{allColumns, bookedAt, booked, atStart, onward, standing, fresh, advanced, canRun, withinQuota, canFollow, replayed, given, startAt, startsAt}
 use Rattle.ledger.specs.Ledger.{startIn, zeros, alike, isRun}
 use Rattle.ledger.specs.Ledger.{oldStep, nextStep, offerJudged, refusedOr, answered, moved, offered, started, begun}
-use Rattle.ledger.proofs.Answers.{within-is}
+use Rattle.ledger.proofs.Answers.{within-is, next-full, next-not, next-beyond, next-go, next-cases}
 use Rattle.ledger.proofs.Runs.{advanced-stands, can-exists, follow-exists}
 use Rattle.ledger.proofs.Accepted.{accepted-had}
 
@@ -114,13 +114,14 @@ module _ (t u : Tables) (E : SameTask (taskOf t) (taskOf u)) where
       (start-alike (r .start)) (replayed-alike (take (r .len) (r .log)) (atStart (r .start)))
 
   next-alike : (r : Run) (number o : ℕ) → nextStep (t .counts) (t .facts) r number o ≡ nextStep (u .counts) (u .facts) r number o
-  unfolding nextStep
   next-alike r number o =
-      ap (cond (leb mostSteps (r .len)) (Refused (RunFull number)))
-      (cond-alike _ _ _ _ _ (can-alike (r .now) o)
-      (λ e.
-      ap (λ (b : Bool). cond b Accepted (Refused (BeyondQuota number)))
-      (within-alike (r .columns) o (can-exists (t .counts) (t .facts) (r .now) o e))))
+      let can = sym (can-alike (r .now) o) in
+      let within : canRun (t .counts) (t .facts) (r .now) o ≡ true → _ =
+      λ p. sym (within-alike (r .columns) o (can-exists (t .counts) (t .facts) (r .now) o p)) in
+      next-cases (t .counts) (t .facts) r number o (λ x. x ≡ nextStep (u .counts) (u .facts) r number o) (next-full (u .counts) (u .facts) r number o)
+      (λ l p. next-not (u .counts) (u .facts) r number o l (can ∙ p))
+      (λ l p q. next-beyond (u .counts) (u .facts) r number o l (can ∙ p) (within p ∙ q))
+      (λ l p q. next-go (u .counts) (u .facts) r number o l (can ∙ p) (within p ∙ q))
 
   judged-alike : (r : Run) (number o : ℕ) → offerJudged (t .counts) (t .facts) r number o ≡ offerJudged (u .counts) (u .facts) r number o
   unfolding offerJudged
