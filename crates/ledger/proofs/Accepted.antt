@@ -1,47 +1,67 @@
 -- What an answer follows from, and what an accepted offer had. Assumes nothing.
-use Prim.Native.Nat.{ℕ, _+_, _-_, _<_}
-use mathlib.Core.Path.{_≡_, refl, sym, _∙_}
+use Prim.Native.Nat.{ℕ, _+_, _-_, _≤_, _<_}
+use mathlib.Core.Path.{_≡_, refl, ap, sym, _∙_}
+use mathlib.Core.Logic.{inl, inr}
 use mathlib.Core.Bool.{Bool, true, false, _||_, cond, false≢true}
 use native.Mathlib.Omega.{arith}
 use lib.Dec.{ltb, leb, eqb}
 use lib.ListN.{getD}
 use borrow.Author.Tests.{leb-false, ltb-false}
 use Rattle.refusals.specs.declared.Refusal.{Refusal}
-use Rattle.refusals.specs.declared.Refusal.the-variants.{NoSuchOperator, MayNotRun, NotTheNext, OtherOperator, RunFull, NotARun}
+use Rattle.refusals.specs.declared.Refusal.the-variants.{NoSuchOperator, MayNotRun, NotTheNext, OtherOperator, RunFull, NotARun, BeyondQuota}
+use Rattle.refusals.specs.Listed.{numberOf}
 use Rattle.meaning.specs.Limits.{mostSteps}
 use Rattle.scan.specs.declared.Found.{Found}
 use Rattle.scan.specs.declared.Found.the-variants.{Clean, Fault}
 use Rattle.scan.specs.Scan.{tablesFault}
+use Rattle.scan.proofs.Numbers.{OfTables, tables-refused}
 use Rattle.tables.specs.Layout.{Tables}
-use Rattle.meaning.proofs.Facts.{by-cases, by-order}
 use Rattle.ledger.specs.declared.Run.{Run}
 use Rattle.ledger.specs.declared.Answer.{Answer}
 use Rattle.ledger.specs.declared.Answer.the-variants.{Accepted, Repeated, Refused}
-use Rattle.ledger.specs.Ledger.{canRun, isRun, oldStep, nextStep, offerJudged, refusedOr, answered, advanced, moved, offered}
-use Rattle.ledger.proofs.Answers.{next-full, next-not}
+use Rattle.ledger.specs.Ledger.{canRun, withinQuota, isRun, oldStep, nextStep, offerJudged, refusedOr, answered, advanced, moved, offered}
+use Rattle.ledger.proofs.Answers.{next-cases, judged-next}
 
--- ---- an accepting answer passed by every refusal before it
+-- ---- answers told apart by a number
+
+-- accepted is 0, a repeat 1, and a refusal the number on the list, which is more for all that an offer is refused with
+abbrev pub told : Answer → ℕ
+told Accepted = 0
+told Repeated = 1
+told (Refused f) = numberOf f
 
 pub not-refused : (f : Refusal) → Refused f ≡ Accepted → ⊥
 not-refused f e = let z : _≡_ {A = ℕ} 0 1 = cc in omega arith
 
-no-fault : (x : Found) (a : Answer) → refusedOr x a ≡ Accepted → (x ≡ Clean) × (a ≡ Accepted)
-no-fault Clean a e = (refl, e)
-no-fault (Fault f) a e = absurd (not-refused f e)
+-- LATE: accepted, or refused with a number above all that tables, runs and old numbers get: only the rules of the next number answer so
+abbrev pub Late : Answer → Type 0
+Late w = 1 ≤ told w → 18 < told w
 
-held : (b : Bool) (a : Answer) (f : Refusal) → cond b a (Refused f) ≡ Accepted → (b ≡ true) × (a ≡ Accepted)
-held true a f e = (refl, e)
-held false a f e = absurd (not-refused f e)
+apart : (x w : Answer) → Late w → 1 ≤ told x → told x ≤ 18 → x ≡ w → ⊥
+apart x w late low high e = let h = ap told e in let g : 18 < told w = late (omega arith) in omega arith
 
-passed : (b : Bool) (f : Refusal) (a : Answer) → cond b (Refused f) a ≡ Accepted → (b ≡ false) × (a ≡ Accepted)
-passed true f a e = absurd (not-refused f e)
-passed false f a e = (refl, e)
+-- what tables are refused with is neither late nor 17
+pub tables-other : (f : Refusal) → OfTables f → (1 ≤ numberOf f) × (numberOf f ≤ 18) × (numberOf f ≡ 17 → ⊥)
+tables-other f (inl e) = (omega arith, omega arith, λ q. omega arith)
+tables-other f (inr (inl e)) = (omega arith, omega arith, λ q. omega arith)
+tables-other f (inr (inr (inl e))) = (omega arith, omega arith, λ q. omega arith)
+tables-other f (inr (inr (inr (inl e)))) = (omega arith, omega arith, λ q. omega arith)
+tables-other f (inr (inr (inr (inr (inl e))))) = (omega arith, omega arith, λ q. omega arith)
+tables-other f (inr (inr (inr (inr (inr e))))) = (omega arith, omega arith, λ q. omega arith)
 
-not-old : (same old : Bool) (f : Refusal) (a : Answer) → cond old (cond same Repeated (Refused f)) a ≡ Accepted
-    → (old ≡ false) × (a ≡ Accepted)
-not-old true true f a e = absurd (let z : _≡_ {A = ℕ} 0 1 = cc in omega arith)
-not-old false true f a e = absurd (not-refused f e)
-not-old same false f a e = (refl, e)
+-- ---- a late answer passed by every rule before it
+
+no-fault : (x : Found) (a w : Answer) → ((f : Refusal) → x ≡ Fault f → Refused f ≡ w → ⊥) → refusedOr x a ≡ w → (x ≡ Clean) × (a ≡ w)
+no-fault Clean a w not e = (refl, e)
+no-fault (Fault f) a w not e = absurd (not f refl e)
+
+held : (b : Bool) (a x w : Answer) → (x ≡ w → ⊥) → cond b a x ≡ w → (b ≡ true) × (a ≡ w)
+held true a x w not e = (refl, e)
+held false a x w not e = absurd (not e)
+
+passed : (b : Bool) (x a w : Answer) → (x ≡ w → ⊥) → cond b x a ≡ w → (b ≡ false) × (a ≡ w)
+passed true x a w not e = absurd (not e)
+passed false x a w not e = (refl, e)
 
 neither : (a b : Bool) → (a || b) ≡ false → b ≡ false
 neither true b e = absurd (false≢true (sym e))
@@ -60,30 +80,36 @@ module _ (t : Tables) (r : Run) (number o : ℕ) where
   unfolding answered
   answered-judged p q = rw (p, q) refl
 
-  pub record Had : Type 0 where
+  -- what a late answer had, and what the next number was answered
+  pub record AtNext (w : Answer) : Type 0 where
     pub clean : tablesFault t ≡ Clean
     pub run : isRun t r ≡ true
     pub exists : o < t .counts .ops
     pub next : number ≡ r .len + 1
-    pub room : r .len < mostSteps
-    pub can : canRun (t .counts) (t .facts) (r .now) o ≡ true
+    pub answer : nextStep (t .counts) (t .facts) r number o ≡ w
 
-  pub accepted-had : answered t r number o ≡ Accepted → Had
-  unfolding answered offerJudged oldStep
-  accepted-had e =
+  old-apart : (w : Answer) → Late w → oldStep r number o ≡ w → ⊥
+  unfolding oldStep
+  old-apart w late e =
+      let other = held (eqb (getD (r .log) (number - 1) 0) o) Repeated (Refused (OtherOperator number)) w
+      (apart (Refused (OtherOperator number)) w late (omega arith) (omega arith)) e in
+      apart Repeated w late (omega arith) (omega arith) (other .1)
+
+  pub late-next : (w : Answer) → Late w → answered t r number o ≡ w → AtNext w
+  unfolding answered offerJudged
+  late-next w late e =
       let judged = offerJudged (t .counts) (t .facts) r number o in
       let next = nextStep (t .counts) (t .facts) r number o in
-      let same = eqb (getD (r .log) (number - 1) 0) o in
       let old = cond (leb number (r .len)) (oldStep r number o) next in
       let beyond = eqb number 0 || ltb (r .len + 1) number in
-      let found = no-fault (tablesFault t) (cond (isRun t r) judged (Refused NotARun)) e in
-      let run = held (isRun t r) judged NotARun (found .1) in
-      let exists = passed (leb (t .counts .ops) o) (NoSuchOperator number) (cond beyond (Refused (NotTheNext number)) old) (run .1) in
-      let near = passed beyond (NotTheNext number) old (exists .1) in
-      let new = not-old same (leb number (r .len)) (OtherOperator number) next (near .1) in
-      let room : r .len < mostSteps =
-      by-order (r .len) mostSteps (λ l. l)
-      (λ g. absurd (not-refused (RunFull number) (next-full (t .counts) (t .facts) r number o g ∙ new .1))) in
+      let early : (f : Refusal) → (1 ≤ numberOf f) × (numberOf f ≤ 18) → Refused f ≡ w → ⊥ = λ f h. apart (Refused f) w late (h .0) (h .1) in
+      let found = no-fault (tablesFault t) (cond (isRun t r) judged (Refused NotARun)) w (λ f p. let n = tables-other f (tables-refused t f p) in early f (n .0, n .1)) e in
+      let run = held (isRun t r) judged (Refused NotARun) w (early NotARun (omega arith, omega arith)) (found .1) in
+      let exists =
+      passed (leb (t .counts .ops) o) (Refused (NoSuchOperator number)) (cond beyond (Refused (NotTheNext number)) old) w
+      (early (NoSuchOperator number) (omega arith, omega arith)) (run .1) in
+      let near = passed beyond (Refused (NotTheNext number)) old w (early (NotTheNext number) (omega arith, omega arith)) (exists .1) in
+      let new = passed (leb number (r .len)) (oldStep r number o) next w (old-apart w late) (near .1) in
       record {
         clean = found .0;
         run = run .0;
@@ -94,10 +120,45 @@ module _ (t : Tables) (r : Run) (number o : ℕ) where
               ltb-false (r .len + 1) number (neither (eqb number 0) (ltb (r .len + 1) number) (near .0)),
               leb-false number (r .len) (new .0),
             );
-        room = room;
-        can =
-            by-cases (canRun (t .counts) (t .facts) (r .now) o) (λ p. p)
-            (λ p. absurd (not-refused (MayNotRun number) (next-not (t .counts) (t .facts) r number o room p ∙ new .1)));
+        answer = new .1;
+      }
+
+  -- the other way
+  pub next-late : (w : Answer) → AtNext w → w ≡ answered t r number o
+  next-late w at =
+      judged-next (t .counts) (t .facts) r number o (at .exists) (λ z. omega (arith, at .next)) w (omega (arith, at .next)) (omega (arith, at .next))
+      (sym (at .answer))
+      ∙ answered-judged (at .clean) (at .run)
+
+  -- ---- what an accepted offer had
+
+  pub record Had : Type 0 where
+    pub clean : tablesFault t ≡ Clean
+    pub run : isRun t r ≡ true
+    pub exists : o < t .counts .ops
+    pub next : number ≡ r .len + 1
+    pub room : r .len < mostSteps
+    pub can : canRun (t .counts) (t .facts) (r .now) o ≡ true
+    pub keeps : withinQuota (t .counts) (t .facts) (r .columns) o ≡ true
+
+  pub accepted-had : answered t r number o ≡ Accepted → Had
+  accepted-had e =
+      let at = late-next Accepted (λ h. omega arith) e in
+      let tests =
+      next-cases (t .counts) (t .facts) r number o
+      (λ x.
+      x ≡ Accepted
+      → (r .len < mostSteps) × (canRun (t .counts) (t .facts) (r .now) o ≡ true) × (withinQuota (t .counts) (t .facts) (r .columns) o ≡ true))
+      (λ g e. absurd (not-refused (RunFull number) e)) (λ l p e. absurd (not-refused (MayNotRun number) e))
+      (λ l p q e. absurd (not-refused (BeyondQuota number) e)) (λ l p q e. (l, p, q)) (at .answer) in
+      record {
+        clean = at .clean;
+        run = at .run;
+        exists = at .exists;
+        next = at .next;
+        room = tests .0;
+        can = tests .1;
+        keeps = tests .2;
       }
 
   -- ---- the run that an offer hands back

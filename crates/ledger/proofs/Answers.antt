@@ -1,21 +1,27 @@
 -- Each case of an answer, and of a test, from the facts that a way through the code has. Assumes nothing.
 use Prim.Native.Nat.{ℕ, _+_, _-_, _≤_, _<_}
-use mathlib.Core.Path.{_≡_, refl}
+use mathlib.Core.Path.{_≡_, refl, subst}
 use mathlib.Core.List.{List}
 use mathlib.Core.Bool.{Bool, true, false}
 use native.Mathlib.Omega.{arith}
 use lib.Dec.{ltb, eqb}
 use lib.ListN.{getD}
 use borrow.Author.Tests.{lt-ltb, le-ltb, le-leb, lt-leb, eq-eqb, ne-eqb}
-use Rattle.refusals.specs.declared.Refusal.the-variants.{NoSuchOperator, MayNotRun, NotTheNext, OtherOperator, RunFull}
+use Rattle.refusals.specs.declared.Refusal.the-variants.{NoSuchOperator, MayNotRun, NotTheNext, OtherOperator, RunFull, BeyondQuota}
+use Rattle.meaning.specs.Columns.{storedTests}
+use Rattle.meaning.specs.Quota.{mayStore}
+use Rattle.meaning.proofs.Facts.{and-left, and-right, by-cases, by-order}
 use Rattle.tables.specs.declared.Counts.{Counts}
-use Rattle.tables.specs.Layout.{domAt}
+use Rattle.tables.specs.Layout.{Tables, domAt}
+use Rattle.tables.specs.Task.{taskOf}
 use Rattle.tables.specs.Steps.{mayRun}
+use Rattle.tables.proofs.Meant.{can-store-is}
 use Rattle.ledger.specs.declared.Run.{Run}
+use Rattle.ledger.specs.declared.replay.Standing.{Standing}
 use Rattle.ledger.specs.declared.Answer.{Answer}
 use Rattle.ledger.specs.declared.Answer.the-variants.{Accepted, Repeated, Refused}
 use Rattle.meaning.specs.Limits.{mostSteps}
-use Rattle.ledger.specs.Ledger.{canRun, startAt, oldStep, nextStep, offerJudged}
+use Rattle.ledger.specs.Ledger.{canRun, withinQuota, canFollow, startAt, oldStep, nextStep, offerJudged}
 
 -- ---- a value of a start
 
@@ -39,6 +45,30 @@ module _ (c : Counts) (facts s : List ℕ) (o : ℕ) where
   unfolding canRun
   can-may x h e = rw (lt-ltb o (c .ops) h) e
 
+-- ---- it keeps the quota, and can be the next step
+
+-- THE LAW OF THE QUOTA: the test is the task's, after as many stored tests as their column has
+pub within-is : (t : Tables) (columns : List ℕ) (o : ℕ) → withinQuota (t .counts) (t .facts) columns o ≡ mayStore (taskOf t) (getD columns storedTests 0) o
+unfolding withinQuota
+within-is t columns o = can-store-is t (getD columns storedTests 0) o
+
+module _ (c : Counts) (facts : List ℕ) (x : Standing) (o : ℕ) where
+  pub follow-stuck : canRun c facts (x .now) o ≡ false → false ≡ canFollow c facts x o
+  unfolding canFollow
+  follow-stuck e = rw e refl
+
+  -- of what can run the quota decides
+  pub follow-quota : (b : Bool) → canRun c facts (x .now) o ≡ true → b ≡ withinQuota c facts (x .columns) o → b ≡ canFollow c facts x o
+  unfolding canFollow
+  follow-quota b e q = rw e q
+
+  pub follow-parts : canFollow c facts x o ≡ true → (canRun c facts (x .now) o ≡ true) × (withinQuota c facts (x .columns) o ≡ true)
+  unfolding canFollow
+  follow-parts p =
+      let can = canRun c facts (x .now) o in
+      let within = withinQuota c facts (x .columns) o in
+      (and-left can within p, and-right can within p)
+
 -- ---- an old number, the next number
 
 module _ (r : Run) (number o : ℕ) where
@@ -51,17 +81,39 @@ module _ (r : Run) (number o : ℕ) where
   old-other e = rw (ne-eqb (getD (r .log) (number - 1) 0) o e) refl
 
 module _ (c : Counts) (facts : List ℕ) (r : Run) (number o : ℕ) where
+  -- 15 whatever else; then 12, whatever is stored; then 19
   pub next-full : mostSteps ≤ r .len → Refused (RunFull number) ≡ nextStep c facts r number o
   unfolding nextStep
   next-full h = rw (le-leb mostSteps (r .len) h) refl
 
-  pub next-go : r .len < mostSteps → canRun c facts (r .now) o ≡ true → Accepted ≡ nextStep c facts r number o
-  unfolding nextStep
-  next-go h e = rw (lt-leb mostSteps (r .len) h, e) refl
-
   pub next-not : r .len < mostSteps → canRun c facts (r .now) o ≡ false → Refused (MayNotRun number) ≡ nextStep c facts r number o
   unfolding nextStep
   next-not h e = rw (lt-leb mostSteps (r .len) h, e) refl
+
+  pub next-beyond : r .len < mostSteps → canRun c facts (r .now) o ≡ true → withinQuota c facts (r .columns) o ≡ false
+      → Refused (BeyondQuota number) ≡ nextStep c facts r number o
+  unfolding nextStep
+  next-beyond h e q = rw (lt-leb mostSteps (r .len) h, e, q) refl
+
+  pub next-go : r .len < mostSteps → canRun c facts (r .now) o ≡ true → withinQuota c facts (r .columns) o ≡ true
+      → Accepted ≡ nextStep c facts r number o
+  unfolding nextStep
+  next-go h e q = rw (lt-leb mostSteps (r .len) h, e, q) refl
+
+  -- these are all: what holds of each holds of the answer
+  pub next-cases : (P : Answer → Type 0) → (mostSteps ≤ r .len → P (Refused (RunFull number)))
+      → (r .len < mostSteps → canRun c facts (r .now) o ≡ false → P (Refused (MayNotRun number)))
+      → (r .len < mostSteps → canRun c facts (r .now) o ≡ true → withinQuota c facts (r .columns) o ≡ false → P (Refused (BeyondQuota number)))
+      → (r .len < mostSteps → canRun c facts (r .now) o ≡ true → withinQuota c facts (r .columns) o ≡ true → P Accepted)
+      → P (nextStep c facts r number o)
+  next-cases P full stuck beyond go =
+      by-order (r .len) mostSteps
+      (λ l.
+      by-cases (canRun c facts (r .now) o)
+      (λ p.
+      by-cases (withinQuota c facts (r .columns) o) (λ q. subst P (next-go l p q) (go l p q)) (λ q. subst P (next-beyond l p q) (beyond l p q)))
+      (λ p. subst P (next-not l p) (stuck l p)))
+      (λ g. subst P (next-full g) (full g))
 
   -- ---- the offer itself
 

@@ -17,10 +17,11 @@ use Rattle.tables.specs.Steps.{copied}
 use Rattle.ledger.specs.declared.Run.{Run}
 use Rattle.ledger.specs.declared.Answer.{Answer}
 use Rattle.ledger.specs.declared.Answer.the-variants.{Accepted, Repeated, Refused}
-use Rattle.ledger.specs.Ledger.{fresh, advanced, answered, offered, started, begun}
+use Rattle.ledger.specs.Ledger.{fresh, advanced, answered, moved, offered, started, begun}
+use Rattle.ledger.specs.History.{Sized}
 use Rattle.ledger.specs.Inside.Bounded.{Bounded}
 use Rattle.ledger.proofs.Accepted.{not-refused, accepted-had}
-use Rattle.ledger.proofs.Runs.{run-bounded}
+use Rattle.ledger.proofs.Runs.{advanced-sized, run-bounded}
 
 -- ---- an offer
 
@@ -36,6 +37,16 @@ module _ (t : Tables) (r : Run) (number o : ℕ) (x : Answer) (e : x ≡ answere
   pub offered-refused : (f : Refusal) → x ≡ Refused f → record { run = r; answer = x } ≡ offered t r number o
   unfolding offered
   offered-refused f p = rw (← e, p) refl
+
+-- the lists keep their lengths
+pub offered-sized : (t : Tables) (r : Run) → Sized r → (number o : ℕ) → Sized (offered t r number o .run)
+unfolding offered
+offered-sized t r sized number o = moved-sized (answered t r number o)
+  where
+    moved-sized : (a : Answer) → Sized (moved t r o a)
+    moved-sized Accepted = advanced-sized t r o sized
+    moved-sized Repeated = sized
+    moved-sized (Refused f) = sized
 
 -- ALL THAT A STEP ASKS, an accepted offer had
 pub step-asks : (t : Tables) (r : Run) (number o : ℕ) → answered t r number o ≡ Accepted

@@ -8,11 +8,11 @@ use lib.Seq.{set-getD}
 use Rattle.meaning.specs.Limits.{mostSteps}
 use Rattle.meaning.specs.Split.{Task}
 use Rattle.meaning.proofs.Facts.{by-order}
-use Rattle.meaning.proofs.Columns.{gain-unused, gain-rest}
+use Rattle.meaning.proofs.Columns.{gain-unused, gain-rest, gain-stored}
 use Rattle.tables.specs.Steps.{overwritten}
 use Rattle.tables.proofs.Laws.{filled-next, filled-still, filled-later, filled-at, length-filled}
 use Rattle.ledger.specs.Ledger.{allColumns, bookedAt, booked, atStart}
-use Rattle.meaning.specs.Columns.{unshared, rest, gain}
+use Rattle.meaning.specs.Columns.{unshared, storedTests, rest, gain}
 use Rattle.ledger.specs.Inside.Bounded.{Bounded, HasRoom}
 
 pub zeros-at : (n v : ℕ) → _≡_ {A = ℕ} (getD (replicate n 0) v 0) 0
@@ -50,18 +50,17 @@ module _ (T : Task) where
   unfolding booked
   booked-at columns o c l h = filled-at (bookedAt T columns o) columns allColumns c h (omega arith)
 
-  -- the columns place by place: a turn at a column, those of no map passed by, and the end
+  -- the columns place by place: a turn at a column; those of no map passed by and the unshared one; and the end, the stored tests
   pub booked-turn : (columns t : List ℕ) (o c x : ℕ) → t ≡ overwritten (bookedAt T columns o) columns c → x ≡ gain T c o
       → set t c (getD t c 0 + x) ≡ overwritten (bookedAt T columns o) columns (c + 1)
   booked-turn columns t o c x p q =
       filled-next (bookedAt T columns o) columns t c (getD t c 0 + x) p
       (ap₂ _+_ (filled-still (bookedAt T columns o) columns t c p) q)
 
-  pub booked-end : (columns t : List ℕ) (o x : ℕ) → T .maps ≤ unshared → t ≡ overwritten (bookedAt T columns o) columns (T .maps)
+  pub booked-rest : (columns t : List ℕ) (o x : ℕ) → T .maps ≤ unshared → t ≡ overwritten (bookedAt T columns o) columns (T .maps)
       → x ≡ rest T o
-      → set t unshared (getD t unshared 0 + x) ≡ booked T columns o
-  unfolding booked
-  booked-end columns t o x h p q =
+      → set t unshared (getD t unshared 0 + x) ≡ overwritten (bookedAt T columns o) columns storedTests
+  booked-rest columns t o x h p q =
       booked-turn columns t o unshared x
       (p
       ∙ sym
@@ -69,10 +68,15 @@ module _ (T : Task) where
       (λ c a b. omega (arith, gain-unused T c o a b))))
       (q ∙ sym (gain-rest T unshared o h refl))
 
-  pub unshared-still : (columns t : List ℕ) (o m : ℕ) → m ≤ unshared → t ≡ overwritten (bookedAt T columns o) columns m
-      → getD t unshared 0 ≡ getD columns unshared 0
-  unshared-still columns t o m h p =
-      ap (λ (l : List ℕ). getD l unshared 0) p ∙ filled-later (bookedAt T columns o) columns m unshared h
+  pub booked-end : (columns t : List ℕ) (o x : ℕ) → T .maps ≤ unshared → t ≡ overwritten (bookedAt T columns o) columns storedTests
+      → x ≡ T .mark o
+      → set t storedTests (getD t storedTests 0 + x) ≡ booked T columns o
+  unfolding booked
+  booked-end columns t o x h p q = booked-turn columns t o storedTests x p (q ∙ sym (gain-stored T storedTests o (omega arith) refl))
+
+  -- a column that isn't reached yet
+  pub column-still : (columns t : List ℕ) (o m c : ℕ) → m ≤ c → t ≡ overwritten (bookedAt T columns o) columns m → getD t c 0 ≡ getD columns c 0
+  column-still columns t o m c h p = ap (λ (l : List ℕ). getD l c 0) p ∙ filled-later (bookedAt T columns o) columns m c h
 
   -- never more than that, whatever the list
   pub booked-most : (columns : List ℕ) (o c : ℕ) → c < allColumns → getD (booked T columns o) c 0 ≤ getD columns c 0 + gain T c o

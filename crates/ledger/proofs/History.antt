@@ -7,7 +7,9 @@ use native.Mathlib.Omega.{arith}
 use lib.ListN.{getD}
 use Rattle.meaning.specs.Sas.{State, IsState, Runs, end, paid}
 use Rattle.meaning.specs.Split.{Task, Valid, sum}
+use Rattle.meaning.specs.Quota.{stored}
 use Rattle.meaning.proofs.Bounds.{end-state}
+use Rattle.meaning.proofs.Quota.{paid-parts, back-keeps}
 use Rattle.scan.specs.declared.Found.the-variants.{Clean}
 use Rattle.scan.specs.Scan.{tablesFault}
 use Rattle.scan.proofs.Validity.{clean-valid}
@@ -18,12 +20,12 @@ use Rattle.ledger.specs.declared.Run.{Run}
 use Rattle.ledger.specs.declared.Answer.the-variants.{Accepted}
 use Rattle.ledger.specs.Ledger.{fresh, offered, begun}
 use Rattle.meaning.specs.Columns.{costColumns, unshared, rest, gain}
-use Rattle.ledger.specs.History.{Offer, reallyRuns, added, reallyRun, ran, runAfter, Tells, Between, Sized}
+use Rattle.ledger.specs.History.{Offer, reallyRuns, added, reallyRun, ran, runAfter, Tells, Between, Sized, storedIn}
 use Rattle.meaning.proofs.Columns.{sum-same, gain-map, gain-rest, gain-all}
-use Rattle.ledger.proofs.Sequences.{end-append, end-same, runs-later, runs-same, paid-append, paid-same, paid-sum}
+use Rattle.ledger.proofs.Sequences.{end-append, end-same, runs-later, runs-same, paid-same, paid-sum}
 use Rattle.ledger.proofs.Entries.{Began, accepted-began}
 use Rattle.ledger.proofs.Begun.{startOf}
-use Rattle.ledger.proofs.Told.{Told, fresh-told, offer-told}
+use Rattle.ledger.proofs.Told.{Told, tells-stored, fresh-told, offer-told}
 
 -- what steps that run add to a map's column are the map's shares
 pub gains-shares : (T : Task) (s : State) (os : List ℕ) → Runs (T .sas) os s → (m : ℕ) → m < T .maps → paid (gain T m) os ≡ paid (T .share m) os
@@ -57,12 +59,13 @@ tells-between T s done os r q before after =
     record {
       legal =
           runs-same (T .sas) os (end (T .sas) done s) (stateOf (r .now)) back (runs-later (T .sas) done os s (after .legal));
+      keeps = back-keeps T done os (after .keeps);
       now =
           λ v l.
           after .now v l
           ∙ ap (λ (f : State). f v) (end-append (T .sas) done os s)
           ∙ end-same (T .sas) os (end (T .sas) done s) (stateOf (r .now)) back v l;
-      column = λ c h. omega (arith, before .column c h, after .column c h, paid-append (gain T c) done os);
+      column = λ c h. omega (arith, before .column c h, after .column c h, paid-parts (gain T c) done os);
     }
 
 -- ---- after any offers
@@ -74,21 +77,21 @@ ran-append t r (x ∷ xs) ys = ran-append t (offered t r (x .number) (x .op) .ru
 
 module _ (t : Tables) (s : List ℕ) (clean : tablesFault t ≡ Clean) (state : IsState (sasOf t) (stateOf s)) where
   pub ran-told : (xs : List Offer) (done : List ℕ) (q : Run) → Told t s done q
-      → Told t s (done ++ added (sasOf t) (stateOf s) done xs) (ran t q xs)
+      → Told t s (done ++ added (taskOf t) (stateOf s) done xs) (ran t q xs)
   unfolding ran added
   ran-told [] done q told = rw (append-nil done) told
   ran-told (x ∷ xs) done q told =
       let next = offered t q (x .number) (x .op) .run in
       let on = offer-told t s clean state done q told x in
-      by-cases (reallyRuns (sasOf t) (stateOf s) done x)
+      by-cases (reallyRuns (taskOf t) (stateOf s) done x)
       (λ p.
       rw p
       (subst (λ (l : List ℕ). Told t s l (ran t next xs))
-      (append-assoc done (x .op ∷ []) (added (sasOf t) (stateOf s) (done ++ (x .op ∷ [])) xs))
+      (append-assoc done (x .op ∷ []) (added (taskOf t) (stateOf s) (done ++ (x .op ∷ [])) xs))
       (ran-told xs (done ++ (x .op ∷ [])) next (rw p at on))))
       (λ p. rw p (ran-told xs done next (rw p at on)))
 
-  fresh-ran : (xs : List Offer) → Told t s (reallyRun (sasOf t) (stateOf s) xs) (ran t (fresh (startOf t s)) xs)
+  fresh-ran : (xs : List Offer) → Told t s (reallyRun (taskOf t) (stateOf s) xs) (ran t (fresh (startOf t s)) xs)
   fresh-ran xs = ran-told xs [] (fresh (startOf t s)) (fresh-told t s clean state)
 
   -- of a run that tells steps: its state now is a state of the task ..
@@ -98,13 +101,13 @@ module _ (t : Tables) (s : List ℕ) (clean : tablesFault t ≡ Clean) (state : 
 
   -- .. and what further offers add runs from the earlier state to the later, and the columns grow by it
   pub told-between : (done : List ℕ) (q : Run) → Told t s done q → (xs ys : List Offer)
-      → Between (taskOf t) (added (sasOf t) (stateOf s) (done ++ added (sasOf t) (stateOf s) done xs) ys) (ran t q xs) (ran t q (xs ++ ys))
+      → Between (taskOf t) (added (taskOf t) (stateOf s) (done ++ added (taskOf t) (stateOf s) done xs) ys) (ran t q xs) (ran t q (xs ++ ys))
   told-between done q told xs ys =
       let earlier = ran t q xs in
-      let so-far = done ++ added (sasOf t) (stateOf s) done xs in
+      let so-far = done ++ added (taskOf t) (stateOf s) done xs in
       let on = ran-told xs done q told in
       rw (ran-append t q xs ys)
-      (tells-between (taskOf t) (stateOf s) so-far (added (sasOf t) (stateOf s) so-far ys) earlier (ran t earlier ys) (on .tells)
+      (tells-between (taskOf t) (stateOf s) so-far (added (taskOf t) (stateOf s) so-far ys) earlier (ran t earlier ys) (on .tells)
       (ran-told ys so-far earlier on .tells))
 
 -- ---- THE THEOREMS, of any accepted start and any offers, so at every moment
@@ -116,11 +119,11 @@ module _ (t : Tables) (s : List ℕ) (accepted : begun t s .answer ≡ Accepted)
   valid : Valid (taskOf t)
   valid = clean-valid t (began .clean)
 
-  pub after-told : (xs : List Offer) → Told t s (reallyRun (sasOf t) (stateOf s) xs) (runAfter t s xs)
+  pub after-told : (xs : List Offer) → Told t s (reallyRun (taskOf t) (stateOf s) xs) (runAfter t s xs)
   after-told xs = rw (began .run) (fresh-ran t s (began .clean) (began .state) xs)
 
   -- the run tells the steps really run
-  pub history : (xs : List Offer) → Tells (taskOf t) (stateOf s) (reallyRun (sasOf t) (stateOf s) xs) (runAfter t s xs)
+  pub history : (xs : List Offer) → Tells (taskOf t) (stateOf s) (reallyRun (taskOf t) (stateOf s) xs) (runAfter t s xs)
   history xs = after-told xs .tells
 
   -- it is as its type has it
@@ -129,27 +132,31 @@ module _ (t : Tables) (s : List ℕ) (accepted : begun t s .answer ≡ Accepted)
 
   -- the state now is a state of the task
   pub now-state : (xs : List Offer) → IsState (sasOf t) (stateOf (runAfter t s xs .now))
-  now-state xs = told-state t s (began .clean) (began .state) (reallyRun (sasOf t) (stateOf s) xs) (runAfter t s xs) (after-told xs)
+  now-state xs = told-state t s (began .clean) (began .state) (reallyRun (taskOf t) (stateOf s) xs) (runAfter t s xs) (after-told xs)
 
   -- each map was paid its shares of them
   pub map-paid : (xs : List Offer) (m : ℕ) → m < t .counts .maps
-      → getD (runAfter t s xs .columns) m 0 ≡ paid (taskOf t .share m) (reallyRun (sasOf t) (stateOf s) xs)
-  map-paid xs = tells-map (taskOf t) valid (stateOf s) (reallyRun (sasOf t) (stateOf s) xs) (runAfter t s xs) (history xs)
+      → getD (runAfter t s xs .columns) m 0 ≡ paid (taskOf t .share m) (reallyRun (taskOf t) (stateOf s) xs)
+  map-paid xs = tells-map (taskOf t) valid (stateOf s) (reallyRun (taskOf t) (stateOf s) xs) (runAfter t s xs) (history xs)
 
   -- the unshared column has their costs less their shares
   pub unshared-paid : (xs : List Offer)
-      → getD (runAfter t s xs .columns) unshared 0 ≡ paid (rest (taskOf t)) (reallyRun (sasOf t) (stateOf s) xs)
+      → getD (runAfter t s xs .columns) unshared 0 ≡ paid (rest (taskOf t)) (reallyRun (taskOf t) (stateOf s) xs)
   unshared-paid xs =
-      tells-unshared (taskOf t) valid (stateOf s) (reallyRun (sasOf t) (stateOf s) xs) (runAfter t s xs) (history xs)
+      tells-unshared (taskOf t) valid (stateOf s) (reallyRun (taskOf t) (stateOf s) xs) (runAfter t s xs) (history xs)
 
   -- the columns of the cost together are their costs
   pub all-paid : (xs : List Offer)
-      → sum (λ c. getD (runAfter t s xs .columns) c 0) costColumns ≡ paid (sasOf t .cost) (reallyRun (sasOf t) (stateOf s) xs)
-  all-paid xs = tells-all (taskOf t) valid (stateOf s) (reallyRun (sasOf t) (stateOf s) xs) (runAfter t s xs) (history xs)
+      → sum (λ c. getD (runAfter t s xs .columns) c 0) costColumns ≡ paid (sasOf t .cost) (reallyRun (taskOf t) (stateOf s) xs)
+  all-paid xs = tells-all (taskOf t) valid (stateOf s) (reallyRun (taskOf t) (stateOf s) xs) (runAfter t s xs) (history xs)
+
+  -- the column of the stored tests counts theirs, and is none of those
+  pub stored-told : (xs : List Offer) → storedIn (runAfter t s xs) ≡ stored (taskOf t) (reallyRun (taskOf t) (stateOf s) xs)
+  stored-told xs = tells-stored (taskOf t) valid (stateOf s) (reallyRun (taskOf t) (stateOf s) xs) (runAfter t s xs) (history xs)
 
   -- what further offers add runs from the earlier state to the later, and the columns grow by it
   pub between : (xs ys : List Offer)
-      → Between (taskOf t) (added (sasOf t) (stateOf s) (reallyRun (sasOf t) (stateOf s) xs) ys) (runAfter t s xs)
+      → Between (taskOf t) (added (taskOf t) (stateOf s) (reallyRun (taskOf t) (stateOf s) xs) ys) (runAfter t s xs)
       (runAfter t s (xs ++ ys))
   between xs ys =
       rw (began .run)

@@ -11,3 +11,5 @@ pub mod Sound
 pub mod Unread
 pub mod Seventeen
 pub mod Within
+pub mod Stored
+pub mod Nineteen

@@ -21,9 +21,10 @@ use Rattle.tables.proofs.Meant.{stepped-length}
 use Rattle.ledger.specs.declared.Run.{Run}
 use Rattle.ledger.specs.declared.replay.Standing.{Standing}
 use Rattle.ledger.specs.declared.replay.Tried.{Tried}
-use Rattle.ledger.specs.Ledger.{allColumns, booked, atStart, onward, standing, fresh, advanced, canRun, replayed, given, startIn, zeros, sameAt, sameTo, alike, isRun}
+use Rattle.ledger.specs.Ledger.{allColumns, booked, atStart, onward, standing, fresh, advanced, canRun, canFollow, replayed, given, startIn, zeros, sameAt, sameTo, alike, isRun}
 use Rattle.ledger.specs.History.{Sized}
 use Rattle.ledger.specs.Inside.Bounded.{Bounded}
+use Rattle.ledger.proofs.Answers.{follow-parts}
 use Rattle.ledger.proofs.Gains.{booked-length, booked-most, start-bounded}
 use Rattle.meaning.proofs.Columns.{gain-small}
 
@@ -147,13 +148,16 @@ pub can-exists : (c : Counts) (facts s : List ℕ) (o : ℕ) → canRun c facts 
 unfolding canRun
 can-exists c facts s o p = ltb-true o (c .ops) (and-left (ltb o (c .ops)) (mayRun c facts s o) p)
 
+pub follow-exists : (c : Counts) (facts : List ℕ) (x : Standing) (o : ℕ) → canFollow c facts x o ≡ true → o < c .ops
+follow-exists c facts x o p = can-exists c facts (x .now) o (follow-parts c facts x o p .0)
+
 module _ (t : Tables) where
-  pub replayed-yes : (x : Standing) (o : ℕ) (os : List ℕ) → canRun (t .counts) (t .facts) (x .now) o ≡ true
+  pub replayed-yes : (x : Standing) (o : ℕ) (os : List ℕ) → canFollow (t .counts) (t .facts) x o ≡ true
       → replayed t x (o ∷ os) ≡ replayed t (onward t x o) os
   unfolding replayed
   replayed-yes x o os p = rw (replayed, p) refl
 
-  pub replayed-no : (x : Standing) (o : ℕ) (os : List ℕ) → canRun (t .counts) (t .facts) (x .now) o ≡ false
+  pub replayed-no : (x : Standing) (o : ℕ) (os : List ℕ) → canFollow (t .counts) (t .facts) x o ≡ false
       → replayed t x (o ∷ os) ≡ record { ok = false; at = x }
   unfolding replayed
   replayed-no x o os p = rw (replayed, p) refl
@@ -172,7 +176,7 @@ module _ (t : Tables) where
         let g : i < length (take k log) = omega (arith, length-take k log) in
         rw (add-one, drop-cons (take k log) i 0, getD-take k log i 0 h) refl
 
-    pub given-next : (y : Standing) → i < k → canRun (t .counts) (t .facts) (x .now) (getD log i 0) ≡ true → y ≡ onward t x (getD log i 0)
+    pub given-next : (y : Standing) → i < k → canFollow (t .counts) (t .facts) x (getD log i 0) ≡ true → y ≡ onward t x (getD log i 0)
         → replayed t (atStart s) (take k log) ≡ replayed t y (drop (i + 1) (take k log))
     given-next y h p e =
         so-far
@@ -180,7 +184,7 @@ module _ (t : Tables) where
         ∙ replayed-yes x (getD log i 0) (drop (i + 1) (take k log)) p
         ∙ ap (λ (z : Standing). replayed t z (drop (i + 1) (take k log))) (sym e)
 
-    pub given-stop : i < k → canRun (t .counts) (t .facts) (x .now) (getD log i 0) ≡ false
+    pub given-stop : i < k → canFollow (t .counts) (t .facts) x (getD log i 0) ≡ false
         → record { ok = false; at = x } ≡ replayed t (atStart s) (take k log)
     given-stop h p = sym (so-far ∙ left-over h ∙ replayed-no x (getD log i 0) (drop (i + 1) (take k log)) p)
 
@@ -204,11 +208,11 @@ module _ (t : Tables) where
     unfolding replayed
     bounded-replayed [] steps x b = λ c h. omega (arith, b c h)
     bounded-replayed (o ∷ os) steps x b =
-        by-cases (canRun (t .counts) (t .facts) (x .now) o)
+        by-cases (canFollow (t .counts) (t .facts) x o)
         (λ p.
         rw (replayed-yes x o os p)
         (λ c h.
-        let next = bounded-step steps x (onward t x o) o (can-exists (t .counts) (t .facts) (x .now) o p) b refl in
+        let next = bounded-step steps x (onward t x o) o (follow-exists (t .counts) (t .facts) x o p) b refl in
         omega (arith, bounded-replayed os (steps + 1) (onward t x o) next c h)))
         (λ p. rw (replayed-no x o os p) (λ c h. omega (arith, b c h)))
 

@@ -35,10 +35,6 @@ module _ (S : Sas) where
   end-same [] s t h v l = h v l
   end-same (o ∷ os) s t h v l = end-same os (after S o s) (after S o t) (after-same S o s t h) v l
 
-pub paid-append : (p : ℕ → ℕ) (os ps : List ℕ) → paid p (os ++ ps) ≡ paid p os + paid p ps
-paid-append p [] ps = omega arith
-paid-append p (o ∷ os) ps = omega (arith, paid-append p os ps)
-
 -- prices that agree on the task's operators give the same sum
 pub paid-same : (S : Sas) (p q : ℕ → ℕ) → ((o : ℕ) → o < S .ops → p o ≡ q o) → (os : List ℕ) (s : State) → Runs S os s
     → paid p os ≡ paid q os

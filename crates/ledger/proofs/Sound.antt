@@ -12,6 +12,8 @@ use borrow.Author.Tests.{lt-ltb, eqb-true, ltb-true}
 use Rattle.meaning.specs.Limits.{mostVars, mostSteps}
 use Rattle.meaning.specs.Sas.{State, IsState, Runs, end}
 use Rattle.meaning.specs.Split.{Task, Valid}
+use Rattle.meaning.specs.Quota.{stored, KeepsQuota}
+use Rattle.meaning.proofs.Quota.{paid-parts, stores-within}
 use Rattle.meaning.proofs.Facts.{every-true, true-complies, by-cases, by-order}
 use Rattle.scan.specs.declared.Found.the-variants.{Clean}
 use Rattle.scan.specs.Scan.{tablesFault}
@@ -21,13 +23,13 @@ use Rattle.tables.specs.Task.{taskOf, sasOf, stateOf}
 use Rattle.ledger.specs.declared.Run.{Run}
 use Rattle.ledger.specs.declared.replay.Standing.{Standing}
 use Rattle.ledger.specs.declared.replay.Tried.{Tried}
-use Rattle.ledger.specs.Ledger.{allColumns, atStart, standing, fresh, advanced, canRun, replayed, given, startsAt, startIn, alike, isRun}
+use Rattle.ledger.specs.Ledger.{allColumns, atStart, standing, fresh, advanced, canFollow, replayed, given, startsAt, startIn, alike, isRun}
 use Rattle.ledger.specs.History.{mayFollow, Tells, GivenByStartAndLog, Sized}
 use Rattle.ledger.proofs.Answers.{start-within, start-beyond}
 use Rattle.ledger.proofs.Runs.{SamePlaces, Tested, advanced-stands, alike-parts, sameTo-at, zeros-unused, replayed-yes, replayed-no, run-tested}
 use Rattle.ledger.proofs.Begun.{startOf, from-at, from-beyond, from-size}
 use Rattle.ledger.proofs.Sequences.{end-append}
-use Rattle.ledger.proofs.Told.{Told, fresh-told, step-told, can-is, is-run}
+use Rattle.ledger.proofs.Told.{Told, fresh-told, step-told, follow-is, is-run}
 
 -- ---- one run
 
@@ -72,7 +74,7 @@ module _ (T : Task) (s : State) (done : List ℕ) (r q : Run) (a : Tells T s don
   pub tells-one : Sized r → Sized q → r ≡ q
   tells-one z w = same-equal r q z w tells-same
 
--- ---- replaying steps: each can run and the run then tells them, or they may not run one after another
+-- ---- replaying steps: each can be the next and the run then tells them; or they may not run one after another, or don't keep the quota
 
 module _ (t : Tables) (s : List ℕ) (clean : tablesFault t ≡ Clean) (state : IsState (sasOf t) (stateOf s)) where
   -- some run tells them all and stands where they lead
@@ -80,32 +82,36 @@ module _ (t : Tables) (s : List ℕ) (clean : tablesFault t ≡ Clean) (state : 
   TellsAll done os q = (z : Run) × (replayed t (standing q) os ≡ record { ok = true; at = standing z }) × Told t s (done ++ os) z
 
   abbrev Stops : List ℕ → List ℕ → Run → Type 0
-  Stops done os q = (replayed t (standing q) os .ok ≡ false) × (Runs (sasOf t) os (end (sasOf t) done (stateOf s)) → ⊥)
+  Stops done os q =
+      (replayed t (standing q) os .ok ≡ false) × (Runs (sasOf t) os (end (sasOf t) done (stateOf s)) → KeepsQuota (taskOf t) (done ++ os) → ⊥)
 
   module _ (done : List ℕ) (q : Run) (told : Told t s done q) (o : ℕ) (os : List ℕ) where
     abbrev more : List ℕ
     more = done ++ (o ∷ [])
 
-    -- the steps after one that can run lead on from the run with that step
-    after : canRun (t .counts) (t .facts) (q .now) o ≡ true → replayed t (standing q) (o ∷ os) ≡ replayed t (standing (advanced t q o)) os
+    -- the steps after one that can follow lead on from the run with that step
+    after : canFollow (t .counts) (t .facts) (standing q) o ≡ true → replayed t (standing q) (o ∷ os) ≡ replayed t (standing (advanced t q o)) os
     after p = replayed-yes t (standing q) o os p ∙ ap (λ (x : Standing). replayed t x os) (sym (advanced-stands t q o))
 
-    replay-on : canRun (t .counts) (t .facts) (q .now) o ≡ true → TellsAll more os (advanced t q o) ⊎ Stops more os (advanced t q o)
+    replay-on : canFollow (t .counts) (t .facts) (standing q) o ≡ true → TellsAll more os (advanced t q o) ⊎ Stops more os (advanced t q o)
         → TellsAll done (o ∷ os) q ⊎ Stops done (o ∷ os) q
     replay-on p (inl (z, k, on)) = inl (z, after p ∙ k, subst (λ (l : List ℕ). Told t s l z) (append-assoc done (o ∷ []) os) on)
     replay-on p (inr (k, never)) =
         inr (
           ap (λ (x : Tried). x .ok) (after p) ∙ k,
-          λ h. never (subst (Runs (sasOf t) os) (sym (end-append (sasOf t) done (o ∷ []) (stateOf s))) (h .2)),
+          λ h keeps.
+              never (subst (Runs (sasOf t) os) (sym (end-append (sasOf t) done (o ∷ []) (stateOf s))) (h .2))
+              (subst (KeepsQuota (taskOf t)) (sym (append-assoc done (o ∷ []) os)) keeps),
         )
 
-    replay-not : canRun (t .counts) (t .facts) (q .now) o ≡ false → Stops done (o ∷ os) q
+    replay-not : canFollow (t .counts) (t .facts) (standing q) o ≡ false → Stops done (o ∷ os) q
     unfolding mayFollow
     replay-not p = (
       ap (λ (x : Tried). x .ok) (replayed-no t (standing q) o os p),
-      λ h.
+      λ h keeps.
           let may = true-complies (sasOf t) (sasOf t .pre o) (end (sasOf t) done (stateOf s)) (h .1) in
-          false≢true (sym p ∙ can-is t s clean state done q told o ∙ rw (lt-ltb o (t .counts .ops) (h .0), may) refl),
+          let within = stores-within (taskOf t) (stored (taskOf t) done) o (omega (arith, paid-parts (taskOf t .mark) done (o ∷ os))) in
+          false≢true (sym p ∙ follow-is t s clean state done q told o ∙ rw (lt-ltb o (t .counts .ops) (h .0), may, within) refl),
     )
 
   replay-either : (os done : List ℕ) (q : Run) → Told t s done q → length done + length os ≤ mostSteps
@@ -113,7 +119,7 @@ module _ (t : Tables) (s : List ℕ) (clean : tablesFault t ≡ Clean) (state : 
   unfolding replayed
   replay-either [] done q told l = inl (q, refl, rw (append-nil done) told)
   replay-either (o ∷ os) done q told l =
-      by-cases (canRun (t .counts) (t .facts) (q .now) o)
+      by-cases (canFollow (t .counts) (t .facts) (standing q) o)
       (λ p.
       replay-on done q told o os p
       (replay-either os (done ++ (o ∷ [])) (advanced t q o) (step-told t s clean state done q told o p (omega arith))
@@ -126,7 +132,7 @@ module _ (t : Tables) (s : List ℕ) (clean : tablesFault t ≡ Clean) (state : 
 
   from-fresh : {A : Type 0} (os : List ℕ) → length os ≤ mostSteps
       → ((z : Run) → replay os ≡ record { ok = true; at = standing z } → Told t s os z → A)
-      → ((replay os .ok ≡ false) × (Runs (sasOf t) os (stateOf s) → ⊥) → A)
+      → ((replay os .ok ≡ false) × (Runs (sasOf t) os (stateOf s) → KeepsQuota (taskOf t) os → ⊥) → A)
       → A
   unfolding fresh
   from-fresh os l on off =
@@ -209,7 +215,7 @@ module _ (t : Tables) (clean : tablesFault t ≡ Clean) (r : Run) (sized : Sized
       (λ z leads told.
       let one : r ≡ z = tells-one (taskOf t) (stateOf (r .start)) done r z tells (told .tells) sized (told .sized) in
       (done, subst (Told t (r .start) done) (sym one) told))
-      (λ off. absurd (off .1 (tells .legal)))
+      (λ off. absurd (off .1 (tells .legal) (tells .keeps)))
 
   tells-run : GivenByStartAndLog (taskOf t) r → isRun t r ≡ true
   tells-run h =

@@ -12,7 +12,11 @@ use borrow.Author.Tests.{lt-ltb, le-leb, eq-eqb, eqb-true, ltb-true}
 use Rattle.meaning.specs.Limits.{mostSteps}
 use Rattle.meaning.specs.Sas.{State, IsState, end}
 use Rattle.meaning.specs.Views.{complies}
-use Rattle.meaning.specs.Split.{Valid}
+use Rattle.meaning.specs.Split.{Task, Valid}
+use Rattle.meaning.specs.Columns.{storedTests, gain}
+use Rattle.meaning.specs.Quota.{stored, KeepsQuota, mayStore}
+use Rattle.meaning.proofs.Columns.{gain-stored}
+use Rattle.meaning.proofs.Quota.{paid-parts, may-store}
 use Rattle.meaning.proofs.Facts.{and-right, complies-true, complies-same, by-cases}
 use Rattle.meaning.proofs.Space.{after-same}
 use Rattle.scan.specs.declared.Found.the-variants.{Clean}
@@ -26,34 +30,43 @@ use Rattle.ledger.specs.declared.Run.{Run}
 use Rattle.ledger.specs.declared.replay.Standing.{Standing}
 use Rattle.ledger.specs.declared.replay.Tried.{Tried}
 use Rattle.ledger.specs.declared.Answer.the-variants.{Accepted}
-use Rattle.ledger.specs.Ledger.{allColumns, atStart, onward, standing, fresh, advanced, canRun, replayed, given, startIn, isRun, answered, offered}
-use Rattle.meaning.specs.Columns.{gain}
-use Rattle.ledger.specs.History.{Offer, mayFollow, reallyRuns, Tells, Sized}
+use Rattle.ledger.specs.Ledger.{allColumns, atStart, onward, standing, fresh, advanced, canRun, withinQuota, canFollow, replayed, given, startIn, isRun, answered, offered}
+use Rattle.ledger.specs.History.{Offer, mayFollow, reallyRuns, Tells, Sized, storedIn, logged}
 use Rattle.ledger.proofs.Gains.{zeros-at, booked-at}
-use Rattle.ledger.proofs.Answers.{next-go, judged-next}
+use Rattle.ledger.proofs.Answers.{within-is, follow-quota, follow-parts, next-go}
 use Rattle.ledger.proofs.Begun.{startOf, from-at, from-beyond, from-size, from-inside}
-use Rattle.ledger.proofs.Runs.{three, advanced-stands, fresh-sized, advanced-sized, alike-refl, unused-zeros, replayed-yes, replayed-no, can-exists}
-use Rattle.ledger.proofs.Sequences.{end-append, runs-append, paid-append}
-use Rattle.ledger.proofs.Accepted.{answered-judged, accepted-had, offer-runs, offer-stays}
+use Rattle.ledger.proofs.Runs.{three, advanced-stands, fresh-sized, advanced-sized, alike-refl, unused-zeros, replayed-yes, replayed-no, follow-exists}
+use Rattle.ledger.proofs.Sequences.{end-append, runs-append, paid-same}
+use Rattle.ledger.proofs.Accepted.{next-late, accepted-had, offer-runs, offer-stays}
 
 length-snoc : (done : List ℕ) (o : ℕ) → length (done ++ (o ∷ [])) ≡ length done + 1
 length-snoc done o = length-append done (o ∷ [])
 
--- a step more that can run is replayed after the others
+-- a step more that can follow is replayed after the others
 replayed-snoc : (t : Tables) (os : List ℕ) (x y : Standing) (o : ℕ) → replayed t x os ≡ record { ok = true; at = y }
-    → canRun (t .counts) (t .facts) (y .now) o ≡ true
+    → canFollow (t .counts) (t .facts) y o ≡ true
     → replayed t x (os ++ (o ∷ [])) ≡ record { ok = true; at = onward t y o }
 unfolding replayed
 replayed-snoc t [] x y o e c =
     let h : x ≡ y = ap (λ (z : Tried). z .at) e in
-    let c′ : canRun (t .counts) (t .facts) (x .now) o ≡ true = rw h c in
+    let c′ : canFollow (t .counts) (t .facts) x o ≡ true = rw h c in
     replayed-yes t x o [] c′ ∙ ap (λ (z : Standing). record { ok = true; at = onward t z o }) h
 replayed-snoc t (p ∷ os) x y o e c =
-    by-cases (canRun (t .counts) (t .facts) (x .now) p)
+    by-cases (canFollow (t .counts) (t .facts) x p)
     (λ can.
     replayed-yes t x p (os ++ (o ∷ [])) can
     ∙ replayed-snoc t os (onward t x p) y o (sym (replayed-yes t x p os can) ∙ e) c)
     (λ not. absurd (false≢true (ap (λ (z : Tried). z .ok) (sym (replayed-no t x p os not) ∙ e))))
+
+-- the log has the steps done and no more
+pub tells-logged : (T : Task) (s : State) (done : List ℕ) (r : Run) → Tells T s done r → logged r ≡ done
+tells-logged T s done r tells = ap (λ (k : ℕ). take k (r .log)) (tells .len) ∙ tells .log
+
+-- the column of the stored tests counts those of the steps done
+pub tells-stored : (T : Task) → Valid T → (s : State) (done : List ℕ) (r : Run) → Tells T s done r → storedIn r ≡ stored T done
+tells-stored T valid s done r tells =
+    tells .column storedTests (omega arith)
+    ∙ paid-same (T .sas) (gain T storedTests) (T .mark) (λ o l. gain-stored T storedTests o (omega (arith, valid .maps .1)) refl) done s (tells .legal)
 
 -- the run tells the steps done from the lent state s, and stands where replaying them leads
 pub record Told (t : Tables) (s done : List ℕ) (q : Run) : Type 0 where
@@ -77,6 +90,7 @@ module _ (t : Tables) (s : List ℕ) (clean : tablesFault t ≡ Clean) (state : 
         log = refl;
         log-unused = λ i h. zeros-at mostSteps i;
         legal = tt;
+        keeps = omega arith;
         start = from-at t s valid;
         start-unused = from-beyond t s valid;
         now = from-at t s valid;
@@ -88,27 +102,42 @@ module _ (t : Tables) (s : List ℕ) (clean : tablesFault t ≡ Clean) (state : 
   unfolding fresh replayed
   fresh-told = record { tells = fresh-tells; sized = fresh-sized (startOf t s) (from-size t s valid); from = refl; given = refl }
 
-  -- ---- what can run is what may follow the steps done
+  -- ---- what can follow is what may follow the steps done
 
   module _ (done : List ℕ) (q : Run) (told : Told t s done q) where
     abbrev reached : State
     reached = end (sasOf t) done (stateOf s)
 
-    pub can-is : (o : ℕ) → canRun (t .counts) (t .facts) (q .now) o ≡ mayFollow (sasOf t) (stateOf s) done o
-    unfolding canRun mayFollow
+    can-is : (o : ℕ) → canRun (t .counts) (t .facts) (q .now) o ≡ (ltb o (t .counts .ops) && complies (sasOf t) (sasOf t .pre o) reached)
+    unfolding canRun
     can-is o =
         ap (λ (b : Bool). ltb o (t .counts .ops) && b)
         (may-run-is t (q .now) o ∙ complies-same (sasOf t) (sasOf t .pre o) (stateOf (q .now)) reached (told .tells .now))
 
+    quota-is : (o : ℕ) → withinQuota (t .counts) (t .facts) (q .columns) o ≡ mayStore (taskOf t) (stored (taskOf t) done) o
+    quota-is o =
+        within-is t (q .columns) o
+        ∙ ap (λ (n : ℕ). mayStore (taskOf t) n o) (tells-stored (taskOf t) valid (stateOf s) done q (told .tells))
+
+    pub follow-is : (o : ℕ) → canFollow (t .counts) (t .facts) (standing q) o ≡ mayFollow (taskOf t) (stateOf s) done o
+    unfolding canFollow mayFollow
+    follow-is o = ap₂ _&&_ (can-is o) (quota-is o)
+
     -- ---- one step more
 
-    module _ (o : ℕ) (can : canRun (t .counts) (t .facts) (q .now) o ≡ true) where
+    module _ (o : ℕ) (can : canFollow (t .counts) (t .facts) (standing q) o ≡ true) where
       abbrev more : List ℕ
       more = done ++ (o ∷ [])
 
+      parts : (canRun (t .counts) (t .facts) (q .now) o ≡ true) × (withinQuota (t .counts) (t .facts) (q .columns) o ≡ true)
+      parts = follow-parts (t .counts) (t .facts) (standing q) o can
+
       may : complies (sasOf t) (sasOf t .pre o) reached ≡ true
-      unfolding mayFollow
-      may = and-right (ltb o (t .counts .ops)) (complies (sasOf t) (sasOf t .pre o) reached) (sym (can-is o) ∙ can)
+      may = and-right (ltb o (t .counts .ops)) (complies (sasOf t) (sasOf t .pre o) reached) (sym (can-is o) ∙ parts .0)
+
+      keeps-more : KeepsQuota (taskOf t) more
+      keeps-more =
+          omega (arith, may-store (taskOf t) (stored (taskOf t) done) o (sym (quota-is o) ∙ parts .1), paid-parts (taskOf t .mark) done (o ∷ []))
 
       now-more : (v : ℕ) → v < t .counts .vars → stateOf (stepped (t .counts) (t .facts) (q .now) o) v ≡ end (sasOf t) more (stateOf s) v
       now-more v h =
@@ -135,7 +164,8 @@ module _ (t : Tables) (s : List ℕ) (clean : tablesFault t ≡ Clean) (state : 
                   ∙ told .tells .log-unused i (omega (arith, length-snoc done o));
               legal =
                   runs-append (sasOf t) done (o ∷ []) (stateOf s) (told .tells .legal)
-                  (can-exists (t .counts) (t .facts) (q .now) o can, complies-true (sasOf t) (sasOf t .pre o) reached may, tt);
+                  (follow-exists (t .counts) (t .facts) (standing q) o can, complies-true (sasOf t) (sasOf t .pre o) reached may, tt);
+              keeps = keeps-more;
               start = told .tells .start;
               start-unused = told .tells .start-unused;
               now = now-more;
@@ -146,7 +176,7 @@ module _ (t : Tables) (s : List ℕ) (clean : tablesFault t ≡ Clean) (state : 
                     arith,
                     booked-at (taskOf t) (q .columns) o c (told .sized .columns) h,
                     told .tells .column c h,
-                    paid-append (gain (taskOf t) c) done (o ∷ []),
+                    paid-parts (gain (taskOf t) c) done (o ∷ []),
                   );
             }
 
@@ -167,9 +197,7 @@ module _ (t : Tables) (s : List ℕ) (clean : tablesFault t ≡ Clean) (state : 
     told-given : given t q ≡ record { ok = true; at = standing q }
     unfolding given
     told-given =
-        ap₂ (λ (x l : List ℕ). replayed t (atStart x) l) (told .from)
-        (ap (λ (k : ℕ). take k (q .log)) (told .tells .len) ∙ told .tells .log)
-        ∙ told .given
+        ap₂ (λ (x l : List ℕ). replayed t (atStart x) l) (told .from) (tells-logged (taskOf t) (stateOf s) done q (told .tells)) ∙ told .given
 
     pub is-run : isRun t q ≡ true
     unfolding isRun
@@ -181,32 +209,33 @@ module _ (t : Tables) (s : List ℕ) (clean : tablesFault t ≡ Clean) (state : 
 
     module _ (x : Offer) where
       abbrev Runs : Type 0
-      Runs = reallyRuns (sasOf t) (stateOf s) done x ≡ true
+      Runs = reallyRuns (taskOf t) (stateOf s) done x ≡ true
 
       runs-tests : Runs → (eqb (x .number) (length done + 1) ≡ true) × (ltb (length done) mostSteps ≡ true)
-          × (mayFollow (sasOf t) (stateOf s) done (x .op) ≡ true)
+          × (mayFollow (taskOf t) (stateOf s) done (x .op) ≡ true)
       unfolding reallyRuns
       runs-tests =
-          three (eqb (x .number) (length done + 1)) (ltb (length done) mostSteps) (mayFollow (sasOf t) (stateOf s) done (x .op))
+          three (eqb (x .number) (length done + 1)) (ltb (length done) mostSteps) (mayFollow (taskOf t) (stateOf s) done (x .op))
 
       pub runs-room : Runs → length done < mostSteps
       runs-room p = ltb-true (length done) mostSteps (runs-tests p .1)
 
-      pub runs-can : Runs → canRun (t .counts) (t .facts) (q .now) (x .op) ≡ true
-      runs-can p = can-is (x .op) ∙ runs-tests p .2
+      pub runs-follow : Runs → canFollow (t .counts) (t .facts) (standing q) (x .op) ≡ true
+      runs-follow p = follow-is (x .op) ∙ runs-tests p .2
 
       runs-accepted : Runs → answered t q (x .number) (x .op) ≡ Accepted
       runs-accepted p =
-          let n = eqb-true (x .number) (length done + 1) (runs-tests p .0) in
-          let l = told .tells .len in
+          let parts = follow-parts (t .counts) (t .facts) (standing q) (x .op) (runs-follow p) in
+          let room : q .len < mostSteps = omega (arith, runs-room p, told .tells .len) in
           sym
-          (judged-next (t .counts) (t .facts) q (x .number) (x .op) (can-exists (t .counts) (t .facts) (q .now) (x .op) (runs-can p))
-          (λ z. omega arith)
-          Accepted
-          (omega arith)
-          (omega arith)
-          (next-go (t .counts) (t .facts) q (x .number) (x .op) (omega (arith, runs-room p)) (runs-can p))
-          ∙ answered-judged t q (x .number) (x .op) clean is-run)
+          (next-late t q (x .number) (x .op) Accepted
+          (record {
+            clean = clean;
+            run = is-run;
+            exists = follow-exists (t .counts) (t .facts) (standing q) (x .op) (runs-follow p);
+            next = omega (arith, eqb-true (x .number) (length done + 1) (runs-tests p .0), told .tells .len);
+            answer = sym (next-go (t .counts) (t .facts) q (x .number) (x .op) room (parts .0) (parts .1));
+          }))
 
       accepted-runs : answered t q (x .number) (x .op) ≡ Accepted → Runs
       unfolding reallyRuns
@@ -214,12 +243,12 @@ module _ (t : Tables) (s : List ℕ) (clean : tablesFault t ≡ Clean) (state : 
           let had = accepted-had t q (x .number) (x .op) e in
           let l = told .tells .len in
           rw (eq-eqb (x .number) (length done + 1) (omega arith), lt-ltb (length done) mostSteps (omega arith))
-          (sym (can-is (x .op)) ∙ had .can)
+          (sym (follow-is (x .op)) ∙ sym (follow-quota (t .counts) (t .facts) (standing q) (x .op) true (had .can) (sym (had .keeps))))
 
       -- the run handed back tells the steps done, with this one if it was really run
-      pub offer-told : Told t s (cond (reallyRuns (sasOf t) (stateOf s) done x) (done ++ (x .op ∷ [])) done)
+      pub offer-told : Told t s (cond (reallyRuns (taskOf t) (stateOf s) done x) (done ++ (x .op ∷ [])) done)
           (offered t q (x .number) (x .op) .run)
       offer-told =
-          by-cases (reallyRuns (sasOf t) (stateOf s) done x)
-          (λ p. rw (p, offer-runs t q (x .number) (x .op) (runs-accepted p)) (step-told (x .op) (runs-can p) (runs-room p)))
+          by-cases (reallyRuns (taskOf t) (stateOf s) done x)
+          (λ p. rw (p, offer-runs t q (x .number) (x .op) (runs-accepted p)) (step-told (x .op) (runs-follow p) (runs-room p)))
           (λ p. rw (p, offer-stays t q (x .number) (x .op) (λ e. false≢true (sym p ∙ accepted-runs e))) told)

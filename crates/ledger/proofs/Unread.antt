@@ -2,16 +2,17 @@
 -- same answer and hands back the same run. Step by step: what a step does to a run is the same. Assumes nothing.
 use Prim.Native.Nat.{ℕ, _+_, _<_}
 use mathlib.Core.Path.{_≡_, refl, ap, ap₂, sym, _∙_}
-use mathlib.Core.Bool.{Bool, _&&_, _||_, cond}
+use mathlib.Core.Bool.{Bool, true, false, _&&_, _||_, cond}
 use mathlib.Core.List.{List, [], _∷_}
 use lib.Dec.{leb, ltb, eqb}
 use lib.ListN.{getD, set, take, drop, replicate}
 use borrow.Author.Tests.{ltb-true}
-use Rattle.refusals.specs.declared.Refusal.the-variants.{NoSuchOperator, MayNotRun, NotTheNext, RunFull, NotARun}
+use Rattle.refusals.specs.declared.Refusal.the-variants.{NoSuchOperator, NotTheNext, NotARun}
 use Rattle.meaning.specs.Limits.{mostVars, mostSteps}
 use Rattle.meaning.specs.Sas.{put}
+use Rattle.meaning.specs.Columns.{storedTests}
 use Rattle.meaning.proofs.Facts.{by-cases, every-same}
-use Rattle.meaning.proofs.Unread.{SameTask, complies-alike, gain-alike}
+use Rattle.meaning.proofs.Unread.{SameTask, complies-alike, gain-alike, may-store-alike}
 use Rattle.tables.specs.Layout.{Tables, effRow}
 use Rattle.tables.specs.Task.{taskOf, sasOf, stateOf}
 use Rattle.tables.specs.Steps.{mayRun, overwritten, valueAfter, stepped, copied}
@@ -25,11 +26,22 @@ use Rattle.ledger.specs.declared.replay.Standing.{Standing}
 use Rattle.ledger.specs.declared.replay.Tried.{Tried}
 use Rattle.ledger.specs.declared.Answer.{Answer}
 use Rattle.ledger.specs.declared.Answer.the-variants.{Accepted, Repeated, Refused}
-use Rattle.ledger.specs.Ledger.{allColumns, bookedAt, booked, atStart, onward, standing, fresh, advanced, canRun, replayed, given, startAt, startsAt}
+use Rattle.ledger.specs.Ledger.{allColumns, bookedAt, booked, atStart, onward, standing, fresh, advanced, canRun, withinQuota, canFollow, replayed, given, startAt, startsAt}
 use Rattle.ledger.specs.Ledger.{startIn, zeros, alike, isRun}
 use Rattle.ledger.specs.Ledger.{oldStep, nextStep, offerJudged, refusedOr, answered, moved, offered, started, begun}
-use Rattle.ledger.proofs.Runs.{advanced-stands, can-exists}
+use Rattle.ledger.proofs.Answers.{within-is, next-full, next-not, next-beyond, next-go, next-cases}
+use Rattle.ledger.proofs.Runs.{advanced-stands, can-exists, follow-exists}
 use Rattle.ledger.proofs.Accepted.{accepted-had}
+
+-- ---- behind a test that is the same: what is the same wherever the test holds
+
+and-alike : (a b x y : Bool) → a ≡ b → (a ≡ true → x ≡ y) → (a && x) ≡ (b && y)
+and-alike true b x y e h = rw (← e) (h refl)
+and-alike false b x y e h = rw (← e) refl
+
+cond-alike : {A : Type 0} (a b : Bool) (x y z : A) → a ≡ b → (a ≡ true → x ≡ y) → cond a x z ≡ cond b y z
+cond-alike true b x y z e h = rw (← e) (h refl)
+cond-alike false b x y z e h = rw (← e) refl
 
 -- ---- the steps of a run, over tables that spell the same task
 
@@ -42,14 +54,16 @@ module _ (t u : Tables) (E : SameTask (taskOf t) (taskOf u)) where
 
   can-alike : (s : List ℕ) (o : ℕ) → canRun (t .counts) (t .facts) s o ≡ canRun (u .counts) (u .facts) s o
   unfolding canRun
-  can-alike s o =
-      let x = mayRun (t .counts) (t .facts) s o in
-      let y = mayRun (u .counts) (u .facts) s o in
-      by-cases (ltb o (t .counts .ops))
-      (λ e.
-      ap (λ (b : Bool). b && x) e ∙ may-alike s o (ltb-true o (t .counts .ops) e)
-      ∙ sym (ap (λ (b : Bool). b && y) (ap (ltb o) (sym (E .sas .ops)) ∙ e)))
-      (λ e. ap (λ (b : Bool). b && x) e ∙ sym (ap (λ (b : Bool). b && y) (ap (ltb o) (sym (E .sas .ops)) ∙ e)))
+  can-alike s o = and-alike _ _ _ _ (ap (ltb o) (E .sas .ops)) (λ e. may-alike s o (ltb-true o (t .counts .ops) e))
+
+  within-alike : (columns : List ℕ) (o : ℕ) → o < t .counts .ops
+      → withinQuota (t .counts) (t .facts) columns o ≡ withinQuota (u .counts) (u .facts) columns o
+  within-alike columns o lo = within-is t columns o ∙ may-store-alike E (getD columns storedTests 0) o lo ∙ sym (within-is u columns o)
+
+  follow-alike : (x : Standing) (o : ℕ) → canFollow (t .counts) (t .facts) x o ≡ canFollow (u .counts) (u .facts) x o
+  unfolding canFollow
+  follow-alike x o =
+      and-alike _ _ _ _ (can-alike (x .now) o) (λ e. within-alike (x .columns) o (can-exists (t .counts) (t .facts) (x .now) o e))
 
   stepped-alike : (s : List ℕ) (o : ℕ) → o < t .counts .ops → stepped (t .counts) (t .facts) s o ≡ stepped (u .counts) (u .facts) s o
   unfolding stepped
@@ -80,12 +94,10 @@ module _ (t u : Tables) (E : SameTask (taskOf t) (taskOf u)) where
   unfolding replayed
   replayed-alike [] x = refl
   replayed-alike (o ∷ os) x =
-      by-cases (canRun (t .counts) (t .facts) (x .now) o)
+      cond-alike _ _ _ _ _ (follow-alike x o)
       (λ e.
-      rw (← can-alike (x .now) o, e)
-      (replayed-alike os (onward t x o)
-      ∙ ap (λ (y : Standing). replayed u y os) (onward-alike x o (can-exists (t .counts) (t .facts) (x .now) o e))))
-      (λ e. rw (← can-alike (x .now) o, e) refl)
+      replayed-alike os (onward t x o)
+      ∙ ap (λ (y : Standing). replayed u y os) (onward-alike x o (follow-exists (t .counts) (t .facts) x o e)))
 
   start-alike : (s : List ℕ) → startIn (t .counts) (t .facts) s ≡ startIn (u .counts) (u .facts) s
   unfolding startIn startAt
@@ -101,16 +113,24 @@ module _ (t u : Tables) (E : SameTask (taskOf t) (taskOf u)) where
       ap₂ (λ (b : Bool) (x : Tried). leb (r .len) mostSteps && b && zeros (drop (r .len) (r .log)) && x .ok && alike (standing r) (x .at))
       (start-alike (r .start)) (replayed-alike (take (r .len) (r .log)) (atStart (r .start)))
 
+  next-alike : (r : Run) (number o : ℕ) → nextStep (t .counts) (t .facts) r number o ≡ nextStep (u .counts) (u .facts) r number o
+  next-alike r number o =
+      let can = sym (can-alike (r .now) o) in
+      let within : canRun (t .counts) (t .facts) (r .now) o ≡ true → _ =
+      λ p. sym (within-alike (r .columns) o (can-exists (t .counts) (t .facts) (r .now) o p)) in
+      next-cases (t .counts) (t .facts) r number o (λ x. x ≡ nextStep (u .counts) (u .facts) r number o) (next-full (u .counts) (u .facts) r number o)
+      (λ l p. next-not (u .counts) (u .facts) r number o l (can ∙ p))
+      (λ l p q. next-beyond (u .counts) (u .facts) r number o l (can ∙ p) (within p ∙ q))
+      (λ l p q. next-go (u .counts) (u .facts) r number o l (can ∙ p) (within p ∙ q))
+
   judged-alike : (r : Run) (number o : ℕ) → offerJudged (t .counts) (t .facts) r number o ≡ offerJudged (u .counts) (u .facts) r number o
-  unfolding offerJudged nextStep
+  unfolding offerJudged
   judged-alike r number o =
       ap₂
-      (λ (n : ℕ) (can : Bool).
+      (λ (n : ℕ) (next : Answer).
       cond (leb n o) (Refused (NoSuchOperator number))
-      (cond (eqb number 0 || ltb (r .len + 1) number) (Refused (NotTheNext number))
-      (cond (leb number (r .len)) (oldStep r number o)
-      (cond (leb mostSteps (r .len)) (Refused (RunFull number)) (cond can Accepted (Refused (MayNotRun number)))))))
-      (E .sas .ops) (can-alike (r .now) o)
+      (cond (eqb number 0 || ltb (r .len + 1) number) (Refused (NotTheNext number)) (cond (leb number (r .len)) (oldStep r number o) next)))
+      (E .sas .ops) (next-alike r number o)
 
 -- ---- the entries
 

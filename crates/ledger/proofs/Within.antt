@@ -2,8 +2,7 @@
 -- most 1,024,000,000; and so it is in the run that an offer hands back, and at every moment of a run that was begun. So no sum goes past 32 bits. What a
 -- run tells is what its steps add, and a step adds no more than it costs. Assumes nothing.
 use Prim.Native.Nat.{ℕ, _*_, _≤_, _<_}
-use mathlib.Core.Path.{_≡_, refl, sym}
-use mathlib.Core.Bool.{true}
+use mathlib.Core.Path.{_≡_, refl}
 use mathlib.Core.List.{List}
 use native.Mathlib.Omega.{arith}
 use lib.ListN.{getD}
@@ -13,7 +12,6 @@ use Rattle.meaning.specs.Sas.{State}
 use Rattle.meaning.specs.Split.{Task, Valid, sum}
 use Rattle.meaning.specs.Columns.{costColumns, gain}
 use Rattle.meaning.proofs.Columns.{gain-small}
-use Rattle.meaning.proofs.Facts.{by-cases}
 use Rattle.scan.specs.declared.Found.the-variants.{Clean}
 use Rattle.scan.specs.Scan.{tablesFault}
 use Rattle.scan.proofs.Validity.{clean-valid}
@@ -21,14 +19,12 @@ use Rattle.tables.specs.Layout.{Tables}
 use Rattle.tables.specs.Task.{taskOf, stateOf}
 use Rattle.ledger.specs.declared.Run.{Run}
 use Rattle.ledger.specs.declared.Answer.the-variants.{Accepted, Refused}
-use Rattle.ledger.specs.Ledger.{allColumns, isRun, offered, begun}
+use Rattle.ledger.specs.Ledger.{allColumns, offered, begun}
 use Rattle.ledger.specs.History.{Offer, runAfter, Tells, GivenByStartAndLog, Sized, WithinSteps}
-use Rattle.ledger.proofs.Accepted.{answered-not-a-run}
 use Rattle.ledger.proofs.Entries.{accepted-began}
 use Rattle.ledger.proofs.History.{history, tells-all}
 use Rattle.ledger.proofs.Sequences.{paid-most}
-use Rattle.ledger.proofs.Sound.{given-told, run-exactly}
-use Rattle.ledger.proofs.Told.{offer-told}
+use Rattle.ledger.proofs.Seventeen.{not-seventeen}
 
 -- the most that a run's columns have
 pub most-paid : mostSteps * mostCost ≡ 1024000000
@@ -55,21 +51,16 @@ module _ (r : Run) (within : WithinSteps r) where
   pub together-limit : sum (λ c. getD (r .columns) c 0) costColumns ≤ 1024000000
   together-limit = omega (arith, within .together, within .steps, most-paid)
 
-module _ (t : Tables) (clean : tablesFault t ≡ Clean) (r : Run) where
-  pub given-within : GivenByStartAndLog (taskOf t) r → WithinSteps r
-  given-within (state, (done, tells)) = tells-within (taskOf t) (clean-valid t clean) (stateOf (r .start)) done r tells
+pub given-within : (t : Tables) → tablesFault t ≡ Clean → (r : Run) → GivenByStartAndLog (taskOf t) r → WithinSteps r
+given-within t clean r (state, (done, tells)) = tells-within (taskOf t) (clean-valid t clean) (stateOf (r .start)) done r tells
 
+module _ (t : Tables) (clean : tablesFault t ≡ Clean) (r : Run) where
   -- A RUN THAT ISN'T 17, as it was handed in and as it is handed back
   pub not-seventeen-within : Sized r → (number o : ℕ) → (offered t r number o .answer ≡ Refused NotARun → ⊥)
       → WithinSteps r × WithinSteps (offered t r number o .run)
-  unfolding offered
   not-seventeen-within sized number o other =
-      let is : isRun t r ≡ true =
-      by-cases (isRun t r) (λ p. p) (λ p. absurd (other (sym (answered-not-a-run t r number o clean p)))) in
-      let given = run-exactly t clean r sized .0 is in
-      let told = given-told t clean r sized given in
-      let after = offer-told t (r .start) clean (given .0) (told .0) r (told .1) (record { number = number; op = o }) in
-      (given-within given, tells-within (taskOf t) (clean-valid t clean) (stateOf (r .start)) _ (offered t r number o .run) (after .tells))
+      let given = not-seventeen t r number o clean sized other in
+      (given-within t clean r (given .0), given-within t clean (offered t r number o .run) (given .1))
 
 -- every moment of a run that was begun
 pub begun-within : (t : Tables) (s : List ℕ) → begun t s .answer ≡ Accepted → (xs : List Offer) → WithinSteps (runAfter t s xs)

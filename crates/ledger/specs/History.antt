@@ -1,19 +1,22 @@
 -- What the offers alone say was really run, and what a run must tell of it at every moment.
 use Prim.Native.Nat.{ℕ, _+_, _*_, _≤_, _<_}
 use mathlib.Core.Path.{_≡_}
+use mathlib.Core.Logic.{_↔_}
 use mathlib.Core.Bool.{Bool, _&&_, cond}
 use mathlib.Core.List.{List, [], _∷_, _++_}
 use lib.Dec.{ltb, eqb}
 use lib.ListN.{length, getD, take}
-use Rattle.meaning.specs.Sas.{State, IsState, Runs, end, paid}
+use Rattle.meaning.specs.Sas.{State, IsState, MayRun, Runs, end, paid}
 use Rattle.meaning.specs.Views.{complies}
 use Rattle.meaning.specs.Split.{Task, sum}
 use Rattle.tables.specs.Layout.{Tables}
-use Rattle.tables.specs.Task.{stateOf}
+use Rattle.tables.specs.Task.{taskOf, stateOf}
 use Rattle.ledger.specs.declared.Run.{Run}
+use Rattle.ledger.specs.declared.Answer.{Answer}
+use Rattle.ledger.specs.declared.Answer.the-variants.{Accepted, Repeated, Refused}
 use Rattle.meaning.specs.Limits.{mostVars, mostCost, mostSteps}
 use Rattle.ledger.specs.Ledger.{allColumns, offered, begun}
-use Rattle.meaning.specs.Columns.{costColumns, gain}
+use Rattle.meaning.specs.Columns.{costColumns, storedTests, gain}
 use Rattle.meaning.specs.Quota.{stored, KeepsQuota, mayStore}
 
 -- an offer: a step number and an operator
@@ -68,9 +71,10 @@ pub record Tells (T : Task) (s : State) (done : List ℕ) (r : Run) : Type 0 whe
 abbrev pub GivenByStartAndLog : Task → Run → Type 0
 GivenByStartAndLog T r = IsState (T .sas) (stateOf (r .start)) × ((done : List ℕ) × Tells T (stateOf (r .start)) done r)
 
--- TWO MOMENTS: the steps between run from the earlier state to the later one, and each column grew by what they add to it
+-- TWO MOMENTS: the steps between run from the earlier state to the later one and keep the quota, and each column grew by what they add to it
 pub record Between (T : Task) (os : List ℕ) (earlier later : Run) : Type 0 where
   pub legal : Runs (T .sas) os (stateOf (earlier .now))
+  pub keeps : KeepsQuota T os
   pub now : (v : ℕ) → v < T .sas .vars → stateOf (later .now) v ≡ end (T .sas) os (stateOf (earlier .now)) v
   pub column : (c : ℕ) → c < allColumns → getD (later .columns) c 0 ≡ getD (earlier .columns) c 0 + paid (gain T c) os
 
@@ -87,3 +91,46 @@ pub record WithinSteps (r : Run) : Type 0 where
   pub steps : r .len ≤ mostSteps
   pub column : (c : ℕ) → c < allColumns → getD (r .columns) c 0 ≤ r .len * mostCost
   pub together : sum (λ c. getD (r .columns) c 0) costColumns ≤ r .len * mostCost
+
+-- ---- the stored tests
+
+-- how many tests a run says were stored; read from it alone, whether the quota is met
+abbrev pub storedIn : Run → ℕ
+storedIn r = getD (r .columns) storedTests 0
+
+abbrev pub QuotaMet : Task → Run → Type 0
+QuotaMet T r = storedIn r ≡ T .quota
+
+-- the steps of a run's own log
+abbrev pub logged : Run → List ℕ
+logged r = take (r .len) (r .log)
+
+-- how many of a list's steps are storing ones, counted place by place
+abbrev pub storingSteps : Task → List ℕ → ℕ
+storingSteps T os = sum (λ i. cond (eqb (T .mark (getD os i 0)) 1) 1 0) (length os)
+
+-- A RUN TELLS THE STORED TESTS of the steps: as many as storing steps were run, and never more than the quota; and it reads as met exactly if so many were run
+pub record TellsStored (T : Task) (done : List ℕ) (r : Run) : Type 0 where
+  pub counted : storedIn r ≡ storingSteps T done
+  pub within : storedIn r ≤ T .quota
+  pub met : QuotaMet T r ↔ (storingSteps T done ≡ T .quota)
+
+-- what an offer of operator o stores, by its answer: an accepted one its mark, a repeated or refused one nothing; and what offers stored, by their answers alone
+abbrev pub storedBy : Task → ℕ → Answer → ℕ
+storedBy T o Accepted = T .mark o
+storedBy T o Repeated = 0
+storedBy T o (Refused f) = 0
+
+unfoldable pub storedByAll : Tables → Run → List Offer → ℕ
+storedByAll t r [] = 0
+storedByAll t r (x ∷ xs) =
+    storedBy (taskOf t) (x .op) (offered t r (x .number) (x .op) .answer) + storedByAll t (offered t r (x .number) (x .op) .run) xs
+
+-- A STORING STEP AT THE QUOTA: it has the next number, there is room, its operator exists and may run in the state now, and stores a test; but the quota is met
+pub record StoresBeyond (T : Task) (r : Run) (number o : ℕ) : Type 0 where
+  pub next : number ≡ r .len + 1
+  pub room : r .len < mostSteps
+  pub exists : o < T .sas .ops
+  pub runs : MayRun (T .sas) o (stateOf (r .now))
+  pub stores : T .mark o ≡ 1
+  pub met : QuotaMet T r

@@ -69,13 +69,14 @@ canRun c facts s o = ltb o (c .ops) && mayRun c facts s o
 unfoldable pub withinQuota : Counts → List ℕ → List ℕ → ℕ → Bool
 withinQuota c facts columns o = canStore c facts (getD columns storedTests 0) o
 
--- where a list of steps leads, as far as each can run and keeps the quota
+-- it can be the next step where a run stands
+unfoldable pub canFollow : Counts → List ℕ → Standing → ℕ → Bool
+canFollow c facts x o = canRun c facts (x .now) o && withinQuota c facts (x .columns) o
+
+-- where a list of steps leads, as far as each can be the next
 unfoldable pub replayed : Tables → Standing → List ℕ → Tried
 replayed t x [] = record { ok = true; at = x }
-replayed t x (o ∷ os) =
-    cond (canRun (t .counts) (t .facts) (x .now) o && withinQuota (t .counts) (t .facts) (x .columns) o)
-    (replayed t (onward t x o) os)
-    (record { ok = false; at = x })
+replayed t x (o ∷ os) = cond (canFollow (t .counts) (t .facts) x o) (replayed t (onward t x o) os) (record { ok = false; at = x })
 
 -- what a run's start and log give
 unfoldable pub given : Tables → Run → Tried

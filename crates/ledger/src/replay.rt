@@ -9,7 +9,7 @@ ghost use Rattle.tables.specs.Steps.{stepped};
 ghost use Rattle.tables.specs.Task.{tables, lent, was, left};
 ghost use Rattle.scan.specs.declared.Found.the-variants.{Clean};
 ghost use Rattle.scan.specs.Scan.{tablesFault};
-ghost use Rattle.ledger.specs.Ledger.{atStart, canRun, withinQuota, replayed};
+ghost use Rattle.ledger.specs.Ledger.{atStart, canRun, withinQuota, canFollow, replayed};
 use crate::COLUMNS;
 use crate::STORED;
 use crate::columns::book;
@@ -27,7 +27,7 @@ pub struct Standing {
     pub columns: [u32; COLUMNS],
 }
 
-// Where the steps of a log lead, as far as each can run and keeps the quota, and whether that is the whole log.
+// Where the steps of a log lead, as far as each can be the next, and whether that is the whole log.
 pub struct Tried {
     pub ok: bool,
     pub at: Standing,
@@ -60,6 +60,23 @@ pub fn within_quota(c: Counts, facts: &[u8], columns: &[u32; COLUMNS], op: OpNo)
     can_store(c, facts, columns[STORED], op)
 }
 
+// The operator can be the next step: it can run, and doesn't store beyond the quota.
+pub fn can_follow(
+    c: Counts,
+    facts: &[u8],
+    state: &[u8; 8],
+    columns: &[u32; COLUMNS],
+    op: OpNo,
+) -> bool
+    requires { ⌜ (c .vars ≤ mostVars) × (c .ops ≤ mostOps) × (factsRoom ≤ length (now facts)) ⌝ }
+    ensures { λ r. ⌜ r ≡ canFollow c (was facts) (record { now = was state; columns = was columns }) (op .0) ⌝ }
+{
+    if can_run(c, facts, state, op) {
+        return within_quota(c, facts, columns, op);
+    }
+    false
+}
+
 // The state after the operator: each effect holds and all else stays.
 pub fn step(c: Counts, facts: &[u8], state: &mut [u8; 8], op: OpNo)
     requires { ⌜ (c .vars ≤ mostVars) × (op .0 < mostOps) × (factsRoom ≤ length (now facts)) ⌝ }
@@ -74,7 +91,7 @@ pub fn step(c: Counts, facts: &[u8], state: &mut [u8; 8], op: OpNo)
     }
 }
 
-// The first steps of a log from a start, as far as each can run and keeps the quota.
+// The first steps of a log from a start, as far as each can be the next.
 pub fn replay(
     c: Counts,
     facts: &[u8],
@@ -91,7 +108,7 @@ pub fn replay(
     let mut columns = [0u32; COLUMNS];
     for i in 0..len {
         let op = OpNo(log[i]);
-        if !can_run(c, facts, &state, op) || !within_quota(c, facts, &columns, op) {
+        if !can_follow(c, facts, &state, &columns, op) {
             return Tried {
                 ok: false,
                 at: Standing {

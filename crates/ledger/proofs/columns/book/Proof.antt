@@ -1,11 +1,12 @@
--- `columns::book` meets its contract: the columns of the maps passed so far are booked and their shares summed; then the rest. Assumes nothing.
+-- `columns::book` meets its contract: the columns of the maps passed so far are booked and their shares summed; then the rest, then the mark. Assumes nothing.
 use Prim.Native.Nat.{ℕ, _+_, _-_, _≤_, _<_}
 use mathlib.Core.Path.{_≡_, refl, sym}
+use mathlib.Core.List.{List}
 use native.Mathlib.Omega.{arith}
-use lib.ListN.{length, getD}
+use lib.ListN.{length, getD, set}
 use borrow.Author.Needs.{needs}
 use Rattle.meaning.specs.Split.{Task, Valid, sum}
-use Rattle.meaning.specs.Columns.{unshared}
+use Rattle.meaning.specs.Columns.{unshared, storedTests}
 use Rattle.meaning.proofs.Columns.{sum-more, sum-end, gain-map, rest-is, shares-fit}
 use Rattle.tables.specs.Layout.{Tables, costAt, shareAt, sharePlace}
 use Rattle.tables.specs.Steps.{overwritten}
@@ -13,17 +14,17 @@ use Rattle.tables.specs.Task.{tables, taskOf}
 use Rattle.tables.proofs.Laws.{filled-end, filled-still}
 use Rattle.scan.proofs.Validity.{clean-valid, clean-room}
 use Rattle.ledger.specs.Ledger.{bookedAt}
-use Rattle.ledger.proofs.Gains.{booked-turn, booked-end, unshared-still}
+use Rattle.ledger.proofs.Gains.{booked-turn, booked-rest, booked-end, column-still}
 use Rattle.ledger.proofs.columns.book.Statement.{statement}
 use Rattle.ledger.proofs.columns.book.Tie as tie
 
 abbrev Inv-loop : tie.InvT-loop
-Inv-loop c facts costs shares columns₀ o shared₀ m₀ columns shared m =
+Inv-loop c facts costs shares columns₀ op o shared₀ m₀ columns shared m =
     (m ≤ c .maps) × (columns ≡ overwritten (bookedAt (taskOf (tables c facts costs shares)) columns₀ o) columns₀ m)
     × (shared ≡ sum (λ m. shareAt shares m o) m)
 
 abbrev μ-loop : tie.MeasureT-loop
-μ-loop c facts costs shares columns₀ o shared₀ m₀ columns shared m = c .maps - m
+μ-loop c facts costs shares columns₀ op o shared₀ m₀ columns shared m = c .maps - m
 
 loop-holds : tie.Need-loop-holds Inv-loop μ-loop
 unfolding overwritten
@@ -35,7 +36,7 @@ abbrev Loop : Type 0
 Loop = tie.At-loop Inv-loop μ-loop
 
 abbrev first : Loop → tie.Start Inv-loop μ-loop
-first x = x .before .before
+first x = x .before .before .before .before .before
 
 -- the tables handed in, and their task
 abbrev T : Loop → Tables
@@ -107,18 +108,38 @@ module _ (x : Loop) (done : first x .args .c .maps ≤ x .loop .m) where
       let few : x .loop .m ≤ unshared = omega (arith, x .loop .inv .0, valid x .maps .1) in
       omega (
         arith,
-        unshared-still (task x) (first x .args .columns .now) (x .loop .columns) o (x .loop .m) few (x .loop .inv .1),
+        column-still (task x) (first x .args .columns .now) (x .loop .columns) o (x .loop .m) unshared few (x .loop .inv .1),
         valid x .costs o (first x .pre .1),
         first x .pre .2 unshared (omega arith),
       )
 
+  -- with the rest booked only the stored tests are left
+  abbrev with-rest : List ℕ
+  with-rest = set (x .loop .columns) unshared (getD (x .loop .columns) unshared 0 + (costAt (first x .args .costs .now) o - x .loop .shared))
+
+  rest-booked : with-rest ≡ overwritten (bookedAt (task x) (first x .args .columns .now) o) (first x .args .columns .now) storedTests
+  rest-booked =
+      booked-rest (task x) (first x .args .columns .now) (x .loop .columns) o _ (valid x .maps .1)
+      (filled-end _ _ _ (first x .args .c .maps) (x .loop .m) (x .loop .inv .1) (x .loop .inv .0) done)
+      (rest-is (task x) o _ _ refl all-shares)
+
+  stored-fits : getD with-rest storedTests 0 + task x .mark o < 4294967296
+  stored-fits =
+      omega (
+        arith,
+        column-still (task x) (first x .args .columns .now) with-rest o storedTests storedTests (omega arith) rest-booked,
+        valid x .marks o (first x .pre .1),
+        first x .pre .2 storedTests (omega arith),
+      )
+
+abbrev marked : tie.After-mark-of Inv-loop μ-loop → Loop
+marked c = c .before .before .before .before .before .before
+
 returns : tie.Need-returns Inv-loop μ-loop
 returns c =
-    let x = c .before .before .before .before in
-    let left = c .before .before .if1 .left in
-    booked-end (task x) (first x .args .columns .now) (x .loop .columns) (first x .args .op .0) _ (valid x .maps .1)
-    (filled-end _ _ _ (first x .args .c .maps) (x .loop .m) (x .loop .inv .1) (omega arith) left)
-    (rest-is (task x) (first x .args .op .0) _ _ refl (all-shares x left))
+    let x = marked c in
+    booked-end (task x) (first x .args .columns .now) _ (first x .args .op .0) _ (valid x .maps .1) (rest-booked x (c .before .before .before .before .if1 .left))
+    (c .mark-of .ensures)
 
 pub book-spec : {M : Type 1} → statement M
 book-spec =
@@ -147,5 +168,9 @@ book-spec =
     (λ c. a-cost (c .before .before .before .before) (c .before .before .if1 .left))
     (λ c. shares-within (c .before .before .before .before) (c .before .before .if1 .left))
     (λ c. omega (arith, unshared-fits (c .before .before .before .before) (c .before .before .if1 .left)))
+    (λ c. search needs)
+    (λ c. search needs)
+    (λ c κs. search needs)
+    (λ c. omega (arith, stored-fits (marked c) (c .before .before .before .before .if1 .left), c .mark-of .ensures))
     (λ c. search needs)
     returns)

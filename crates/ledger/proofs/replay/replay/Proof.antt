@@ -12,10 +12,10 @@ use Rattle.tables.specs.Layout.{Tables}
 use Rattle.tables.specs.Task.{tables, taskOf}
 use Rattle.scan.proofs.Validity.{clean-valid, clean-room}
 use Rattle.ledger.specs.declared.replay.Standing.{Standing}
-use Rattle.ledger.specs.Ledger.{atStart, canRun, replayed}
+use Rattle.ledger.specs.Ledger.{atStart, canFollow, replayed}
 use Rattle.ledger.specs.Inside.Bounded.{Bounded}
 use Rattle.ledger.proofs.Gains.{start-bounded, column-room}
-use Rattle.ledger.proofs.Runs.{bounded-step, can-exists, given-end, given-next, given-stop, stepped-onward}
+use Rattle.ledger.proofs.Runs.{bounded-step, follow-exists, given-end, given-next, given-stop, stepped-onward}
 use Rattle.ledger.proofs.replay.replay.Statement.{statement}
 use Rattle.ledger.proofs.replay.replay.Tie as tie
 
@@ -49,15 +49,15 @@ next x = getD (first x .args .log .now) (x .loop .i) 0
 valid : (x : Loop) → Valid (taskOf (T x))
 valid x = clean-valid (T x) (first x .pre .0)
 
-abbrev asked : tie.After-can-run Inv-loop μ-loop → Loop
-asked y = y .before .before .before .before
+abbrev asked : tie.After-can-follow Inv-loop μ-loop → Loop
+asked y = y .before .before .before .before .before
 
--- the next operator can run
-can : (c : tie.Else1 Inv-loop μ-loop) → let x = asked (c .before) in canRun (first x .args .c) (first x .args .facts .now) (x .loop .state) (next x) ≡ true
-can c = let y = c .before .can-run in sym (y .ensures) ∙ not-false (y .result) (c .if1 .left)
+-- the next operator can follow
+can : (c : tie.Else1 Inv-loop μ-loop) → let x = asked (c .before) in canFollow (first x .args .c) (first x .args .facts .now) (stands x) (next x) ≡ true
+can c = let y = c .before .can-follow in sym (y .ensures) ∙ not-false (y .result) (c .if1 .left)
 
 exists : (c : tie.Else1 Inv-loop μ-loop) → let x = asked (c .before) in next x < first x .args .c .ops
-exists c = can-exists _ _ _ _ (can c)
+exists c = follow-exists _ _ _ _ (can c)
 
 -- ---- the needs
 
@@ -65,9 +65,9 @@ loop-holds : tie.Need-loop-holds Inv-loop μ-loop
 unfolding atStart
 loop-holds c = (omega arith, refl, start-bounded (c .before .before .before .before .args .start))
 
-can-run-requires : tie.Need-can-run-requires Inv-loop μ-loop
-can-run-requires c κs =
-    let x = c .before .before .before in
+can-follow-requires : tie.Need-can-follow-requires Inv-loop μ-loop
+can-follow-requires c κs =
+    let x = c .before .before .before .before in
     (valid x .vars .1, valid x .ops, clean-room (T x) (first x .pre .0) .0)
 
 step-requires : tie.Need-step-requires Inv-loop μ-loop
@@ -79,14 +79,14 @@ book-requires : tie.Need-book-requires Inv-loop μ-loop
 book-requires c κs =
     let z = c .before .before .before in
     let x = asked (z .before) in
-    let room = column-room (x .loop .i) (x .loop .columns) (omega (arith, first x .pre .1, z .before .before .before .before .loop-test .taken)) in
+    let room = column-room (x .loop .i) (x .loop .columns) (omega (arith, first x .pre .1, z .before .before .before .before .before .loop-test .taken)) in
     (first x .pre .0, exists z, room (x .loop .inv .2))
 
 returns : tie.Need-returns Inv-loop μ-loop
 returns c =
     let y = c .before in
     let x = asked y in
-    given-stop (T x) _ _ _ (first x .pre .2) (stands x) _ (x .loop .inv .1) (omega arith) (sym (y .can-run .ensures) ∙ not-true (y .can-run .result) (c .if1 .taken))
+    given-stop (T x) _ _ _ (first x .pre .2) (stands x) _ (x .loop .inv .1) (omega arith) (sym (y .can-follow .ensures) ∙ not-true (y .can-follow .result) (c .if1 .taken))
 
 loop-again : tie.Need-loop-again Inv-loop μ-loop
 loop-again c =
@@ -112,7 +112,7 @@ replay-spec =
     loop-holds
     (λ c. search needs)
     (λ c. omega (arith, first (c .before .before) .pre .2, c .before .loop-test .taken))
-    can-run-requires
+    can-follow-requires
     returns
     step-requires
     book-requires
