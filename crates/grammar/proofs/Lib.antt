@@ -1,4 +1,5 @@
 pub mod Admission
+pub mod Editions
 pub mod Runs
 pub mod Decimal
 pub mod Cuts

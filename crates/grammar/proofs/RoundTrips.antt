@@ -2,7 +2,7 @@
 -- What a reading leaves agrees with the tables that the text spells at every place, and tables that agree at a task's own places have one text. Assumes nothing.
 use Prim.Native.Nat.{ℕ, _≤_, _<_}
 use native.Mathlib.Omega.{arith}
-use mathlib.Core.Path.{_≡_, refl, sym, ap, _∙_, subst}
+use mathlib.Core.Path.{_≡_, refl, sym, ap, ap₂, _∙_, subst}
 use mathlib.Core.Bool.{true}
 use mathlib.Core.List.{List}
 use lib.Dec.{eqb}
@@ -11,24 +11,37 @@ use lib.Seq.{ext-getD}
 use borrow.Author.Tests.{le-leb, eqb-true, eqb-false}
 use Rattle.meaning.proofs.Facts.{by-cases, by-order}
 use Rattle.tables.specs.declared.Counts.{Counts}
-use Rattle.tables.specs.Layout.{Tables, factsRoom, costsRoom, sharesRoom, domPlace, initPlace, goalPlace, prePlace, effPlace, classPlace, sharePlace}
+use Rattle.tables.specs.Layout.{Tables, factsRoom, costsRoom, sharesRoom, domPlace, initPlace, goalPlace, prePlace, effPlace, classPlace, markPlace, sharePlace, markAt, quotaOf}
+use Rattle.tables.specs.Editions.{readIn}
 use Rattle.tables.specs.Task.{tables, taskOf}
+use Rattle.tables.proofs.Editions.{has-read}
 use Rattle.scan.specs.declared.Found.the-variants.{Clean}
 use Rattle.scan.specs.Scan.{roomy, tablesFault}
-use Rattle.scan.specs.Own.{OwnSame}
+use Rattle.scan.specs.Own.{SameCounts, OwnSame}
 use Rattle.scan.proofs.Unread.{own-alike}
 use Rattle.grammar.specs.declared.Reading.the-variants.{Accepted}
 use Rattle.grammar.specs.declared.Written.the-variants.{Length}
-use Rattle.grammar.specs.Fields.{edition, Outcome, leaves}
+use Rattle.grammar.specs.Fields.{Outcome, leaves}
 use Rattle.grammar.specs.Grammar.{accepted, outcome, readText}
 use Rattle.grammar.specs.Spelling.{textOf, tablesOf, canon}
 use Rattle.grammar.specs.Writing.{textRoom, page, over, writeText}
-use Rattle.grammar.proofs.SpellAccepted.{accepted-clean, spells-accepted, own-roomy}
+use Rattle.grammar.proofs.Editions.{OnlySecond, tables-by-edition, read-whole}
+use Rattle.grammar.proofs.SpellAccepted.{read-own, accepted-clean, spells-accepted, own-roomy}
 use Rattle.grammar.proofs.SpellBeyond.{NotOwn}
 use Rattle.grammar.proofs.SpellRead.{read-spelled, read-accepted}
 use Rattle.grammar.proofs.SpellLeft.{filled-at, rooms, Named, accepted-named}
 use Rattle.grammar.proofs.Unread.{own-text}
 use Rattle.grammar.proofs.Writing.{tables-written}
+
+same-counts : {c d : Counts} → c ≡ d → SameCounts c d
+same-counts p =
+    record {
+      vars = ap (λ (c : Counts). c .vars) p;
+      ops = ap (λ (c : Counts). c .ops) p;
+      maps = ap (λ (c : Counts). c .maps) p;
+      edition = ap (λ (c : Counts). c .edition) p;
+      quota = ap quotaOf p;
+    }
 
 -- the tables that a reading leaves, with the counts that it answers
 abbrev pub tablesLeft : Counts → Outcome → Tables
@@ -61,7 +74,7 @@ module _ (x f c s : List ℕ) (n : Counts) (h : readText x f c s .answer ≡ Acc
   left-roomy =
       let r = rooms x f c s n h in
       let R = read-accepted f c s x n h in
-      let N = accepted-named x f c s n h (taskOf spelt) (sym (R .spells .text)) in
+      let N = accepted-named x f c s n h (taskOf spelt) (sym (R .spells .text)) (tables-by-edition spelt) in
       rw (
         le-leb factsRoom (length (o .facts)) (omega (arith, r .0, N .facts-length)),
         le-leb costsRoom (length (o .costs)) (omega (arith, r .1, N .costs-length)),
@@ -72,7 +85,7 @@ module _ (x f c s : List ℕ) (n : Counts) (h : readText x f c s .answer ≡ Acc
   left-own =
       let R = read-accepted f c s x n h in
       record {
-        counts = sym (R .counts);
+        counts = same-counts (sym (R .counts));
         room = left-roomy ∙ sym (own-roomy spelt (R .spells .own));
         dom = λ v l. left-facts (domPlace v);
         init = λ v l. left-facts (initPlace v);
@@ -82,6 +95,7 @@ module _ (x f c s : List ℕ) (n : Counts) (h : readText x f c s .answer ≡ Acc
         class = λ m v y k l g. left-facts (classPlace m v y);
         cost = λ i l. left-costs i;
         share = λ m i k l. left-shares (sharePlace m i);
+        mark = λ i l. ap₂ (λ (u : Counts) (y : ℕ). readIn (u .edition) y) (sym (R .counts)) (left-facts (markPlace i));
       }
 
   -- they are accepted, and spell the text
@@ -90,7 +104,7 @@ module _ (x f c s : List ℕ) (n : Counts) (h : readText x f c s .answer ≡ Acc
       let R = read-accepted f c s x n h in
       own-alike (tablesLeft n o) spelt left-own .fault ∙ accepted-clean x spelt (spells-accepted x spelt (R .spells))
 
-  pub left-text : textOf edition (tablesLeft n o) ≡ x
+  pub left-text : textOf (tablesLeft n o) ≡ x
   left-text = own-text (tablesLeft n o) spelt left-own ∙ read-accepted f c s x n h .spells .text
 
   pub write-read : (b : List ℕ) → textRoom ≤ length b → writeText (tablesLeft n o) b ≡ page (Length (length x)) (over x b)
@@ -98,8 +112,9 @@ module _ (x f c s : List ℕ) (n : Counts) (h : readText x f c s .answer ≡ Acc
 
 -- ---- READING WHAT WAS WRITTEN
 
--- every place of the tables that isn't the task's own holds 0
+-- every place of the tables that isn't the task's own holds 0, and in edition 1 the quota is 0
 pub record UnusedZero (t : Tables) : Type 0 where
+  pub quota : OnlySecond (t .counts .edition) (t .counts .quota)
   pub facts : (p : ℕ) → NotOwn (taskOf t) p → getD (t .facts) p 0 ≡ 0
   pub costs : (i : ℕ) → t .counts .ops ≤ i → getD (t .costs) i 0 ≡ 0
   pub shares : (p : ℕ) → ((m i : ℕ) → m < t .counts .maps → i < t .counts .ops → p ≡ sharePlace m i → ⊥) → getD (t .shares) p 0 ≡ 0
@@ -111,7 +126,9 @@ differs {a = a} {b = b} P at so =
 
 module _ (t : Tables) (f c s : List ℕ) (o : Outcome) (N : Named (taskOf t) f c s o) (U : UnusedZero t) where
   same-fact : (p : ℕ) → getD (o .facts) p 0 ≡ getD (t .facts) p 0
+  unfolding tablesOf
   same-fact p =
+      let edition = t .counts .edition in
       let at : (q : ℕ) → getD (o .facts) q 0 ≡ getD (t .facts) q 0 → p ≡ q → getD (o .facts) p 0 ≡ getD (t .facts) p 0 =
       λ q g e. subst (λ (k : ℕ). getD (o .facts) k 0 ≡ getD (t .facts) k 0) (sym e) g in
       differs (NotOwn (taskOf t) p)
@@ -123,6 +140,7 @@ module _ (t : Tables) (f c s : List ℕ) (o : Outcome) (N : Named (taskOf t) f c
         pre = λ i v k l e. no (at (prePlace i v) (N .own .pre i v k l) e);
         eff = λ i v k l e. no (at (effPlace i v) (N .own .eff i v k l) e);
         class = λ m v y k l g e. no (at (classPlace m v y) (N .own .class m v y k l g) e);
+        mark = λ i k h e. no (at (markPlace i) (sym (has-read edition (markAt (o .facts) i) h) ∙ N .own .mark i k ∙ has-read edition (markAt (t .facts) i) h) e);
       })
       (λ k. N .facts-beyond p k ∙ sym (U .facts p k))
 
@@ -139,22 +157,28 @@ module _ (t : Tables) (f c s : List ℕ) (o : Outcome) (N : Named (taskOf t) f c
       → o ≡ leaves (Accepted (t .counts)) (t .facts) (t .costs) (t .shares)
   unfolding tablesOf
   same-bytes p q r =
+      let e = t .counts .edition in
+      let whole : readIn e (readIn e (t .counts .quota)) ≡ t .counts .quota = read-own e _ _ (read-whole e _ (U .quota)) (U .quota) in
+      let answer : o .answer ≡ Accepted (t .counts) = N .answer ∙ ap (λ (y : ℕ). Accepted (withQuota y)) whole in
       let x : o .facts ≡ t .facts = ext-getD 0 (o .facts) (t .facts) (N .facts-length ∙ p) (λ i l. same-fact i) in
       let y : o .costs ≡ t .costs = ext-getD 0 (o .costs) (t .costs) (N .costs-length ∙ q) (λ i l. same-cost i) in
       let z : o .shares ≡ t .shares = ext-getD 0 (o .shares) (t .shares) (N .shares-length ∙ r) (λ i l. same-share i) in
-      λ i. leaves (N .answer i) (x i) (y i) (z i)
+      λ i. leaves (answer i) (x i) (y i) (z i)
+    where
+      withQuota : ℕ → Counts
+      withQuota y = record { vars = t .counts .vars; ops = t .counts .ops; maps = t .counts .maps; edition = t .counts .edition; quota = y }
 
 -- a clean task's text, read into tables of enough room
 module _ (t : Tables) (p : tablesFault t ≡ Clean) (f c s : List ℕ) (a : factsRoom ≤ length f) (b : costsRoom ≤ length c) (d : sharesRoom ≤ length s) where
-  read-answer : readText (textOf edition t) f c s .answer ≡ Accepted (canon t .counts)
+  read-answer : readText (textOf t) f c s .answer ≡ Accepted (canon t .counts)
   unfolding outcome
   read-answer = ap (λ (o : Outcome). o .answer) (read-spelled f c s t p a b d)
 
   -- the counts, the task's own numbers, and 0 in every other place
-  pub spelled-named : Named (taskOf t) f c s (readText (textOf edition t) f c s)
-  spelled-named = accepted-named (textOf edition t) f c s (canon t .counts) read-answer (taskOf t) refl
+  pub spelled-named : Named (taskOf t) f c s (readText (textOf t) f c s)
+  spelled-named = accepted-named (textOf t) f c s (canon t .counts) read-answer (taskOf t) refl (tables-by-edition t)
 
   -- where the unused places were 0 already, exactly the same tables
   pub spelled-same : UnusedZero t → length f ≡ length (t .facts) → length c ≡ length (t .costs) → length s ≡ length (t .shares)
-      → readText (textOf edition t) f c s ≡ leaves (Accepted (t .counts)) (t .facts) (t .costs) (t .shares)
-  spelled-same U = same-bytes t f c s (readText (textOf edition t) f c s) spelled-named U
+      → readText (textOf t) f c s ≡ leaves (Accepted (t .counts)) (t .facts) (t .costs) (t .shares)
+  spelled-same U = same-bytes t f c s (readText (textOf t) f c s) spelled-named U

@@ -15,11 +15,16 @@ use Rattle.meaning.specs.Views.{abstractStates, idle}
 use Rattle.meaning.specs.Split.{view}
 use Rattle.tables.specs.Task.{sasOf, taskOf}
 use Rattle.tables.specs.Classes.{noneMissing}
-use Rattle.tables.specs.Layout.{Tables, domAt, classAt, prePlace, effPlace, classPlace, sharePlace}
+use Rattle.tables.specs.Layout.{Tables, domAt, classAt, prePlace, effPlace, classPlace, markPlace, sharePlace}
+use Rattle.tables.specs.Editions.{hasQuota}
 use Rattle.grammar.specs.Fields.{dash, slash, semicolon}
-use Rattle.meaning.specs.Limits.{mostCost, mostStates}
-use Rattle.grammar.specs.Grammar.{accepted, Rest, Part, _▸_, nothing, ask, keep, demand, numberRow, putFact, putCost, putShare, operatorFields, classList, classLists, mapClasses, amounts}
-use Rattle.grammar.specs.Spelling.{digits, joined, numbers, someFacts, shareText, changed, rowPut, factRow}
+use Rattle.meaning.specs.Limits.{mostCost, mostStates, mostMark}
+use Rattle.meaning.proofs.Facts.{by-cases}
+use Rattle.grammar.specs.Grammar.{accepted, Rest, Part, _▸_, nothing, ask, keep, demand, numberRow, putFact, putCost, putShare}
+use Rattle.grammar.specs.Grammar.{markField, operatorFields, classList, classLists, mapClasses, amounts}
+use Rattle.grammar.specs.Spelling.{digits, joined, numbers, someFacts, spelledIn, shareText, changed, rowPut, factRow, markPut}
+use Rattle.grammar.proofs.Editions.{OnlySecond, second-reads, first-reads-nothing, second-spells, first-spells-nothing, second-put, first-put}
+use Rattle.grammar.proofs.Runs.{clash}
 use Rattle.grammar.proofs.SpellParts.{joined-none}
 use Rattle.grammar.proofs.SpellFacts.{on, on-changed, Knows, knows-row}
 use Rattle.grammar.proofs.SpellLines.{onShares, shares-changed}
@@ -91,43 +96,77 @@ module _ (m N : ℕ) (dom : ℕ → ℕ) where
         then = asked-back few TooManyStates (a .rest) l _ k W (a .then);
       }
 
+-- ---- what edition 2 alone has: read there, and else 0
+
+abbrev pub Stated : ℕ → Type 0
+Stated e = (x : ℕ) × OnlySecond e x
+
+mark-back : (e o l : ℕ) (T : Tables) → T .counts .edition ≡ e
+    → BackOf (Stated e) (markField o) l l T (λ a. spelledIn e (semicolon ∷ digits (a .0))) (λ a. on (markPut e (markPlace o) (a .0)) T)
+unfolding markField _▸_ keep
+mark-back e o l T c t k W h =
+    by-cases (hasQuota e)
+    (λ s.
+    let a = lit-back (semicolon ∷ []) l T t _ W (sym (second-reads _ t l T k (ap hasQuota c ∙ s)) ∙ h) in
+    let b = number-back 0 (mostMark + 1) _ (a .rest) l T k W (a .then) in
+    let x = b .what in
+    record {
+      what = (x, clash s);
+      rest = b .rest;
+      says = a .says ∙ ap (λ (y : List ℕ). semicolon ∷ y) (b .says) ∙ ap (λ (y : List ℕ). y ++ b .rest) (sym (second-spells e (semicolon ∷ digits x) s));
+      then = ap (λ (w : List ℕ). k (b .rest) l (on (λ y. w) T)) (second-put e (markPlace o) x (T .facts) s) ∙ b .then .1;
+    })
+    (λ f.
+    record {
+      what = (0, λ z. refl);
+      rest = t;
+      says = ap (λ (y : List ℕ). y ++ t) (sym (first-spells-nothing e (semicolon ∷ digits 0) f));
+      then = ap (λ (w : List ℕ). k t l (on (λ y. w) T)) (first-put e (markPlace o) 0 (T .facts) f) ∙ sym (first-reads-nothing _ t l T k (ap hasQuota c ∙ f)) ∙ h;
+    })
+
 -- ---- an operator
 
-pub record Op : Type 0 where
+pub record Op (e : ℕ) : Type 0 where
   pub cost : ℕ
   pub pre : Facts
   pub eff : Facts
+  pub mark : Stated e
 
-abbrev pub opSpelled : ℕ → Op → List ℕ
-opSpelled N a = digits (a .cost) ++ semicolon ∷ someFacts (a .pre) N 0 ++ semicolon ∷ someFacts (a .eff) N 0
+module _ (e N : ℕ) where
+  abbrev pub opSpelled : Op e → List ℕ
+  opSpelled a =
+      digits (a .cost) ++ semicolon ∷ someFacts (a .pre) N 0 ++ semicolon ∷ someFacts (a .eff) N 0 ++ spelledIn e (semicolon ∷ digits (a .mark .0))
 
-abbrev pub opStored : ℕ → ℕ → Op → Tables → Tables
-opStored N o a T = on (λ w. factRow (effPlace o) (a .eff) N (factRow (prePlace o) (a .pre) N w)) (putCost o (a .cost) T)
+  abbrev pub opStored : ℕ → Op e → Tables → Tables
+  opStored o a T =
+      on (λ w. markPut e (markPlace o) (a .mark .0) (factRow (effPlace o) (a .eff) N (factRow (prePlace o) (a .pre) N w))) (putCost o (a .cost) T)
 
--- five pieces one after another
-pieces : (a b c t u₁ u₂ u₃ u₄ u : List ℕ) → t ≡ a ++ u₁ → u₁ ≡ semicolon ∷ u₂ → u₂ ≡ b ++ u₃ → u₃ ≡ semicolon ∷ u₄ → u₄ ≡ c ++ u
-    → t ≡ (a ++ semicolon ∷ b ++ semicolon ∷ c) ++ u
-pieces a b c t u₁ u₂ u₃ u₄ u p q r v w =
-    p ∙ ap (λ (x : List ℕ). a ++ x) (q ∙ ap (λ (x : List ℕ). semicolon ∷ x) (r ∙ ap (λ (x : List ℕ). b ++ x) (v ∙ ap (λ (x : List ℕ). semicolon ∷ x) w))) ∙ simp append-assoc
+  -- six pieces one after another
+  pieces : (a b c d t u₁ u₂ u₃ u₄ u₅ u : List ℕ) → t ≡ a ++ u₁ → u₁ ≡ semicolon ∷ u₂ → u₂ ≡ b ++ u₃ → u₃ ≡ semicolon ∷ u₄ → u₄ ≡ c ++ u₅ → u₅ ≡ d ++ u
+      → t ≡ (a ++ semicolon ∷ b ++ semicolon ∷ c ++ d) ++ u
+  pieces a b c d t u₁ u₂ u₃ u₄ u₅ u p q r v w x =
+      let z : t ≡ a ++ (semicolon ∷ (b ++ (semicolon ∷ (c ++ (d ++ u))))) = cc in
+      z ∙ simp append-assoc
 
-pub operator-back : (N o l : ℕ) (T : Tables) → T .counts .vars ≡ N → BackOf Op (operatorFields o) l l T (opSpelled N) (λ a. opStored N o a T)
-unfolding operatorFields _▸_ nothing keep
-operator-back N o l T e t k W h =
-    let a = number-back 0 (mostCost + 1) (λ c. keep (putCost o c)) t l T _ W h in
-    let T₁ = putCost o (a .what) T in
-    let b = lit-back (semicolon ∷ []) l T₁ (a .rest) _ W (a .then .1) in
-    let c = facts-back (prePlace o) N l T₁ e (b .rest) _ W (b .then) in
-    let T₂ = on (factRow (prePlace o) (c .what) N) T₁ in
-    let d = lit-back (semicolon ∷ []) l T₂ (c .rest) _ W (c .then) in
-    let f = facts-back (effPlace o) N l T₂ e (d .rest) _ W (d .then) in
-    record {
-      what = record { cost = a .what; pre = c .what; eff = f .what };
-      rest = f .rest;
-      says =
-          pieces (digits (a .what)) (someFacts (c .what) N 0) (someFacts (f .what) N 0) t (a .rest) (b .rest) (c .rest) (d .rest) (f .rest) (a .says) (b .says) (c .says) (d .says)
-          (f .says);
-      then = asked-back (λ U. not (idle (sasOf U) o)) IdleOperator (f .rest) l _ k W (f .then);
-    }
+  pub operator-back : (o l : ℕ) (T : Tables) → T .counts .vars ≡ N → T .counts .edition ≡ e → BackOf (Op e) (operatorFields o) l l T opSpelled (λ a. opStored o a T)
+  unfolding operatorFields _▸_ nothing keep
+  operator-back o l T n z t k W h =
+      let a = number-back 0 (mostCost + 1) (λ c. keep (putCost o c)) t l T _ W h in
+      let T₁ = putCost o (a .what) T in
+      let b = lit-back (semicolon ∷ []) l T₁ (a .rest) _ W (a .then .1) in
+      let c = facts-back (prePlace o) N l T₁ n (b .rest) _ W (b .then) in
+      let T₂ = on (factRow (prePlace o) (c .what) N) T₁ in
+      let d = lit-back (semicolon ∷ []) l T₂ (c .rest) _ W (c .then) in
+      let f = facts-back (effPlace o) N l T₂ n (d .rest) _ W (d .then) in
+      let g = mark-back e o l (on (factRow (effPlace o) (f .what) N) T₂) z (f .rest) _ W (f .then) in
+      record {
+        what = record { cost = a .what; pre = c .what; eff = f .what; mark = g .what };
+        rest = g .rest;
+        says =
+            pieces (digits (a .what)) (someFacts (c .what) N 0) (someFacts (f .what) N 0) (spelledIn e (semicolon ∷ digits (g .what .0))) t (a .rest) (b .rest) (c .rest) (d .rest)
+            (f .rest) (g .rest) (a .says) (b .says) (c .says) (d .says) (f .says) (g .says);
+        then = asked-back (λ U. not (idle (sasOf U) o)) IdleOperator (g .rest) l _ k W (g .then);
+      }
 
 -- ---- shares
 

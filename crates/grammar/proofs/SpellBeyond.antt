@@ -3,15 +3,18 @@
 use Prim.Native.Nat.{ℕ, zero, suc, _-_, _≤_, _<_}
 use native.Mathlib.Omega.{arith}
 use mathlib.Core.Path.{_≡_, _∙_}
+use mathlib.Core.Bool.{true}
 use mathlib.Core.List.{List, [], _∷_, _++_}
 use lib.ListN.{length, getD, replicate}
 use Rattle.meaning.specs.Split.{Task}
-use Rattle.tables.specs.Layout.{factsRoom, costsRoom, sharesRoom, domPlace, initPlace, goalPlace, prePlace, effPlace, classPlace, sharePlace}
+use Rattle.tables.specs.Layout.{factsRoom, costsRoom, sharesRoom, domPlace, initPlace, goalPlace, prePlace, effPlace, classPlace, markPlace, sharePlace}
+use Rattle.tables.specs.Editions.{hasQuota}
 use Rattle.grammar.specs.Fields.{filled}
 use Rattle.grammar.specs.Spelling.{rowPut, opRows, mapRows, headRows, tablesOf}
 use Rattle.grammar.proofs.SpellTables.{Spares, spares-changed, spares-row, spares-facts, zeros}
+use Rattle.grammar.proofs.SpellOwn.{spares-op}
 
--- a place of the facts that is none of the task's
+-- a place of the facts that is none of the task's: the marks are in edition 2 alone
 pub record NotOwn (τ : Task) (p : ℕ) : Type 0 where
   pub dom : (v : ℕ) → v < τ .sas .vars → p ≡ domPlace v → ⊥
   pub init : (v : ℕ) → v < τ .sas .vars → p ≡ initPlace v → ⊥
@@ -19,6 +22,7 @@ pub record NotOwn (τ : Task) (p : ℕ) : Type 0 where
   pub pre : (o v : ℕ) → o < τ .sas .ops → v < τ .sas .vars → p ≡ prePlace o v → ⊥
   pub eff : (o v : ℕ) → o < τ .sas .ops → v < τ .sas .vars → p ≡ effPlace o v → ⊥
   pub class : (m v x : ℕ) → m < τ .maps → v < τ .sas .vars → x < τ .sas .dom v → p ≡ classPlace m v x → ⊥
+  pub mark : (o : ℕ) → o < τ .sas .ops → hasQuota (τ .edition) ≡ true → p ≡ markPlace o → ⊥
 
 module _ (τ : Task) (p : ℕ) (n : NotOwn τ p) where
   head-spared : Spares (headRows τ) p
@@ -29,9 +33,7 @@ module _ (τ : Task) (p : ℕ) (n : NotOwn τ p) where
       ∙ spares-row domPlace (τ .sas .dom) p (τ .sas .vars) (n .dom) w
 
   op-spared : (o : ℕ) → o < τ .sas .ops → Spares (opRows τ o) p
-  unfolding opRows
-  op-spared o h w =
-      spares-facts (effPlace o) (τ .sas .eff o) p (τ .sas .vars) (λ v. n .eff o v h) _ ∙ spares-facts (prePlace o) (τ .sas .pre o) p (τ .sas .vars) (λ v. n .pre o v h) w
+  op-spared o h = spares-op τ o p (λ v. n .pre o v h) (λ v. n .eff o v h) (n .mark o h)
 
   map-spared : (m : ℕ) → m < τ .maps → Spares (mapRows τ m) p
   unfolding mapRows

@@ -19,7 +19,8 @@ use Rattle.tables.specs.Layout.{Tables, domPlace, domAt}
 use Rattle.scan.specs.Scan.{unless, _then_, each}
 use Rattle.grammar.specs.Fields.{isDigit, comma, dash, colon}
 use Rattle.grammar.specs.Grammar.{Verdict, refused, Rest, Part, _▸_, nothing, ask, keep, demand, lit, choice, fits, numeral, putFact, factsFrom, factList}
-use Rattle.grammar.specs.Spelling.{digits, fact, anotherFact, moreFacts, firstFact, someFacts, changed, rowPut, factPut, factRow}
+use Rattle.grammar.specs.Spelling.{digits, fact, anotherFact, moreFacts, firstFact, someFacts, changed, rowPut, factPut, factRow, markPut}
+use Rattle.grammar.proofs.Editions.{put-either}
 use Rattle.grammar.proofs.Runs.{Stop, nil, other}
 use Rattle.grammar.proofs.Decimal.{Head, head, digits-head}
 use Rattle.grammar.proofs.SpellParts.{judged, next, Told, demand-told, lit-told, number-told, comma-no-digit}
@@ -94,6 +95,10 @@ pub knows-said : {n : ℕ} {dom : ℕ → ℕ} (T : Tables) (k i : ℕ) → most
 unfolding factPut
 knows-said T zero i h q = q
 knows-said T (suc k) i h q = knows-set T i (suc k) h q
+
+pub knows-mark : {n : ℕ} {dom : ℕ → ℕ} (T : Tables) (e i x : ℕ) → mostVars ≤ i → Knows n dom T → Knows n dom (on (markPut e i x) T)
+knows-mark {n = n} {dom = dom} T e i x h q =
+    put-either e i x (T .facts) (λ w. Knows n dom (on (λ v. w) T)) (λ s. knows-set T i x h q) (λ f. q)
 
 module _ {n : ℕ} {dom : ℕ → ℕ} where
   pub knows-changed : (g : ℕ → List ℕ → List ℕ) → ((j : ℕ) (T : Tables) → Knows n dom T → Knows n dom (on (g j) T)) → (k i : ℕ) (T : Tables) → Knows n dom T

@@ -10,13 +10,12 @@ use Rattle.scan.specs.Scan.{taskFault}
 use Rattle.scan.proofs.Numbers.{OfTask, task-refused}
 use Rattle.tables.specs.Layout.{Tables}
 use Rattle.tables.specs.Task.{taskOf}
-use Rattle.grammar.specs.Fields.{edition}
 use Rattle.grammar.specs.Grammar.{accepted, refused, verdict}
 use Rattle.grammar.specs.Spelling.{textOf, canon}
 use Rattle.grammar.proofs.SpellParts.{judged}
 use Rattle.grammar.proofs.SpellTask.{scan-is-grammar}
 
-pub spelled-refused : (t : Tables) (r : Refusal) → verdict (textOf edition t) ≡ refused r → OfTask r
+pub spelled-refused : (t : Tables) (r : Refusal) → verdict (textOf t) ≡ refused r → OfTask r
 spelled-refused t r h = task-refused (taskOf t) r (go (taskFault (taskOf t)) (sym (scan-is-grammar t) ∙ h))
   where
     go : (f : Found) → judged f (accepted (canon t)) ≡ refused r → f ≡ Fault r

@@ -1,5 +1,5 @@
 -- What an accepted text leaves, place by place: the number that the text names in each of the task's own places, 0 in every other, and no lent table longer or
--- shorter. The tables of the task that the text spells are there, and zeros after them. Assumes nothing.
+-- shorter. The tables of the task that the text spells are there, and zeros after them. In edition 1 quota and marks are among the others. Assumes nothing.
 use Prim.Native.Nat.{ℕ, zero, suc, _-_, _≤_, _<_}
 use native.Mathlib.Omega.{arith}
 use mathlib.Core.Path.{_≡_, refl, sym, ap, _∙_, subst}
@@ -12,14 +12,18 @@ use Rattle.meaning.specs.Limits.{mostBytes}
 use Rattle.meaning.specs.Split.{Task, Valid}
 use Rattle.meaning.proofs.Facts.{by-order}
 use Rattle.tables.specs.declared.Counts.{Counts}
-use Rattle.tables.specs.Layout.{Tables, factsRoom, costsRoom, sharesRoom, domPlace, initPlace, goalPlace, prePlace, effPlace, classPlace, sharePlace}
+use Rattle.tables.specs.Layout.{Tables, factsRoom, costsRoom, sharesRoom, domPlace, initPlace, goalPlace, prePlace, effPlace, classPlace, markPlace, sharePlace, markAt}
+use Rattle.tables.specs.Editions.{hasQuota, readIn}
 use Rattle.tables.specs.Task.{tables, taskOf}
+use Rattle.tables.proofs.Editions.{has-none}
 use Rattle.scan.specs.declared.Found.the-variants.{Clean}
 use Rattle.scan.specs.Scan.{taskFault}
 use Rattle.grammar.specs.declared.Reading.the-variants.{Accepted, Refused}
-use Rattle.grammar.specs.Fields.{edition, Outcome, leaves, filled, admitted}
+use Rattle.grammar.specs.Fields.{Outcome, leaves, filled, admitted}
 use Rattle.grammar.specs.Grammar.{Verdict, accepted, refused, outcome, verdict, readText}
 use Rattle.grammar.specs.Spelling.{spelled, tablesOf}
+use Rattle.grammar.proofs.Editions.{ByEdition, tables-by-edition}
+use Rattle.grammar.proofs.Runs.{clash}
 use Rattle.grammar.proofs.Admission.{not-accepted, facts-short, costs-short, shares-short, accepted-outcome}
 use Rattle.grammar.proofs.SpellTables.{zeros, long-row}
 use Rattle.grammar.proofs.SpellOwn.{long-facts-of, long-shares-of}
@@ -85,19 +89,19 @@ module _ (x f c s : List ℕ) (n : Counts) (h : readText x f c s .answer ≡ Acc
       (a, b, by-order (length s) sharesRoom (λ l. not-accepted (so _ (shares-short x f c s a b l))) (λ g. g))
 
   -- ---- THE TASK THAT THE TEXT SPELLS
-  module _ (τ : Task) (e : x ≡ spelled edition τ) where
+  module _ (τ : Task) (e : x ≡ spelled τ) (by : ByEdition τ) where
     spelled-own : (taskFault τ ≡ Clean) × (verdict x ≡ accepted (tablesOf τ))
     spelled-own =
         let R = read-accepted f c s x n h in
         let v = spells-accepted x (R .tables) (R .spells) in
-        let j = judged-accepted (taskFault τ) (tablesOf τ) (R .tables) (sym (spelled-judged τ) ∙ ap verdict (sym e) ∙ v) in
+        let j = judged-accepted (taskFault τ) (tablesOf τ) (R .tables) (sym (spelled-judged τ by) ∙ ap verdict (sym e) ∙ v) in
         (j .0, v ∙ ap accepted (sym (j .1)))
 
     named-left : Named τ f c s (outcome (accepted (tablesOf τ)) f c s)
     unfolding outcome
     named-left =
         let t = tablesOf τ in
-        let a = own-numbers τ (clean-small τ (spelled-own .0)) in
+        let a = own-numbers τ (clean-small τ (spelled-own .0)) by in
         let fact = filled-at factsRoom (t .facts) f in
         let r = rooms in
         record {
@@ -107,9 +111,11 @@ module _ (x f c s : List ℕ) (n : Counts) (h : readText x f c s .answer ≡ Acc
                 dom = λ v l. fact (domPlace v) ∙ a .dom v l;
                 init = λ v l. fact (initPlace v) ∙ a .init v l;
                 goal = λ v l. fact (goalPlace v) ∙ a .goal v l;
+                quota = a .quota;
                 cost = λ o l. filled-at costsRoom (t .costs) c o ∙ a .cost o l;
                 pre = λ o v lo l. fact (prePlace o v) ∙ a .pre o v lo l;
                 eff = λ o v lo l. fact (effPlace o v) ∙ a .eff o v lo l;
+                mark = λ o l. ap (readIn (t .counts .edition)) (fact (markPlace o)) ∙ a .mark o l;
                 class = λ m v y lm l g. fact (classPlace m v y) ∙ a .class m v y lm l g;
                 share = λ m o lm l. filled-at sharesRoom (t .shares) s (sharePlace m o) ∙ a .share m o lm l;
               };
@@ -125,16 +131,50 @@ module _ (x f c s : List ℕ) (n : Counts) (h : readText x f c s .answer ≡ Acc
     accepted-named =
         subst (Named τ f c s) (sym (accepted-outcome x f c s n h ∙ ap (λ (v : Verdict). outcome v f c s) (spelled-own .1))) named-left
 
--- there is such a task, and it is valid: an accepted text spells one, and so has at most 10,449 bytes
-pub accepted-task-of : (x f c s : List ℕ) (n : Counts) → readText x f c s .answer ≡ Accepted n → (τ : Task) × (x ≡ spelled edition τ) × Valid τ
+-- there is such a task, and it is valid: an accepted text spells one, and so has at most 10,588 bytes
+pub accepted-task-of : (x f c s : List ℕ) (n : Counts) → readText x f c s .answer ≡ Accepted n → (τ : Task) × (x ≡ spelled τ) × Valid τ × ByEdition τ
 accepted-task-of x f c s n h =
     let R = read-accepted f c s x n h in
-    (taskOf (R .tables), sym (R .spells .text), R .spells .valid)
+    (taskOf (R .tables), sym (R .spells .text), R .spells .valid, tables-by-edition (R .tables))
 
-pub accepted-short : (x f c s : List ℕ) (n : Counts) → readText x f c s .answer ≡ Accepted n → length x ≤ 10449
+pub accepted-short : (x f c s : List ℕ) (n : Counts) → readText x f c s .answer ≡ Accepted n → length x ≤ 10588
 accepted-short x f c s n h =
     let t = accepted-task-of x f c s n h in
-    subst (λ (y : List ℕ). length y ≤ 10449) (sym (t .1)) (spelled-short (t .0) (t .2))
+    subst (λ (y : List ℕ). length y ≤ 10588) (sym (t .1)) (spelled-short (t .0) (t .2))
+
+-- ---- EDITION 1 LEAVES 0: as quota, and in the place of every mark
+
+-- its marks are none of the task's own places
+first-not-own : (τ : Task) → Valid τ → hasQuota (τ .edition) ≡ false → (o : ℕ) → NotOwn τ (markPlace o)
+first-not-own τ k h o =
+    let few = k .vars .1 in
+    let ops = k .ops in
+    let maps = k .maps .1 in
+    record {
+      dom = λ v l e. omega arith;
+      init = λ v l e. omega arith;
+      goal = λ v l e. omega arith;
+      pre = λ i v b l e. omega arith;
+      eff = λ i v b l e. omega arith;
+      class = λ m v x b l g e. let most = k .values v l in omega arith;
+      mark = λ i l s e. clash s h;
+    }
+
+pub first-read-zero : (x f c s : List ℕ) (n : Counts) → readText x f c s .answer ≡ Accepted n → n .edition ≡ 1
+    → (n .quota ≡ 0) × ((o : ℕ) → markAt (readText x f c s .facts) o ≡ 0)
+unfolding tablesOf
+first-read-zero x f c s n h e =
+    let t = accepted-task-of x f c s n h in
+    let τ = t .0 in
+    let N = accepted-named x f c s n h τ (t .1) (t .3) in
+    let same : tablesOf τ .counts ≡ n = counts-of (sym (N .answer) ∙ h) in
+    let first : hasQuota (τ .edition) ≡ false = ap (λ (u : Counts). hasQuota (u .edition)) same ∙ ap hasQuota e in (
+      ap (λ (u : Counts). u .quota) (sym same) ∙ has-none (τ .edition) (τ .quota) first,
+      λ o. N .facts-beyond (markPlace o) (first-not-own τ (t .2) first o),
+    )
+  where
+    counts-of : {a b : Counts} → Accepted a ≡ Accepted b → a ≡ b
+    counts-of p = cc
 
 -- ---- WHAT STOOD IN THE LENT TABLES DOESN'T MATTER: tables of the same lengths get the same answer, and the same numbers where it is accepted
 

@@ -5,25 +5,28 @@ use Prim.Native.Nat.{ℕ, _+_, _≤_, _<_}
 use native.Mathlib.Omega.{arith}
 use mathlib.Core.Path.{_≡_, refl, ap, ap₂, _∙_}
 use mathlib.Core.List.{List, [], _∷_, _++_, append-assoc}
-use mathlib.Core.Bool.{not}
+use mathlib.Core.Bool.{true, not}
 use lib.Dec.{leb}
 use lib.ListN.{length}
 use Rattle.refusals.specs.declared.Refusal.the-variants.{OutOfRange, IdleOperator}
-use Rattle.meaning.specs.Limits.{mostVars, mostCost, mostOps}
+use Rattle.meaning.specs.Limits.{mostVars, mostCost, mostOps, mostMark}
 use Rattle.meaning.specs.Sas.{Facts}
 use Rattle.meaning.specs.Split.{Task}
 use Rattle.meaning.specs.Views.{asked, every, idle}
-use Rattle.meaning.proofs.Facts.{every-same}
-use Rattle.tables.specs.Layout.{Tables, factsRoom, prePlace, effPlace, preAt, effAt}
+use Rattle.meaning.proofs.Facts.{every-same, by-cases}
+use Rattle.tables.specs.Layout.{Tables, factsRoom, prePlace, effPlace, markPlace, preAt, effAt}
+use Rattle.tables.specs.Editions.{hasQuota}
 use Rattle.tables.specs.Task.{sasOf}
 use Rattle.scan.specs.declared.Found.{Found}
 use Rattle.scan.specs.Scan.{unless, _then_, factsFault}
 use Rattle.grammar.specs.Fields.{isDigit, dash, semicolon}
-use Rattle.grammar.specs.Grammar.{Rest, Part, _▸_, nothing, ask, keep, demand, lit, choice, numeral, factList, putCost}
-use Rattle.grammar.specs.Spelling.{digits, someFacts, opText, factRow, opRows}
-use Rattle.grammar.proofs.SpellParts.{judged, next, asked-told, lit-told, number-told}
-use Rattle.grammar.proofs.SpellFacts.{within-most, on, Knows, knows-facts, Over, at-byte, over-stop, facts-told}
-use Rattle.grammar.proofs.SpellOwn.{long-op, spares-op, op-pre, op-eff}
+use Rattle.grammar.specs.Grammar.{Rest, Part, _▸_, nothing, ask, keep, demand, lit, choice, numeral, factList, putFact, putCost, markField}
+use Rattle.grammar.specs.Spelling.{digits, someFacts, spelledIn, opText, factRow, markPut, opRows}
+use Rattle.grammar.proofs.Editions.{ByEdition, second-reads, first-reads-nothing, second-spells, first-spells-nothing, spelled-either, second-put, first-put}
+use Rattle.grammar.proofs.Runs.{Stop}
+use Rattle.grammar.proofs.SpellParts.{judged, Told, both-told, asked-told, lit-told, number-told}
+use Rattle.grammar.proofs.SpellFacts.{within-most, on, Knows, knows-facts, knows-mark, Over, at-byte, over-stop, facts-told}
+use Rattle.grammar.proofs.SpellOwn.{factRows, long-op, spares-op, op-pre, op-eff}
 
 pub semicolon-ends : (t : List ℕ) → Over (semicolon ∷ t)
 unfolding isDigit
@@ -38,6 +41,9 @@ module _ (τ : Task) (o : ℕ) where
   abbrev pub preChange : Tables → Tables
   preChange T = on (factRow (prePlace o) (τ .sas .pre o) (τ .sas .vars)) (putCost o (τ .sas .cost o) T)
 
+  abbrev pub effChange : Tables → Tables
+  effChange T = on (factRows τ o) (putCost o (τ .sas .cost o) T)
+
   abbrev pub opChange : Tables → Tables
   opChange T = on (opRows τ o) (putCost o (τ .sas .cost o) T)
 
@@ -47,72 +53,138 @@ module _ (τ : Task) (o : ℕ) where
   known-pre : (T : Tables) → Known τ T → Known τ (on (factRow (prePlace o) (τ .sas .pre o) (τ .sas .vars)) T)
   known-pre = knows-facts (prePlace o) (τ .sas .pre o) (λ v. omega arith) (τ .sas .vars)
 
+  known-facts : (T : Tables) → Known τ T → Known τ (on (factRows τ o) T)
+  known-facts T w = knows-facts (effPlace o) (τ .sas .eff o) (λ v. omega arith) (τ .sas .vars) _ (known-pre T w)
+
   pub known-rows : (T : Tables) → Known τ T → Known τ (on (opRows τ o) T)
   unfolding opRows
-  known-rows T w = knows-facts (effPlace o) (τ .sas .eff o) (λ v. omega arith) (τ .sas .vars) _ (known-pre T w)
+  known-rows T w = knows-mark (on (factRows τ o) T) (τ .edition) (markPlace o) (τ .mark o) (omega arith) (known-facts T w)
 
--- ---- the fields, and then the part p
+-- ---- the fields, one after another
 
 -- a list of facts after its semicolon
-list-told : (τ : Task) (place : ℕ → ℕ) → ((v : ℕ) → mostVars ≤ place v) → (F : Facts) (l : ℕ) (p : Part) (T : Tables) → Known τ T → (u : List ℕ) → Over u → (k : Rest)
-    → (lit (semicolon ∷ []) ▸ factList place ▸ p) (semicolon ∷ (someFacts F (τ .sas .vars) 0 ++ u)) l T k
-    ≡ judged (factsFault τ F l) (p u l (on (factRow place F (τ .sas .vars)) T) k)
+abbrev pub listPart : (ℕ → ℕ) → Part
+listPart place = lit (semicolon ∷ []) ▸ factList place
+
+list-told : (τ : Task) (place : ℕ → ℕ) → ((v : ℕ) → mostVars ≤ place v) → (F : Facts) (l : ℕ) (T : Tables) → Known τ T → (u : List ℕ) → Over u
+    → Told (listPart place) (semicolon ∷ someFacts F (τ .sas .vars) 0) u l T (factsFault τ F l) (on (factRow place F (τ .sas .vars)) T)
 unfolding _▸_ factsFault
-list-told τ place high F l p T w u e k =
-    lit-told (semicolon ∷ []) (someFacts F (τ .sas .vars) 0 ++ u) l T (λ t m U. (factList place ▸ p) t m U k)
-    ∙ facts-told place high F (τ .sas .dom) (τ .sas .vars) u e l T w (λ t m U. p t m U k)
+list-told τ place high F l T w u e k =
+    lit-told (semicolon ∷ []) (someFacts F (τ .sas .vars) 0 ++ u) l T (λ t m U. factList place t m U k)
+    ∙ facts-told place high F (τ .sas .dom) (τ .sas .vars) u e l T w k
 
 -- a dash there is a whole list, whatever follows it
-pub dash-told : (place : ℕ → ℕ) (l : ℕ) (p : Part) (T : Tables) (u : List ℕ) (k : Rest)
-    → (lit (semicolon ∷ []) ▸ factList place ▸ p) (semicolon ∷ dash ∷ u) l T k ≡ p u l T k
+pub dash-told : (place : ℕ → ℕ) (u : List ℕ) (l : ℕ) (T : Tables) (k : Rest) → listPart place (semicolon ∷ dash ∷ u) l T k ≡ k u l T
 unfolding _▸_ factList choice nothing
-dash-told place l p T u k = lit-told (semicolon ∷ []) (dash ∷ u) l T (λ t m U. (factList place ▸ p) t m U k)
+dash-told place u l T k = lit-told (semicolon ∷ []) (dash ∷ u) l T (λ t m U. factList place t m U k)
 
--- up to the preconditions
-abbrev pub preFields : ℕ → Part → Part
-preFields o p = numeral 0 (mostCost + 1) (λ c. keep (putCost o c)) ▸ lit (semicolon ∷ []) ▸ factList (prePlace o) ▸ p
+-- up to the preconditions, up to the effects, and up to the mark, which edition 2 has
+abbrev pub prePart : ℕ → Part
+prePart o = numeral 0 (mostCost + 1) (λ c. keep (putCost o c)) ▸ listPart (prePlace o)
 
-module _ (τ : Task) (o l : ℕ) where
-  abbrev costFault : Found
-  costFault = unless (leb (τ .sas .cost o) mostCost) (OutOfRange l)
+abbrev pub effPart : ℕ → Part
+effPart o = prePart o ▸ listPart (effPlace o)
 
-  abbrev pub preFault : Found
-  preFault = costFault then factsFault τ (τ .sas .pre o) l
+abbrev pub markPart : ℕ → Part
+markPart o = lit (semicolon ∷ []) ▸ numeral 0 (mostMark + 1) (λ x. keep (putFact (markPlace o) x))
 
-  pub pre-told : (p : Part) (T : Tables) → Known τ T → (u : List ℕ) → Over u → (k : Rest)
-      → preFields o p (digits (τ .sas .cost o) ++ (semicolon ∷ (someFacts (τ .sas .pre o) (τ .sas .vars) 0 ++ u))) l T k ≡ judged preFault (p u l (preChange τ o T) k)
-  unfolding _▸_ keep
-  pre-told p T w u e k =
-      let facts = semicolon ∷ (someFacts (τ .sas .pre o) (τ .sas .vars) 0 ++ u) in
-      let T₁ = putCost o (τ .sas .cost o) T in
-      next {B = (lit (semicolon ∷ []) ▸ factList (prePlace o) ▸ p) facts l T₁ k} costFault (factsFault τ (τ .sas .pre o) l) _
-      (number-told 0 (mostCost + 1) (τ .sas .cost o) (λ c. keep (putCost o c)) facts l T _ (over-stop (semicolon-ends _))
-      ∙ rw (within-most (τ .sas .cost o) mostCost) refl)
-      (λ c. list-told τ (prePlace o) (λ v. omega arith) (τ .sas .pre o) l p T₁ (known-cost τ o T w) u e k)
+abbrev pub allPart : ℕ → Part
+allPart o = effPart o ▸ markField o
 
--- up to the effects
-abbrev pub allFields : ℕ → Part → Part
-allFields o p = preFields o (lit (semicolon ∷ []) ▸ factList (effPlace o) ▸ p)
+module _ (τ : Task) (o : ℕ) where
+  abbrev pub preText : List ℕ
+  preText = digits (τ .sas .cost o) ++ semicolon ∷ someFacts (τ .sas .pre o) (τ .sas .vars) 0
 
-module _ (τ : Task) (o l : ℕ) where
-  abbrev pub allFault : Found
-  allFault = preFault τ o l then factsFault τ (τ .sas .eff o) l
+  abbrev pub effText : List ℕ
+  effText = preText ++ semicolon ∷ someFacts (τ .sas .eff o) (τ .sas .vars) 0
 
-  pub all-told : (p : Part) (T : Tables) → Known τ T → (u : List ℕ) → Over u → (k : Rest)
-      → allFields o p (opText τ o ++ u) l T k ≡ judged allFault (p u l (opChange τ o T) k)
+  abbrev pub markText : List ℕ
+  markText = spelledIn (τ .edition) (semicolon ∷ digits (τ .mark o))
+
+  module _ (l : ℕ) where
+    abbrev costFault : Found
+    costFault = unless (leb (τ .sas .cost o) mostCost) (OutOfRange l)
+
+    abbrev pub preFault : Found
+    preFault = costFault then factsFault τ (τ .sas .pre o) l
+
+    abbrev pub effFault : Found
+    effFault = preFault then factsFault τ (τ .sas .eff o) l
+
+    abbrev pub markFault : Found
+    markFault = unless (leb (τ .mark o) mostMark) (OutOfRange l)
+
+    abbrev pub allFault : Found
+    allFault = effFault then markFault
+
+    module _ (T : Tables) where
+      cost-told : (u : List ℕ) → Stop u → Told (numeral 0 (mostCost + 1) (λ c. keep (putCost o c))) (digits (τ .sas .cost o)) u l T costFault (putCost o (τ .sas .cost o) T)
+      unfolding keep
+      cost-told u s k =
+          number-told 0 (mostCost + 1) (τ .sas .cost o) (λ c. keep (putCost o c)) u l T k s ∙ rw (within-most (τ .sas .cost o) mostCost) refl
+
+      pub pre-told : Known τ T → (u : List ℕ) → Over u → Told (prePart o) preText u l T preFault (preChange τ o T)
+      pre-told w u e =
+          let T₁ = putCost o (τ .sas .cost o) T in
+          both-told _ (listPart (prePlace o)) (digits (τ .sas .cost o)) _ u l T T₁ _ costFault _ (cost-told _ (over-stop (semicolon-ends _)))
+          (list-told τ (prePlace o) (λ v. omega arith) (τ .sas .pre o) l T₁ (known-cost τ o T w) u e)
+
+      pub eff-told : Known τ T → (u : List ℕ) → Over u → Told (effPart o) effText u l T effFault (effChange τ o T)
+      eff-told w u e =
+          both-told (prePart o) (listPart (effPlace o)) preText _ u l T (preChange τ o T) _ preFault _ (pre-told w _ (semicolon-ends _))
+          (list-told τ (effPlace o) (λ v. omega arith) (τ .sas .eff o) l (preChange τ o T) (known-pre τ o _ (known-cost τ o T w)) u e)
+
+    -- THE MARK: in edition 2 its rule; in edition 1 nothing is read, and its mark is 0
+    pub mark-told : ByEdition τ → (T : Tables) → T .counts .edition ≡ τ .edition → (u : List ℕ) → Stop u
+        → Told (markField o) markText u l T markFault (on (markPut (τ .edition) (markPlace o) (τ .mark o)) T)
+    unfolding markField _▸_ keep
+    mark-told by T e u s k =
+        let x = τ .mark o in
+        by-cases (hasQuota (τ .edition))
+        (λ h.
+        ap (λ (t : List ℕ). markField o (t ++ u) l T k) (second-spells (τ .edition) (semicolon ∷ digits x) h)
+        ∙ second-reads (markPart o) (semicolon ∷ (digits x ++ u)) l T k (ap hasQuota e ∙ h)
+        ∙ lit-told (semicolon ∷ []) (digits x ++ u) l T _
+        ∙ number-told 0 (mostMark + 1) x (λ y. keep (putFact (markPlace o) y)) u l T k s
+        ∙ rw (within-most x mostMark, second-put (τ .edition) (markPlace o) x (T .facts) h) refl)
+        (λ h.
+        ap (λ (t : List ℕ). markField o (t ++ u) l T k) (first-spells-nothing (τ .edition) (semicolon ∷ digits x) h)
+        ∙ first-reads-nothing (markPart o) u l T k (ap hasQuota e ∙ h)
+        ∙ rw (first-put (τ .edition) (markPlace o) x (T .facts) h, by .mark o h) refl)
+
+    -- in edition 2 a mark is asked for where the effects end, whatever stands there
+    pub second-told : (T : Tables) → Known τ T → T .counts .edition ≡ τ .edition → hasQuota (τ .edition) ≡ true → (u : List ℕ) → Over u → (k : Rest)
+        → allPart o (effText ++ u) l T k ≡ judged effFault (markPart o u l (effChange τ o T) k)
+    unfolding markField _▸_
+    second-told T w e h u d k =
+        eff-told T w u d (λ t m U. markField o t m U k) ∙ ap (judged effFault) (second-reads (markPart o) u l (effChange τ o T) k (ap hasQuota e ∙ h))
+
+  -- where its last field is over: in edition 1 the list of its effects, which a digit or a comma would go on; in edition 2 its mark, which only a digit would
+  pub record Ended (u : List ℕ) : Type 0 where
+    pub list : Over (markText ++ u)
+    pub number : Stop u
+
+  pub over-ended : {u : List ℕ} → Over u → Ended u
+  over-ended {u = u} e =
+      record { list = spelled-either (τ .edition) _ (λ xs. Over (xs ++ u)) (λ h. semicolon-ends _) (λ h. e); number = over-stop e }
+
+  pub stop-ended : {u : List ℕ} → hasQuota (τ .edition) ≡ true → Stop u → Ended u
+  stop-ended h s = record { list = rw (second-spells (τ .edition) (semicolon ∷ digits (τ .mark o)) h) (semicolon-ends _); number = s }
+
+  -- ALL OF THEM
+  pub all-told : ByEdition τ → (l : ℕ) (T : Tables) → Known τ T → T .counts .edition ≡ τ .edition → (u : List ℕ) → Ended u
+      → Told (allPart o) (opText τ o) u l T (allFault l) (opChange τ o T)
   unfolding opText opRows
-  all-told p T w u e k =
-      let facts = semicolon ∷ (someFacts (τ .sas .eff o) (τ .sas .vars) 0 ++ u) in
-      let q : opText τ o ++ u ≡ digits (τ .sas .cost o) ++ (semicolon ∷ (someFacts (τ .sas .pre o) (τ .sas .vars) 0 ++ facts)) = simp append-assoc in
-      next (preFault τ o l) (factsFault τ (τ .sas .eff o) l) _
-      (ap (λ (t : List ℕ). allFields o p t l T k) q ∙ pre-told τ o l _ T w facts (semicolon-ends _) k)
-      (λ c. list-told τ (effPlace o) (λ v. omega arith) (τ .sas .eff o) l p (preChange τ o T) (known-pre τ o _ (known-cost τ o T w)) u e k)
+  all-told by l T w e u d =
+      both-told (effPart o) (markField o) effText markText u l T (effChange τ o T) _ (effFault l) (markFault l) (eff-told l T w (markText ++ u) (d .list))
+      (mark-told l by (effChange τ o T) e u (d .number))
 
 -- ---- the tables in which it is read
 
--- they know the variables, have room for the facts and for this operator, and nothing stands in its two rows
+-- they know the variables and the edition, have room for the facts and for this operator, and nothing stands in its two rows
 pub record Fresh (τ : Task) (o : ℕ) (T : Tables) : Type 0 where
   pub known : Known τ T
+  pub edition : T .counts .edition ≡ τ .edition
   pub within : o < mostOps
   pub room : length (T .facts) ≡ factsRoom
   pub pre : (v : ℕ) → v < τ .sas .vars → preAt (T .facts) o v ≡ 0
@@ -125,10 +197,11 @@ fresh-later τ i o T h w =
     let own = w .within in
     record {
       known = known-rows τ i _ (known-cost τ i T (w .known));
+      edition = w .edition;
       within = own;
       room = long-op τ i (T .facts) ∙ w .room;
-      pre = λ v a. spares-op τ i (prePlace o v) (λ u b e. omega arith) (λ u b e. omega arith) (T .facts) ∙ w .pre v a;
-      eff = λ v a. spares-op τ i (effPlace o v) (λ u b e. omega arith) (λ u b e. omega arith) (T .facts) ∙ w .eff v a;
+      pre = λ v a. spares-op τ i (prePlace o v) (λ u b e. omega arith) (λ u b e. omega arith) (λ q e. omega arith) (T .facts) ∙ w .pre v a;
+      eff = λ v a. spares-op τ i (effPlace o v) (λ u b e. omega arith) (λ u b e. omega arith) (λ q e. omega arith) (T .facts) ∙ w .eff v a;
     }
 
 -- ---- what is asked at its end

@@ -4,12 +4,16 @@ use Prim.Native.Nat.{ℕ, _≤_, _<_}
 use native.Mathlib.Omega.{arith}
 use mathlib.Core.Path.{_≡_, refl, _∙_}
 use mathlib.Core.List.{List}
+use mathlib.Core.Bool.{true}
 use lib.ListN.{length, getD}
 use Rattle.meaning.specs.Limits.{mostVars, mostValues, mostOps, mostMaps}
 use Rattle.meaning.specs.Split.{Task}
-use Rattle.tables.specs.Layout.{domPlace, initPlace, goalPlace, prePlace, effPlace, classPlace, sharePlace, factsRoom, costsRoom, sharesRoom}
-use Rattle.grammar.specs.Spelling.{changed, rowPut, opRows, mapRows, headRows}
+use Rattle.tables.specs.Layout.{domPlace, initPlace, goalPlace, prePlace, effPlace, classPlace, markPlace, sharePlace, factsRoom, costsRoom, sharesRoom}
+use Rattle.tables.specs.Editions.{hasQuota}
+use Rattle.grammar.specs.Spelling.{changed, rowPut, factRow, opRows, mapRows, headRows}
+use Rattle.grammar.proofs.Editions.{ByEdition}
 use Rattle.grammar.proofs.SpellTables.{Spares, Long, long-changed, spares-changed, writes-changed, long-row, spares-row, writes-row, long-facts, spares-facts, writes-facts}
+use Rattle.grammar.proofs.SpellTables.{long-mark, spares-mark, writes-mark}
 
 -- a task within the limits that the tables have room for
 pub record Small (τ : Task) : Type 0 where
@@ -26,9 +30,16 @@ module _ (τ : Task) where
   long-head w =
       long-facts goalPlace (τ .sas .goal) (τ .sas .vars) _ ∙ long-row initPlace (τ .sas .init) (τ .sas .vars) _ ∙ long-row domPlace (τ .sas .dom) (τ .sas .vars) w
 
+  -- the rows of an operator's facts
+  abbrev pub factRows : ℕ → List ℕ → List ℕ
+  factRows o w = factRow (effPlace o) (τ .sas .eff o) (τ .sas .vars) (factRow (prePlace o) (τ .sas .pre o) (τ .sas .vars) w)
+
+  pub long-fact-rows : (o : ℕ) → Long (factRows o)
+  long-fact-rows o w = long-facts (effPlace o) (τ .sas .eff o) (τ .sas .vars) _ ∙ long-facts (prePlace o) (τ .sas .pre o) (τ .sas .vars) w
+
   pub long-op : (o : ℕ) → Long (opRows τ o)
   unfolding opRows
-  long-op o w = long-facts (effPlace o) (τ .sas .eff o) (τ .sas .vars) _ ∙ long-facts (prePlace o) (τ .sas .pre o) (τ .sas .vars) w
+  long-op o w = long-mark (τ .edition) (markPlace o) (τ .mark o) _ ∙ long-fact-rows o w
 
   pub long-map : (m : ℕ) → Long (mapRows τ m)
   unfolding mapRows
@@ -43,10 +54,13 @@ module _ (τ : Task) where
 -- ---- where only the variables are few: what the head leaves alone, and the rows of one operator that the tables have room for
 
 module _ (τ : Task) where
-  pub spares-op : (o p : ℕ) → ((v : ℕ) → v < τ .sas .vars → p ≡ prePlace o v → ⊥) → ((v : ℕ) → v < τ .sas .vars → p ≡ effPlace o v → ⊥) → Spares (opRows τ o) p
+  pub spares-op : (o p : ℕ) → ((v : ℕ) → v < τ .sas .vars → p ≡ prePlace o v → ⊥) → ((v : ℕ) → v < τ .sas .vars → p ≡ effPlace o v → ⊥)
+      → (hasQuota (τ .edition) ≡ true → p ≡ markPlace o → ⊥) → Spares (opRows τ o) p
   unfolding opRows
-  spares-op o p f g w =
-      spares-facts (effPlace o) (τ .sas .eff o) p (τ .sas .vars) g _ ∙ spares-facts (prePlace o) (τ .sas .pre o) p (τ .sas .vars) f w
+  spares-op o p f g m w =
+      spares-mark (τ .edition) (markPlace o) (τ .mark o) p m _
+      ∙ spares-facts (effPlace o) (τ .sas .eff o) p (τ .sas .vars) g _
+      ∙ spares-facts (prePlace o) (τ .sas .pre o) p (τ .sas .vars) f w
 
   module _ (few : τ .sas .vars ≤ mostVars) where
     pub spares-head : (p : ℕ) → 24 ≤ p → Spares (headRows τ) p
@@ -60,15 +74,25 @@ module _ (τ : Task) where
       pub op-pre : getD x (prePlace o v) 0 ≡ 0 → getD (opRows τ o x) (prePlace o v) 0 ≡ τ .sas .pre o v
       unfolding opRows
       op-pre z =
-          spares-facts (effPlace o) (τ .sas .eff o) (prePlace o v) (τ .sas .vars) (λ j i e. omega arith) _
+          spares-mark (τ .edition) (markPlace o) (τ .mark o) (prePlace o v) (λ j e. omega arith) _
+          ∙ spares-facts (effPlace o) (τ .sas .eff o) (prePlace o v) (τ .sas .vars) (λ j i e. omega arith) _
           ∙ writes-facts (prePlace o) (τ .sas .pre o) (τ .sas .vars) v h (λ i e. omega arith) x (omega arith) z
 
       pub op-eff : getD x (effPlace o v) 0 ≡ 0 → getD (opRows τ o x) (effPlace o v) 0 ≡ τ .sas .eff o v
       unfolding opRows
       op-eff z =
-          writes-facts (effPlace o) (τ .sas .eff o) (τ .sas .vars) v h (λ i e. omega arith) _
+          spares-mark (τ .edition) (markPlace o) (τ .mark o) (effPlace o v) (λ j e. omega arith) _
+          ∙ writes-facts (effPlace o) (τ .sas .eff o) (τ .sas .vars) v h (λ i e. omega arith) _
           (omega (arith, long-facts (prePlace o) (τ .sas .pre o) (τ .sas .vars) x))
           (spares-facts (prePlace o) (τ .sas .pre o) (effPlace o v) (τ .sas .vars) (λ j i e. omega arith) x ∙ z)
+
+    pub op-mark : ByEdition τ → (o : ℕ) → o < mostOps → (x : List ℕ) → length x ≡ factsRoom → getD x (markPlace o) 0 ≡ 0 → getD (opRows τ o x) (markPlace o) 0 ≡ τ .mark o
+    unfolding opRows
+    op-mark by o k x m z =
+        writes-mark (τ .edition) (markPlace o) (τ .mark o) (by .mark o) _ (omega (arith, long-fact-rows τ o x))
+        (spares-facts (effPlace o) (τ .sas .eff o) (markPlace o) (τ .sas .vars) (λ j i e. omega arith) _
+        ∙ spares-facts (prePlace o) (τ .sas .pre o) (markPlace o) (τ .sas .vars) (λ j i e. omega arith) x
+        ∙ z)
 
 module _ (τ : Task) (s : Small τ) where
   -- ---- the head
@@ -102,7 +126,7 @@ module _ (τ : Task) (s : Small τ) where
   -- ---- the operators
 
   pub spares-ops-low : (p : ℕ) → p < 24 → Spares (changed (opRows τ) (τ .sas .ops) 0) p
-  spares-ops-low p h = spares-changed (opRows τ) p (τ .sas .ops) 0 (λ o x y. spares-op τ o p (λ v i e. omega arith) (λ v i e. omega arith))
+  spares-ops-low p h = spares-changed (opRows τ) p (τ .sas .ops) 0 (λ o x y. spares-op τ o p (λ v i e. omega arith) (λ v i e. omega arith) (λ q e. omega arith))
 
   module _ (o v : ℕ) (k : o < τ .sas .ops) (h : v < τ .sas .vars) (w : List ℕ) (l : length w ≡ factsRoom) where
     pub ops-pre : getD w (prePlace o v) 0 ≡ 0 → getD (changed (opRows τ) (τ .sas .ops) 0 w) (prePlace o v) 0 ≡ τ .sas .pre o v
@@ -110,7 +134,7 @@ module _ (τ : Task) (s : Small τ) where
         let a = s .vars in
         let b = s .ops in
         writes-changed (opRows τ) (prePlace o v) (τ .sas .pre o v) o (τ .sas .ops) 0 (long-op τ)
-        (λ i x y d. spares-op τ i (prePlace o v) (λ u q e. d (omega arith)) (λ u q e. omega arith)) factsRoom 0
+        (λ i x y d. spares-op τ i (prePlace o v) (λ u q e. d (omega arith)) (λ u q e. omega arith) (λ q e. omega arith)) factsRoom 0
         (op-pre τ a o v (omega arith) h) (omega arith) (omega arith) w l z
 
     pub ops-eff : getD w (effPlace o v) 0 ≡ 0 → getD (changed (opRows τ) (τ .sas .ops) 0 w) (effPlace o v) 0 ≡ τ .sas .eff o v
@@ -118,8 +142,17 @@ module _ (τ : Task) (s : Small τ) where
         let a = s .vars in
         let b = s .ops in
         writes-changed (opRows τ) (effPlace o v) (τ .sas .eff o v) o (τ .sas .ops) 0 (long-op τ)
-        (λ i x y d. spares-op τ i (effPlace o v) (λ u q e. omega arith) (λ u q e. d (omega arith))) factsRoom 0
+        (λ i x y d. spares-op τ i (effPlace o v) (λ u q e. omega arith) (λ u q e. d (omega arith)) (λ q e. omega arith)) factsRoom 0
         (op-eff τ a o v (omega arith) h) (omega arith) (omega arith) w l z
+
+  pub ops-mark : ByEdition τ → (o : ℕ) → o < τ .sas .ops → (w : List ℕ) → length w ≡ factsRoom → getD w (markPlace o) 0 ≡ 0
+      → getD (changed (opRows τ) (τ .sas .ops) 0 w) (markPlace o) 0 ≡ τ .mark o
+  ops-mark by o k w l z =
+      let a = s .vars in
+      let b = s .ops in
+      writes-changed (opRows τ) (markPlace o) (τ .mark o) o (τ .sas .ops) 0 (long-op τ)
+      (λ i x y d. spares-op τ i (markPlace o) (λ u q e. omega arith) (λ u q e. omega arith) (λ q e. d (omega arith))) factsRoom 0
+      (op-mark τ a by o (omega arith)) (omega arith) (omega arith) w l z
 
   -- ---- the maps
 
@@ -129,8 +162,12 @@ module _ (τ : Task) (s : Small τ) where
       spares-changed (λ v. rowPut (classPlace m v) (τ .class m v) (τ .sas .dom v)) p (τ .sas .vars) 0
       (λ v a b. spares-row (classPlace m v) (τ .class m v) p (τ .sas .dom v) (λ x c e. f v x (omega arith) (omega (arith, s .doms v (omega arith))) e))
 
-  pub spares-maps : (p : ℕ) → p < 1048 → Spares (changed (mapRows τ) (τ .maps) 0) p
-  spares-maps p h = spares-changed (mapRows τ) p (τ .maps) 0 (λ m x y. spares-map m p (λ v i a b e. omega arith))
+  -- a place before the classes or after them
+  pub spares-maps : (p : ℕ) → ((m v x : ℕ) → m < mostMaps → v < mostVars → x < mostValues → p ≡ classPlace m v x → ⊥) → Spares (changed (mapRows τ) (τ .maps) 0) p
+  spares-maps p f =
+      let a = s .vars in
+      let b = s .maps in
+      spares-changed (mapRows τ) p (τ .maps) 0 (λ m x y. spares-map m p (λ v i l g e. f m v i (omega arith) (omega arith) g e))
 
   module _ (m v x : ℕ) (k : m < τ .maps) (h : v < τ .sas .vars) (g : x < τ .sas .dom v) where
     pub map-class : (w : List ℕ) → length w ≡ factsRoom → getD (mapRows τ m w) (classPlace m v x) 0 ≡ τ .class m v x

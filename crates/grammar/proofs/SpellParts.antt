@@ -26,6 +26,10 @@ abbrev pub judged : Found → Verdict → Verdict
 judged Clean A = A
 judged (Fault r) A = refused r
 
+-- by what the rule is found to be
+pub judged-by : {f g : Found} (A : Verdict) → f ≡ g → judged f A ≡ judged g A
+judged-by A e = ap (λ (f : Found). judged f A) e
+
 -- what follows counts only if the rule holds
 pub judged-on : (f : Found) {A B : Verdict} → (f ≡ Clean → A ≡ B) → judged f A ≡ judged f B
 judged-on Clean h = h refl
@@ -46,6 +50,13 @@ Told p xs rest l T f U = (k : Rest) → p (xs ++ rest) l T k ≡ judged f (k res
 -- a whole line: what follows stands in the next
 abbrev pub ToldLine : Part → List ℕ → List ℕ → ℕ → Tables → Found → Tables → Type 0
 ToldLine p xs rest l T f U = (k : Rest) → p (xs ++ rest) l T k ≡ judged f (k rest (l + 1) U)
+
+-- one part after another
+pub both-told : (p q : Part) (xs ys rest : List ℕ) (l : ℕ) (T U W : Tables) (f g : Found) → Told p xs (ys ++ rest) l T f U → Told q ys rest l U g W
+    → Told (p ▸ q) (xs ++ ys) rest l T (f then g) W
+unfolding _▸_
+both-told p q xs ys rest l T U W f g a b k =
+    next f g _ (ap (λ (t : List ℕ). p t l T (λ u m X. q u m X k)) (append-assoc xs ys rest) ∙ a (λ u m X. q u m X k)) (λ c. b k)
 
 pub demand-told : (b : Bool) (r : ℕ → Refusal) (t : List ℕ) (l : ℕ) (T : Tables) (k : Rest) → demand b r t l T k ≡ judged (unless b (r l)) (k t l T)
 unfolding demand

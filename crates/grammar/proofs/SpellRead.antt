@@ -14,7 +14,7 @@ use Rattle.scan.proofs.Walks.{clean-next}
 use Rattle.scan.proofs.Validity.{clean-valid}
 use Rattle.refusals.specs.declared.Refusal.the-variants.{TableTooShort}
 use Rattle.grammar.specs.declared.Reading.the-variants.{Accepted}
-use Rattle.grammar.specs.Fields.{edition, Outcome}
+use Rattle.grammar.specs.Fields.{Outcome}
 use Rattle.grammar.specs.Grammar.{Verdict, accepted, refused, verdict, outcome, readText}
 use Rattle.grammar.specs.Spelling.{textOf, canon}
 use Rattle.grammar.proofs.Admission.{not-accepted, accepted-outcome, text-read}
@@ -25,10 +25,10 @@ use Rattle.grammar.proofs.SpellShort.{spelled-short}
 module _ (f c s : List ℕ) where
   -- THE ROUND TRIP: lent tables of enough room get a clean task's tables from its text
   pub read-spelled : (t : Tables) → tablesFault t ≡ Clean → factsRoom ≤ length f → costsRoom ≤ length c → sharesRoom ≤ length s
-      → readText (textOf edition t) f c s ≡ outcome (accepted (canon t)) f c s
+      → readText (textOf t) f c s ≡ outcome (accepted (canon t)) f c s
   unfolding tablesFault
   read-spelled t p a b d =
-      text-read (textOf edition t) f c s a b d (omega (arith, spelled-short (taskOf t) (clean-valid t p)))
+      text-read (textOf t) f c s a b d (omega (arith, spelled-short (taskOf t) (clean-valid t p)))
       ∙ ap (λ (v : Verdict). outcome v f c s) (clean-accepted t (clean-next (unless (roomy t) TableTooShort) (taskFault (taskOf t)) p))
 
   -- what is accepted: the tables of a valid task that the text spells

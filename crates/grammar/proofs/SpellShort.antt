@@ -1,18 +1,25 @@
--- The text of a valid task is short: at most 10,449 bytes, so that number 1 never meets it. By the longest that each line can be. Assumes nothing.
+-- The text of a valid task is short: in edition 1 at most 10,449 bytes, in edition 2 at most 10,588, so that number 1 never meets it. By the longest that each line
+-- can be. Assumes nothing.
 use Prim.Native.Nat.{ℕ, zero, suc, _+_, _*_, _/_, _^_, _≤_, _<_}
 use Prim.Native.String.{String}
 use native.Mathlib.Omega.{arith}
-use native.Mathlib.Nat.{pow-succ', suc-mul}
-use mathlib.Core.List.{List, _++_}
+use native.Mathlib.Nat.{pow-succ', suc-mul, mul-le-mul-right}
+use mathlib.Core.Path.{_≡_}
+use mathlib.Core.Bool.{false}
+use mathlib.Core.List.{List, _∷_, _++_}
 use lib.Dec.{ltb}
 use lib.ListN.{length, length-append}
 use borrow.Author.Tests.{ltb-true, ltb-false}
 use Rattle.meaning.specs.Sas.{Facts}
 use Rattle.meaning.specs.Split.{Task, Valid}
 use Rattle.meaning.proofs.Facts.{by-cases}
-use Rattle.grammar.specs.Fields.{edition, bytesOf, comma, slash}
+use Rattle.tables.specs.Editions.{hasQuota}
+use Rattle.tables.specs.Lines.{quotaLines}
+use Rattle.tables.proofs.Editions.{lines-second, lines-first, lines-most}
+use Rattle.grammar.specs.Fields.{bytesOf, comma, slash, semicolon}
 use Rattle.meaning.specs.Limits.{mostCost}
-use Rattle.grammar.specs.Spelling.{lastDigits, digits, gap, joined, numbers, fact, anotherFact, moreFacts, firstFact, someFacts, keyed, stacked, opText, mapText, shareText, spelled}
+use Rattle.grammar.specs.Spelling.{lastDigits, digits, gap, joined, numbers, fact, anotherFact, moreFacts, firstFact, someFacts, keyed, stacked, spelledIn, opText, mapText, shareText, spelled}
+use Rattle.grammar.proofs.Editions.{spelled-either}
 use Rattle.grammar.proofs.Decimal.{few, many}
 
 -- a number below 10 ^ (d + 1) has at most d + 1 digits
@@ -98,10 +105,15 @@ keyed-short : (key : String) (xs : List ℕ) (c b : ℕ) → length (bytesOf key
 unfolding keyed
 keyed-short key xs c b p q = simp length-append (omega arith)
 
--- ten lines and what they come to
-ten : (a b c d e f g h i j : List ℕ) → length a ≤ 10 → length b ≤ 7 → length c ≤ 21 → length d ≤ 22 → length e ≤ 39 → length f ≤ 7 → length g ≤ 5056 → length h ≤ 7
-    → length i ≤ 1128 → length j ≤ 4152 → length (a ++ b ++ c ++ d ++ e ++ f ++ g ++ h ++ i ++ j) ≤ 10449
-ten a b c d e f g h i j p₁ p₂ p₃ p₄ p₅ p₆ p₇ p₈ p₉ p₁₀ = simp length-append (omega arith)
+-- what edition 2 alone spells: in edition 1 it has no bytes
+second-short : (e : ℕ) (xs : List ℕ) (b : ℕ) → length xs ≤ b → length (spelledIn e xs) ≤ b * quotaLines e
+second-short e xs b h =
+    spelled-either e xs (λ ys. length ys ≤ b * quotaLines e) (λ s. rw (lines-second e s) (omega arith)) (λ f. omega arith)
+
+-- eleven lines and what they come to, with n the lines of a quota
+eleven : (n : ℕ) (a b c d e f g h i j k : List ℕ) → length a ≤ 10 → length b ≤ 7 → length c ≤ 21 → length d ≤ 22 → length e ≤ 39 → length f ≤ 11 * n → length g ≤ 7
+    → length h ≤ 5056 + 128 * n → length i ≤ 7 → length j ≤ 1128 → length k ≤ 4152 → length (a ++ b ++ c ++ d ++ e ++ f ++ g ++ h ++ i ++ j ++ k) ≤ 10449 + 139 * n
+eleven n a b c d e f g h i j k p₁ p₂ p₃ p₄ p₅ p₆ p₇ p₈ p₉ p₁₀ p₁₁ = simp length-append (omega arith)
 
 module _ (τ : Task) (k : Valid τ) where
   facts-short : (F : Facts) → ((v : ℕ) → v < τ .sas .vars → F v ≤ τ .sas .dom v) → length (someFacts F (τ .sas .vars) 0) ≤ 33
@@ -114,13 +126,15 @@ module _ (τ : Task) (k : Valid τ) where
   row-short : (f : ℕ → ℕ) → ((v : ℕ) → v < τ .sas .vars → f v < 10) → length (numbers f (τ .sas .vars)) ≤ 16
   row-short f h = let a = k .vars .1 in let p = numbers-short f 0 (τ .sas .vars) h in omega arith
 
-  op-short : (o : ℕ) → o < τ .sas .ops → length (keyed "op=" (opText τ o)) ≤ 79
+  op-short : (o : ℕ) → o < τ .sas .ops → length (keyed "op=" (opText τ o)) ≤ 79 + 2 * quotaLines (τ .edition)
   unfolding opText
   op-short o h =
       let a = digits-short 6 (τ .sas .cost o) (let q = k .costs o h in omega arith) in
       let b = facts-short (τ .sas .pre o) (λ v l. k .proper .pre o v h l) in
       let c = facts-short (τ .sas .eff o) (λ v l. k .proper .eff o v h l) in
-      keyed-short "op=" _ 3 75 (omega arith) (simp length-append (omega arith))
+      let d = second-short (τ .edition) (semicolon ∷ digits (τ .mark o)) 2 (omega (arith, digits-short 0 (τ .mark o) (let q = k .marks o h in omega arith))) in
+      let t = keyed-short "op=" (opText τ o) 3 (75 + 2 * quotaLines (τ .edition)) (omega arith) (simp length-append (omega arith)) in
+      omega arith
 
   map-short : (m : ℕ) → m < τ .maps → length (keyed "map=" (mapText τ m)) ≤ 141
   unfolding mapText
@@ -145,8 +159,11 @@ module _ (τ : Task) (k : Valid τ) where
   abbrev sharesPart : List ℕ
   sharesPart = stacked (λ m. keyed "share=" (shareText (τ .share m) (τ .sas .ops))) (τ .maps) 0
 
-  ops-short : length opsPart ≤ 5056
-  ops-short = let c = k .ops in let p = stacked-short (λ o. keyed "op=" (opText τ o)) 79 (τ .sas .ops) 0 (λ o x y. op-short o (omega arith)) in omega arith
+  ops-short : length opsPart ≤ 5056 + 128 * quotaLines (τ .edition)
+  ops-short =
+      let b = 79 + 2 * quotaLines (τ .edition) in
+      let p = stacked-short (λ o. keyed "op=" (opText τ o)) b (τ .sas .ops) 0 (λ o x y. op-short o (omega arith)) in
+      omega (arith, mul-le-mul-right b (k .ops))
 
   maps-short : length mapsPart ≤ 1128
   maps-short = let b = k .maps .1 in let p = stacked-short (λ m. keyed "map=" (mapText τ m)) 141 (τ .maps) 0 (λ m x y. map-short m (omega arith)) in omega arith
@@ -157,21 +174,30 @@ module _ (τ : Task) (k : Valid τ) where
       let p = stacked-short (λ m. keyed "share=" (shareText (τ .share m) (τ .sas .ops))) 519 (τ .maps) 0 (λ m x y. share-short m (omega arith)) in
       omega arith
 
-  pub spelled-short : length (spelled edition τ) ≤ 10449
+  spelled-within : length (spelled τ) ≤ 10449 + 139 * quotaLines (τ .edition)
   unfolding spelled
-  spelled-short =
+  spelled-within =
       let a = k .vars .1 in
       let b = k .maps .1 in
       let c = k .ops in
-      ten (keyed "edition=" (digits edition)) (keyed "vars=" (digits (τ .sas .vars))) (keyed "dom=" (numbers (τ .sas .dom) (τ .sas .vars))) (keyed "init=" (numbers (τ .sas .init) (τ .sas .vars)))
-      (keyed "goal=" (someFacts (τ .sas .goal) (τ .sas .vars) 0)) (keyed "ops=" (digits (τ .sas .ops))) opsPart (keyed "maps=" (digits (τ .maps))) mapsPart sharesPart
-      (keyed-short "edition=" (digits edition) 8 1 (omega arith) (digits-short 0 1 (omega arith)))
+      eleven (quotaLines (τ .edition)) (keyed "edition=" (digits (τ .edition))) (keyed "vars=" (digits (τ .sas .vars))) (keyed "dom=" (numbers (τ .sas .dom) (τ .sas .vars)))
+      (keyed "init=" (numbers (τ .sas .init) (τ .sas .vars))) (keyed "goal=" (someFacts (τ .sas .goal) (τ .sas .vars) 0))
+      (spelledIn (τ .edition) (keyed "quota=" (digits (τ .quota)))) (keyed "ops=" (digits (τ .sas .ops))) opsPart (keyed "maps=" (digits (τ .maps))) mapsPart sharesPart
+      (keyed-short "edition=" _ 8 1 (omega arith) (digits-short 0 (τ .edition) (let q = k .edition .1 in omega arith)))
       (keyed-short "vars=" _ 5 1 (omega arith) (digits-short 0 (τ .sas .vars) (omega arith)))
       (keyed-short "dom=" _ 4 16 (omega arith) (row-short (τ .sas .dom) (λ v l. let q = k .values v l in omega arith)))
       (keyed-short "init=" _ 5 16 (omega arith) (row-short (τ .sas .init) (λ v l. let q = k .values v l in let r = k .proper .init v l in omega arith)))
       (keyed-short "goal=" _ 5 33 (omega arith) (facts-short (τ .sas .goal) (k .proper .goal)))
+      (second-short (τ .edition) _ 11 (keyed-short "quota=" _ 6 4 (omega arith) (digits-short 3 (τ .quota) (let q = k .quota in omega arith))))
       (keyed-short "ops=" _ 4 2 (omega arith) (digits-short 1 (τ .sas .ops) (omega arith)))
       ops-short
       (keyed-short "maps=" _ 5 1 (omega arith) (digits-short 0 (τ .maps) (omega arith)))
       maps-short
       shares-short
+
+  pub spelled-short : length (spelled τ) ≤ 10588
+  spelled-short = omega (arith, spelled-within, lines-most (τ .edition))
+
+  -- in edition 1 shorter still
+  pub first-edition-short : hasQuota (τ .edition) ≡ false → length (spelled τ) ≤ 10449
+  first-edition-short h = omega (arith, spelled-within, lines-first (τ .edition) h)

@@ -2,15 +2,18 @@
 -- By induction on the changes: one writes a place, the others spare it. Assumes nothing.
 use Prim.Native.Nat.{ℕ, zero, suc, _+_, _≤_, _<_}
 use native.Mathlib.Omega.{arith}
-use mathlib.Core.Path.{_≡_, refl, ap, _∙_}
+use mathlib.Core.Path.{_≡_, refl, sym, ap, _∙_}
 use mathlib.Core.List.{List}
+use mathlib.Core.Bool.{true}
 use lib.Dec.{eqb}
 use lib.ListN.{length, getD, set, replicate, length-set}
 use lib.Seq.{getD-set-same, getD-set-other}
 use borrow.Author.Tests.{eqb-true, eqb-false}
 use Rattle.meaning.specs.Sas.{Facts}
 use Rattle.meaning.proofs.Facts.{by-cases}
-use Rattle.grammar.specs.Spelling.{changed, rowPut, factPut, factRow}
+use Rattle.tables.specs.Editions.{hasQuota}
+use Rattle.grammar.specs.Spelling.{changed, rowPut, factPut, factRow, markPut}
+use Rattle.grammar.proofs.Editions.{OnlySecond, put-either}
 
 -- ---- changes one after another
 
@@ -102,6 +105,18 @@ module _ (place : ℕ → ℕ) (F : Facts) where
       writes-changed (λ v. factPut (F v) (place v)) (place j) (F j) j n 0 (λ k. long-said (F k) (place k))
       (λ k a b c. spares-said (F k) (place k) (place j) (λ e. c (one k e)))
       (length w) 0 (λ x m y. writes-said (F j) (place j) x (omega arith) y) (omega arith) (omega arith) w refl z
+
+-- ---- a mark
+
+module _ (e place x : ℕ) where
+  pub long-mark : Long (markPut e place x)
+  long-mark w = put-either e place x w (λ u. length u ≡ length w) (λ h. length-set w place x) (λ h. refl)
+
+  pub spares-mark : (p : ℕ) → (hasQuota e ≡ true → p ≡ place → ⊥) → Spares (markPut e place x) p
+  spares-mark p n w = put-either e place x w (λ u. getD u p 0 ≡ getD w p 0) (λ h. getD-set-other w place p x 0 (n h)) (λ h. refl)
+
+  pub writes-mark : OnlySecond e x → (w : List ℕ) → place < length w → getD w place 0 ≡ 0 → getD (markPut e place x w) place 0 ≡ x
+  writes-mark s w l z = put-either e place x w (λ u. getD u place 0 ≡ x) (λ h. getD-set-same w place x 0 l) (λ h. z ∙ sym (s h))
 
 pub zeros : (n i : ℕ) → _≡_ {A = ℕ} (getD (replicate n 0) i 0) 0
 zeros zero i = refl

@@ -19,7 +19,6 @@ use Rattle.scan.specs.Scan.{unless, taskFault, roomy, tablesFault}
 use Rattle.scan.proofs.Walks.{clean-first, clean-next, rule-held}
 use Rattle.scan.proofs.Validity.{clean-valid}
 use Rattle.grammar.specs.declared.Written.the-variants.{Length, Refused}
-use Rattle.grammar.specs.Fields.{edition}
 use Rattle.grammar.specs.Spelling.{textOf}
 use Rattle.grammar.specs.Writing.{textRoom, Page, page, over, writeFault, onPage, writeText}
 use Rattle.grammar.proofs.SpellOwn.{Small}
@@ -62,7 +61,7 @@ module _ (t : Tables) (p : tablesFault t ≡ Clean) where
   tables-small = clean-small (taskOf t) task-clean
 
   -- A TASK'S TEXT ALWAYS FITS
-  pub text-short : length (textOf edition t) ≤ 10449
+  pub text-short : length (textOf t) ≤ 10588
   text-short = spelled-short (taskOf t) (clean-valid t p)
 
 -- ---- the answer, and what is left
@@ -77,7 +76,7 @@ module _ (t : Tables) (b : List ℕ) where
     unfolding writeText writeFault onPage
     fault-told r p = rw (le-leb textRoom (length b) h, p) refl
 
-    pub tables-written : tablesFault t ≡ Clean → writeText t b ≡ page (Length (length (textOf edition t))) (over (textOf edition t) b)
+    pub tables-written : tablesFault t ≡ Clean → writeText t b ≡ page (Length (length (textOf t))) (over (textOf t) b)
     unfolding writeText writeFault onPage
     tables-written p = rw (le-leb textRoom (length b) h, p) refl
 
@@ -89,13 +88,13 @@ module _ (t : Tables) (b : List ℕ) where
 
   pub refused-buffer : (r : Refusal) → writeText t b .answer ≡ Refused r → writeText t b ≡ page (Refused r) b
   unfolding writeText
-  refused-buffer r = page-refused (writeFault t b) (textOf edition t) r
+  refused-buffer r = page-refused (writeFault t b) (textOf t) r
 
   -- written: the buffer has room, the tables are clean, and the number told is the text's length
   pub record Wrote (n : ℕ) : Type 0 where
     pub room : textRoom ≤ length b
     pub clean : tablesFault t ≡ Clean
-    pub bytes : n ≡ length (textOf edition t)
+    pub bytes : n ≡ length (textOf t)
 
   page-written : (f : Found) (x : List ℕ) (n : ℕ) → onPage f x b .answer ≡ Length n → (f ≡ Clean) × (n ≡ length x)
   unfolding onPage
@@ -105,7 +104,7 @@ module _ (t : Tables) (b : List ℕ) where
   pub wrote : (n : ℕ) → writeText t b .answer ≡ Length n → Wrote n
   unfolding writeText writeFault
   wrote n e =
-      let w = page-written (writeFault t b) (textOf edition t) n e in
+      let w = page-written (writeFault t b) (textOf t) n e in
       let room = unless (leb textRoom (length b)) TableTooShort in
       record {
         room = leb-true textRoom (length b) (rule-held (leb textRoom (length b)) TableTooShort (clean-first room (tablesFault t) (w .0)));

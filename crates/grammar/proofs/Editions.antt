@@ -1,0 +1,72 @@
+-- What edition 2 alone has: of a task the quota and the marks, which in edition 1 are 0; of the text what spells them, and the parts of the grammar that read it.
+-- Each of its own split on the edition; all else goes over both editions by these laws. Assumes nothing.
+use Prim.Native.Nat.{ℕ, _≤_}
+use native.Mathlib.Omega.{arith}
+use mathlib.Core.Path.{_≡_, refl}
+use mathlib.Core.List.{List, []}
+use mathlib.Core.Bool.{true, false}
+use lib.ListN.{set}
+use Rattle.meaning.specs.Split.{Task}
+use Rattle.meaning.proofs.Facts.{by-cases}
+use Rattle.tables.specs.Layout.{Tables, markAt}
+use Rattle.tables.specs.Editions.{hasQuota, readIn}
+use Rattle.tables.specs.Task.{taskOf}
+use Rattle.tables.proofs.Editions.{has-read, has-none}
+use Rattle.grammar.specs.Grammar.{Rest, Part, inSecond}
+use Rattle.grammar.specs.Spelling.{spelledIn, markPut}
+
+-- ---- a task
+
+-- 0 unless the edition has it
+abbrev pub OnlySecond : ℕ → ℕ → Type 0
+OnlySecond e x = hasQuota e ≡ false → x ≡ 0
+
+-- a task as its edition has it: in edition 1 without quota and marks
+pub record ByEdition (τ : Task) : Type 0 where
+  pub quota : OnlySecond (τ .edition) (τ .quota)
+  pub mark : (o : ℕ) → OnlySecond (τ .edition) (τ .mark o)
+
+-- the task of any tables is
+pub tables-by-edition : (t : Tables) → ByEdition (taskOf t)
+tables-by-edition t =
+    record { quota = has-none (t .counts .edition) (t .counts .quota); mark = λ o. has-none (t .counts .edition) (markAt (t .facts) o) }
+
+-- then all of it is read
+pub read-whole : (e x : ℕ) → OnlySecond e x → readIn e x ≡ x
+read-whole e x z = by-cases (hasQuota e) (has-read e x) (λ h. rw (z h) (has-none e 0 h))
+
+-- ---- the text and the tables: in edition 2, and in edition 1
+
+module _ (p : Part) (t : List ℕ) (l : ℕ) (T : Tables) (k : Rest) where
+  pub second-reads : hasQuota (T .counts .edition) ≡ true → inSecond p t l T k ≡ p t l T k
+  unfolding inSecond
+  second-reads h = rw h refl
+
+  pub first-reads-nothing : hasQuota (T .counts .edition) ≡ false → inSecond p t l T k ≡ k t l T
+  unfolding inSecond
+  first-reads-nothing h = rw h refl
+
+module _ (e : ℕ) (xs : List ℕ) where
+  pub second-spells : hasQuota e ≡ true → spelledIn e xs ≡ xs
+  unfolding spelledIn
+  second-spells h = rw h refl
+
+  pub first-spells-nothing : hasQuota e ≡ false → spelledIn e xs ≡ []
+  unfolding spelledIn
+  first-spells-nothing h = rw h refl
+
+  -- whatever it is, it is one of the two
+  pub spelled-either : (P : List ℕ → Type 0) → (hasQuota e ≡ true → P xs) → (hasQuota e ≡ false → P []) → P (spelledIn e xs)
+  spelled-either P s f = by-cases (hasQuota e) (λ h. rw (second-spells h) (s h)) (λ h. rw (first-spells-nothing h) (f h))
+
+module _ (e place x : ℕ) (w : List ℕ) where
+  pub second-put : hasQuota e ≡ true → markPut e place x w ≡ set w place x
+  unfolding markPut
+  second-put h = rw h refl
+
+  pub first-put : hasQuota e ≡ false → markPut e place x w ≡ w
+  unfolding markPut
+  first-put h = rw h refl
+
+  pub put-either : (P : List ℕ → Type 0) → (hasQuota e ≡ true → P (set w place x)) → (hasQuota e ≡ false → P w) → P (markPut e place x w)
+  put-either P s f = by-cases (hasQuota e) (λ h. rw (second-put h) (s h)) (λ h. rw (first-put h) (f h))
