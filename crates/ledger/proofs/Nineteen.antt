@@ -87,5 +87,5 @@ module _ (t : Tables) (r : Run) (sized : Sized r) (number o : ℕ) where
   )
 
   -- edition 1 has no quota to store beyond
-  pub first-never-beyond : t .counts .edition ≡ 1 → (place : ℕ) → offered t r number o .answer ≡ Refused (BeyondQuota place) → ⊥
-  first-never-beyond first place e = omega (arith, nineteen-exactly place .0 e .2 .stores, first-stores-nothing t first o)
+  pub first-edition-no-nineteen : t .counts .edition ≡ 1 → (place : ℕ) → offered t r number o .answer ≡ Refused (BeyondQuota place) → ⊥
+  first-edition-no-nineteen first place e = omega (arith, nineteen-exactly place .0 e .2 .stores, first-stores-nothing t first o)

@@ -30,11 +30,11 @@ use Rattle.ledger.specs.declared.Answer.{Answer}
 use Rattle.ledger.specs.declared.Answer.the-variants.{Accepted, Repeated, Refused}
 use Rattle.ledger.specs.Ledger.{advanced, onward, offered, begun}
 use Rattle.ledger.specs.History.{Offer, mayFollow, added, reallyRun, ran, runAfter, Tells, GivenByStartAndLog, Sized}
-use Rattle.ledger.specs.History.{storedIn, logged, storingSteps, TellsStored, storedBy, storedByAll}
+use Rattle.ledger.specs.History.{storedIn, stepsIn, storingSteps, TellsStored, storedBy, storedByAll}
 use Rattle.ledger.proofs.Gains.{booked-at}
 use Rattle.ledger.proofs.Accepted.{accepted-had}
 use Rattle.ledger.proofs.Entries.{accepted-began, offered-sized}
-use Rattle.ledger.proofs.Told.{tells-logged, tells-stored}
+use Rattle.ledger.proofs.Told.{tells-steps, tells-stored}
 use Rattle.ledger.proofs.History.{history, run-sized}
 use Rattle.ledger.proofs.Seventeen.{seventeen-exactly, not-seventeen}
 
@@ -120,35 +120,35 @@ module _ (t : Tables) (s : List ℕ) (accepted : begun t s .answer ≡ Accepted)
   begun-stored-by xs = omega (arith, offers-store t xs (begun t s .run) (run-sized t s accepted []), begun-stores [] .counted)
 
   -- edition 1 stores nothing
-  pub begun-first : t .counts .edition ≡ 1 → (xs : List Offer) → storedIn (runAfter t s xs) ≡ 0
-  begun-first first xs = omega (arith, begun-stores xs .within, first-has-no-quota t first)
+  pub first-edition-stored : t .counts .edition ≡ 1 → (xs : List Offer) → storedIn (runAfter t s xs) ≡ 0
+  first-edition-stored first xs = omega (arith, begun-stores xs .within, first-has-no-quota t first)
 
 -- ---- EDITION 1 asks for no quota: what may follow the steps done is what exists and may run
-pub first-follows : (t : Tables) → t .counts .edition ≡ 1 → (s : State) (done : List ℕ) (o : ℕ)
+pub first-edition-follows : (t : Tables) → t .counts .edition ≡ 1 → (s : State) (done : List ℕ) (o : ℕ)
     → mayFollow (taskOf t) s done o ≡ (ltb o (t .counts .ops) && complies (sasOf t) (sasOf t .pre o) (end (sasOf t) done s))
 unfolding mayFollow
-first-follows t first s done o =
+first-edition-follows t first s done o =
     let none = first-stores-nothing t first in
     rw (stores-within (taskOf t) (stored (taskOf t) done) o (omega (arith, nothing-stored (taskOf t) none done, none o)), and-true) refl
 
 -- ---- ANY RUN THAT ISN'T 17, whoever kept it: by its own log, as it was handed in and as it is handed back
 
-pub given-stores : (t : Tables) → tablesFault t ≡ Clean → (r : Run) → GivenByStartAndLog (taskOf t) r → TellsStored (taskOf t) (logged r) r
+pub given-stores : (t : Tables) → tablesFault t ≡ Clean → (r : Run) → GivenByStartAndLog (taskOf t) r → TellsStored (taskOf t) (stepsIn r) r
 given-stores t clean r (state, (done, tells)) =
-    rw (tells-logged (taskOf t) (stateOf (r .start)) done r tells) (tells-stores (taskOf t) (clean-valid t clean) (stateOf (r .start)) done r tells)
+    rw (tells-steps (taskOf t) (stateOf (r .start)) done r tells) (tells-stores (taskOf t) (clean-valid t clean) (stateOf (r .start)) done r tells)
 
 module _ (t : Tables) (clean : tablesFault t ≡ Clean) (r : Run) (sized : Sized r) (number o : ℕ) where
   pub not-seventeen-stores : (offered t r number o .answer ≡ Refused NotARun → ⊥)
-      → TellsStored (taskOf t) (logged r) r × TellsStored (taskOf t) (logged (offered t r number o .run)) (offered t r number o .run)
+      → TellsStored (taskOf t) (stepsIn r) r × TellsStored (taskOf t) (stepsIn (offered t r number o .run)) (offered t r number o .run)
   not-seventeen-stores other =
       let given = not-seventeen t r number o clean sized other in
       (given-stores t clean r (given .0), given-stores t clean (offered t r number o .run) (given .1))
 
   -- a wrong count is 17, and so is a log past the quota
-  pub wrong-count : (storedIn r ≡ storingSteps (taskOf t) (logged r) → ⊥) → offered t r number o .answer ≡ Refused NotARun
+  pub wrong-count : (storedIn r ≡ storingSteps (taskOf t) (stepsIn r) → ⊥) → offered t r number o .answer ≡ Refused NotARun
   wrong-count wrong = seventeen-exactly t r number o sized .1 (clean, λ g. wrong (given-stores t clean r g .counted))
 
-  pub past-quota : taskOf t .quota < storingSteps (taskOf t) (logged r) → offered t r number o .answer ≡ Refused NotARun
+  pub past-quota : taskOf t .quota < storingSteps (taskOf t) (stepsIn r) → offered t r number o .answer ≡ Refused NotARun
   past-quota past =
       seventeen-exactly t r number o sized .1
       (clean, λ g. omega (arith, given-stores t clean r g .counted, given-stores t clean r g .within))

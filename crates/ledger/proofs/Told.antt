@@ -31,7 +31,7 @@ use Rattle.ledger.specs.declared.replay.Standing.{Standing}
 use Rattle.ledger.specs.declared.replay.Tried.{Tried}
 use Rattle.ledger.specs.declared.Answer.the-variants.{Accepted}
 use Rattle.ledger.specs.Ledger.{allColumns, atStart, onward, standing, fresh, advanced, canRun, withinQuota, canFollow, replayed, given, startIn, isRun, answered, offered}
-use Rattle.ledger.specs.History.{Offer, mayFollow, reallyRuns, Tells, Sized, storedIn, logged}
+use Rattle.ledger.specs.History.{Offer, mayFollow, reallyRuns, Tells, Sized, storedIn, stepsIn}
 use Rattle.ledger.proofs.Gains.{zeros-at, booked-at}
 use Rattle.ledger.proofs.Answers.{within-is, follow-quota, follow-parts, next-go}
 use Rattle.ledger.proofs.Begun.{startOf, from-at, from-beyond, from-size, from-inside}
@@ -59,8 +59,8 @@ replayed-snoc t (p ∷ os) x y o e c =
     (λ not. absurd (false≢true (ap (λ (z : Tried). z .ok) (sym (replayed-no t x p os not) ∙ e))))
 
 -- the log has the steps done and no more
-pub tells-logged : (T : Task) (s : State) (done : List ℕ) (r : Run) → Tells T s done r → logged r ≡ done
-tells-logged T s done r tells = ap (λ (k : ℕ). take k (r .log)) (tells .len) ∙ tells .log
+pub tells-steps : (T : Task) (s : State) (done : List ℕ) (r : Run) → Tells T s done r → stepsIn r ≡ done
+tells-steps T s done r tells = ap (λ (k : ℕ). take k (r .log)) (tells .len) ∙ tells .log
 
 -- the column of the stored tests counts those of the steps done
 pub tells-stored : (T : Task) → Valid T → (s : State) (done : List ℕ) (r : Run) → Tells T s done r → storedIn r ≡ stored T done
@@ -197,7 +197,7 @@ module _ (t : Tables) (s : List ℕ) (clean : tablesFault t ≡ Clean) (state : 
     told-given : given t q ≡ record { ok = true; at = standing q }
     unfolding given
     told-given =
-        ap₂ (λ (x l : List ℕ). replayed t (atStart x) l) (told .from) (tells-logged (taskOf t) (stateOf s) done q (told .tells)) ∙ told .given
+        ap₂ (λ (x l : List ℕ). replayed t (atStart x) l) (told .from) (tells-steps (taskOf t) (stateOf s) done q (told .tells)) ∙ told .given
 
     pub is-run : isRun t q ≡ true
     unfolding isRun

@@ -102,8 +102,8 @@ abbrev pub QuotaMet : Task → Run → Type 0
 QuotaMet T r = storedIn r ≡ T .quota
 
 -- the steps of a run's own log
-abbrev pub logged : Run → List ℕ
-logged r = take (r .len) (r .log)
+abbrev pub stepsIn : Run → List ℕ
+stepsIn r = take (r .len) (r .log)
 
 -- how many of a list's steps are storing ones, counted place by place
 abbrev pub storingSteps : Task → List ℕ → ℕ

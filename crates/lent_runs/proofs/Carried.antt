@@ -12,7 +12,7 @@ use Rattle.refusals.specs.declared.Refusal.the-variants.{TableTooShort, NotARun
 use Rattle.meaning.proofs.Facts.{by-cases}
 use Rattle.scan.specs.declared.Found.the-variants.{Clean}
 use Rattle.tables.specs.Layout.{Tables}
-use Rattle.tables.specs.Task.{taskOf, sasOf, stateOf}
+use Rattle.tables.specs.Task.{taskOf, stateOf}
 use Rattle.scan.specs.Scan.{tablesFault}
 use Rattle.meaning.specs.Limits.{mostVars, mostSteps}
 use Rattle.ledger.specs.declared.Run.{Run}
@@ -20,17 +20,19 @@ use Rattle.ledger.specs.declared.Answer.{Answer}
 use Rattle.ledger.specs.declared.Answer.the-variants.{Accepted, Repeated, Refused}
 use Rattle.ledger.specs.declared.Offered.{Offered}
 use Rattle.ledger.specs.Ledger.{allColumns, begun, offered}
-use Rattle.ledger.specs.History.{Offer, reallyRun, ran, runAfter, Tells, GivenByStartAndLog, Sized, WithinSteps}
+use Rattle.ledger.specs.History.{Offer, reallyRun, ran, runAfter, Tells, GivenByStartAndLog, Sized, WithinSteps, stepsIn, TellsStored}
 use Rattle.ledger.proofs.Accepted.{not-refused, offer-stays}
+use Rattle.ledger.proofs.Entries.{offered-sized}
 use Rattle.ledger.proofs.History.{history}
-use Rattle.ledger.proofs.Seventeen.{seventeen-exactly}
-use Rattle.ledger.proofs.Within.{not-seventeen-within}
+use Rattle.ledger.proofs.Seventeen.{seventeen-exactly, not-seventeen}
+use Rattle.ledger.proofs.Within.{given-within}
+use Rattle.ledger.proofs.Stored.{begun-stores, given-stores}
 use Rattle.words.specs.Words.{refusedWord, answerWord}
 use Rattle.words.proofs.Told.{answer-told}
 use Rattle.lent_runs.specs.Lent.{columnsFrom, part, withPart, runBytes, runWords, runIn, bytesWith, wordsWith}
 use Rattle.lent_runs.specs.Left.{RunLeft, runLeft, leftBy, handed, runShort, unlessShort, beginHanded, offerHanded}
 use Rattle.lent_runs.proofs.Parts as parts
-use Rattle.lent_runs.proofs.Sizes.{run-in-lengths, begun-sized, offered-sized}
+use Rattle.lent_runs.proofs.Sizes.{run-in-lengths, begun-sized}
 use Rattle.lent_runs.proofs.Handed.{long-enough, not-short}
 
 -- ---- what is handed back is what is taken again
@@ -208,8 +210,13 @@ module _ (t : Tables) (s bytes words : List ℕ) (long-bytes : runBytes ≤ leng
       ∙ ap (λ (r : Run). ran t r xs) (carried .run accepted)
 
   pub history-carried : (xs : List Offer)
-      → Tells (taskOf t) (stateOf s) (reallyRun (sasOf t) (stateOf s) xs) (runLent (offersHanded t (beginHanded t s bytes words) xs))
+      → Tells (taskOf t) (stateOf s) (reallyRun (taskOf t) (stateOf s) xs) (runLent (offersHanded t (beginHanded t s bytes words) xs))
   history-carried xs = rw (memory-after xs) (history t s accepted xs)
+
+  -- so it tells the tests that these stored
+  pub stored-carried : (xs : List Offer)
+      → TellsStored (taskOf t) (reallyRun (taskOf t) (stateOf s) xs) (runLent (offersHanded t (beginHanded t s bytes words) xs))
+  stored-carried xs = rw (memory-after xs) (begun-stores t s accepted xs)
 
 -- AND WHATEVER C PUTS THERE: an offer is answered 17 if and only if the memory is long enough, the tables are clean, and what stands in the memory isn't what its
 -- start and log give
@@ -239,12 +246,24 @@ module _ (t : Tables) (bytes words : List ℕ) (number o : ℕ) where
   memory-seventeen-exactly =
       (told-so, λ h. offers-carried bytes words (h .0) (h .1) t number o .told ∙ ap answerWord (exactly .1 (h .2, h .3)))
 
-  -- and of what isn't 17 the columns are within the steps, before the offer and after it
-  pub memory-within : runBytes ≤ length bytes → runWords ≤ length words → tablesFault t ≡ Clean
-      → (offerHanded t bytes words number o .word ≡ refusedWord NotARun → ⊥)
-      → WithinSteps (runIn bytes words) × WithinSteps (runLent (offerHanded t bytes words number o))
-  memory-within b w clean other =
-      let within =
-      not-seventeen-within t clean (runIn bytes words) (run-in-lengths bytes words) number o
-      (λ e. other (offers-carried bytes words b w t number o .told ∙ ap answerWord e)) in
-      (within .0, subst WithinSteps (sym (offer-run bytes words b w t number o)) (within .1))
+  -- what isn't 17 is what its start and log give, before the offer and after it; so its columns are within the steps, and it tells the tests of its own log
+  module _ (long-bytes : runBytes ≤ length bytes) (long-words : runWords ≤ length words) (clean : tablesFault t ≡ Clean)
+      (other : offerHanded t bytes words number o .word ≡ refusedWord NotARun → ⊥) where
+    abbrev before : Run
+    before = runIn bytes words
+
+    abbrev after : Run
+    after = runLent (offerHanded t bytes words number o)
+
+    memory-given : GivenByStartAndLog (taskOf t) before × GivenByStartAndLog (taskOf t) after
+    memory-given =
+        let given =
+        not-seventeen t before number o clean (run-in-lengths bytes words)
+        (λ e. other (offers-carried bytes words long-bytes long-words t number o .told ∙ ap answerWord e)) in
+        (given .0, subst (GivenByStartAndLog (taskOf t)) (sym (offer-run bytes words long-bytes long-words t number o)) (given .1))
+
+    pub memory-within : WithinSteps before × WithinSteps after
+    memory-within = (given-within t clean before (memory-given .0), given-within t clean after (memory-given .1))
+
+    pub memory-stores : TellsStored (taskOf t) (stepsIn before) before × TellsStored (taskOf t) (stepsIn after) after
+    memory-stores = (given-stores t clean before (memory-given .0), given-stores t clean after (memory-given .1))

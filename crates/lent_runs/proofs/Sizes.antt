@@ -1,4 +1,4 @@
--- The lists of a run have their lengths: of a run taken out of lent memory, of a run begun, and of a run after an offer. Assumes nothing.
+-- The lists of a run have their lengths: of a run taken out of lent memory, and of a run begun. Assumes nothing.
 use Prim.Native.Nat.{ℕ}
 use mathlib.Core.Path.{_∙_}
 use mathlib.Core.List.{List}
@@ -12,11 +12,9 @@ use Rattle.tables.proofs.Laws.{length-filled}
 use Rattle.meaning.specs.Limits.{mostVars, mostSteps}
 use Rattle.tables.specs.Steps.{copied}
 use Rattle.ledger.specs.declared.Run.{Run}
-use Rattle.ledger.specs.declared.Answer.{Answer}
-use Rattle.ledger.specs.declared.Answer.the-variants.{Accepted, Repeated, Refused}
-use Rattle.ledger.specs.Ledger.{allColumns, fresh, moved, answered, offered, started, begun}
+use Rattle.ledger.specs.Ledger.{allColumns, fresh, started, begun}
 use Rattle.ledger.specs.History.{Sized}
-use Rattle.ledger.proofs.Runs.{fresh-sized, advanced-sized}
+use Rattle.ledger.proofs.Runs.{fresh-sized}
 use Rattle.lent_runs.specs.Lent.{columnsFrom, runIn}
 use Rattle.lent_runs.proofs.Parts.{part-length}
 
@@ -42,15 +40,3 @@ begun-sized t s =
     either : (f : Found) (r : Run) → Sized r → Sized (started f r .run)
     either Clean r z = z
     either (Fault f) r z = fresh-sized (replicate mostVars 0) (length-replicate {A = ℕ} mostVars 0)
-
--- ---- an offer
-
-module _ (t : Tables) (r : Run) (sized : Sized r) where
-  pub offered-sized : (number o : ℕ) → Sized (offered t r number o .run)
-  unfolding offered
-  offered-sized number o = moved-sized (answered t r number o)
-    where
-      moved-sized : (a : Answer) → Sized (moved t r o a)
-      moved-sized Accepted = advanced-sized t r o sized
-      moved-sized Repeated = sized
-      moved-sized (Refused f) = sized

@@ -42,11 +42,11 @@ module _ (t : Tables) (r : Run) (clean : tablesFault t ≡ Clean) (sized : Sized
   abbrev done : List ℕ
   done = given-told t clean r sized given .0
 
-  told : (xs : List Offer) → Told t (r .start) (done ++ added (sasOf t) (stateOf (r .start)) done xs) (ran t r xs)
+  told : (xs : List Offer) → Told t (r .start) (done ++ added (taskOf t) (stateOf (r .start)) done xs) (ran t r xs)
   told xs = ran-told t (r .start) clean (given .0) xs done r (given-told t clean r sized given .1)
 
   now-state : (xs : List Offer) → IsState (sasOf t) (stateOf (ran t r xs .now))
-  now-state xs = told-state t (r .start) clean (given .0) (done ++ added (sasOf t) (stateOf (r .start)) done xs) (ran t r xs) (told xs)
+  now-state xs = told-state t (r .start) clean (given .0) (done ++ added (taskOf t) (stateOf (r .start)) done xs) (ran t r xs) (told xs)
 
   -- at every moment the run's own list shows its state now
   pub kept-now-shown : (xs : List Offer) → Shows (t .counts .vars) (ran t r xs .now) (stateOf (ran t r xs .now))
@@ -67,7 +67,7 @@ module _ (t : Tables) (r : Run) (clean : tablesFault t ≡ Clean) (sized : Sized
     later = ran t r (xs ++ ys)
 
     abbrev steps : List ℕ
-    steps = added (sasOf t) (stateOf (r .start)) (done ++ added (sasOf t) (stateOf (r .start)) done xs) ys
+    steps = added (taskOf t) (stateOf (r .start)) (done ++ added (taskOf t) (stateOf (r .start)) done xs) ys
 
     between : Between (taskOf t) steps earlier later
     between = told-between t (r .start) clean (given .0) done r (given-told t clean r sized given .1) xs ys

@@ -9,7 +9,7 @@ use Rattle.meaning.specs.Split.{sum}
 use Rattle.meaning.proofs.Columns.{sum-same}
 use Rattle.scan.proofs.Validity.{clean-valid, state-clean}
 use Rattle.tables.specs.Layout.{Tables}
-use Rattle.tables.specs.Task.{sasOf, taskOf, stateOf}
+use Rattle.tables.specs.Task.{taskOf, stateOf}
 use Rattle.views.specs.declared.DistanceAnswer.{DistanceAnswer}
 use Rattle.views.specs.declared.DistanceAnswer.the-variants as distance
 use Rattle.views.specs.declared.BoundAnswer.{BoundAnswer}
@@ -53,7 +53,7 @@ module _ (t : Tables) (s : List ℕ) (accepted : begun t s .answer ≡ Accepted)
   unfolding ran
   begun-given =
       run-exactly t (began .clean) (begun t s .run) begun-sized .0
-      (is-run t s (began .clean) (began .state) (reallyRun (sasOf t) (stateOf s) []) (begun t s .run) (after-told t s accepted []))
+      (is-run t s (began .clean) (began .state) (reallyRun (taskOf t) (stateOf s) []) (begun t s .run) (after-told t s accepted []))
 
   -- at every moment the run's own lists show its state now, and the start as it was handed in; and what was handed in shows that too
   pub now-shown : (xs : List Offer) → Shows (t .counts .vars) (runAfter t s xs .now) (stateOf (runAfter t s xs .now))
