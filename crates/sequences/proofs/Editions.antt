@@ -10,7 +10,7 @@ use Rattle.refusals.specs.declared.Refusal.the-variants.{BeyondQuota}
 use Rattle.meaning.specs.Limits.{mostSteps}
 use Rattle.meaning.specs.Sas.{State, Passes, paid}
 use Rattle.meaning.specs.Split.{Task}
-use Rattle.meaning.specs.Quota.{KeepsQuota, PassesWithin}
+use Rattle.meaning.specs.Quota.{PassesWithin}
 use Rattle.meaning.proofs.Quota.{nothing-stored, unmarked-keeps}
 use Rattle.scan.specs.declared.Found.the-variants.{Clean}
 use Rattle.scan.specs.Scan.{inputFault}

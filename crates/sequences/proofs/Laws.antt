@@ -29,12 +29,13 @@ module _ (T : Task) (n : ℕ) (s : State) (o : ℕ) where
   -- 10 where there is no such operator, whatever its facts and marks say
   pub no-such-first : T .sas .ops ≤ o → stepOf T n s o ≡ NoSuch
   unfolding stepOf
-  no-such-first h = rw (le-ltb o (T .sas .ops) h)
+  no-such-first h = simp (le-ltb o (T .sas .ops) h)
 
   -- 12 where it may not run, whatever is stored
   pub may-not-before-beyond : o < T .sas .ops → runs? ≡ false → stepOf T n s o ≡ MayNot
   unfolding stepOf
-  may-not-before-beyond l r = rw (lt-ltb o (T .sas .ops) l, r)
+  may-not-before-beyond l r =
+      by-cases (mayStore T n o) (λ q. simp (lt-ltb o (T .sas .ops) l, r, q)) (λ q. simp (lt-ltb o (T .sas .ops) l, r, q))
 
   -- an operator that exists, may run and stores nothing beyond the quota, one that just reaches it too, is taken at its cost
   pub takes : o < T .sas .ops → MayRun (T .sas) o s → n + T .mark o ≤ T .quota → stepOf T n s o ≡ Ran (T .sas .cost o)

@@ -13,7 +13,7 @@ use Rattle.refusals.specs.declared.Refusal.{Refusal}
 use Rattle.refusals.specs.declared.Refusal.the-variants.{SequenceTooLong, NoGoal, TableTooShort, ValueOutside, NoSuchOperator, MayNotRun, BeyondQuota}
 use Rattle.refusals.specs.Listed.{numberOf, placeOf}
 use Rattle.meaning.specs.Limits.{mostSteps}
-use Rattle.meaning.specs.Sas.{State, Sas, MayRun, Runs, after, end}
+use Rattle.meaning.specs.Sas.{State, Sas, Runs, after, end}
 use Rattle.meaning.specs.Split.{Task}
 use Rattle.meaning.specs.Views.{complies}
 use Rattle.meaning.specs.Quota.{stored, StoresWithin, RunsWithin}

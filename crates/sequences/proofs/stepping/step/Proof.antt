@@ -59,17 +59,19 @@ returns-2 c =
 
 returns-3 : tie.Need-returns-3
 returns-3 c =
-    let y = c .before .before .before in
+    let z = c .before in
+    let y = z .before .before in
     let x = first y in
-    sym (beyond-last (T x) (n x) (s x) (o x) (y .before .if1 .left) (may-run y (not-false _ (c .before .before .if2 .left))) (may-not-store (T x) (n x) (o x) (stores (c .before) (not-true _ (c .if3 .taken)))))
+    let over = may-not-store (T x) (n x) (o x) (stores z (not-true _ (c .if3 .taken))) in
+    sym (beyond-last (T x) (n x) (s x) (o x) (y .before .if1 .left) (may-run y (not-false _ (z .before .if2 .left))) over)
 
 returns-4 : tie.Need-returns-4
 returns-4 c =
     let z = c .before .before in
     let y = z .before .before in
     let x = first y in
-    ap Ran (c .cost-at .ensures)
-    ∙ sym (takes (T x) (n x) (s x) (o x) (y .before .if1 .left) (may-run y (not-false _ (z .before .if2 .left))) (may-store (T x) (n x) (o x) (stores z (not-false _ (c .before .if3 .left)))))
+    let fits = may-store (T x) (n x) (o x) (stores z (not-false _ (c .before .if3 .left))) in
+    ap Ran (c .cost-at .ensures) ∙ sym (takes (T x) (n x) (s x) (o x) (y .before .if1 .left) (may-run y (not-false _ (z .before .if2 .left))) fits)
 
 pub step-spec : {M : Type 1} → statement M
 step-spec =
