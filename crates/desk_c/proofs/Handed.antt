@@ -1,7 +1,7 @@
--- Laws of what a reading hands back: each outcome from the facts that a way through the code has. Assumes nothing.
+-- Laws of a lent row of counts, and of what a reading hands back: each outcome from the facts that a way through the code has. Assumes nothing.
 use Prim.Native.Nat.{ℕ, _≤_, _<_}
 use mathlib.Core.Path.{_≡_, refl}
-use mathlib.Core.List.{List}
+use mathlib.Core.List.{List, []}
 use lib.ListN.{length, set}
 use borrow.Author.Tests.{lt-ltb, le-ltb}
 use Rattle.refusals.specs.declared.Refusal.{Refusal}
@@ -11,8 +11,10 @@ use Rattle.grammar.specs.declared.Reading.{Reading}
 use Rattle.grammar.specs.declared.Reading.the-variants as reading
 use Rattle.grammar.specs.Fields.{leaves}
 use Rattle.grammar.specs.Grammar.{readText}
+use Rattle.scan.specs.declared.Found.the-variants.{Fault}
+use Rattle.scan.specs.Scan.{roomy, tablesFault}
 use Rattle.words.specs.Words.{word, done, refusedWord}
-use Rattle.desk_c.specs.Handing.{countsRow, readLeft, readHanded}
+use Rattle.desk_c.specs.Handing.{countsRow, countsPut, factsBeside, rowTables, readLeft, readHanded}
 
 module _ (text counts f c s : List ℕ) (w : ℕ) where
   pub read-short : length counts < countsRow → w ≡ refusedWord TableTooShort → readLeft w counts f c s ≡ readHanded text counts f c s
@@ -21,10 +23,26 @@ module _ (text counts f c s : List ℕ) (w : ℕ) where
 
   module _ (long : countsRow ≤ length counts) (a : Reading) (f′ c′ s′ : List ℕ) (left : leaves a f′ c′ s′ ≡ readText text f c s) where
     pub read-accepted : (n : Counts) → a ≡ reading.Accepted n → w ≡ word done 0
-        → readLeft w (set (set (set counts 0 (n .vars)) 1 (n .ops)) 2 (n .maps)) f′ c′ s′ ≡ readHanded text counts f c s
+        → readLeft w (countsPut n counts) f′ c′ s′ ≡ readHanded text counts f c s
     unfolding readHanded
     read-accepted n p e = rw (le-ltb (length counts) countsRow long, ← left, p, e) refl
 
     pub read-refused : (r : Refusal) → a ≡ reading.Refused r → w ≡ refusedWord r → readLeft w counts f′ c′ s′ ≡ readHanded text counts f c s
     unfolding readHanded
     read-refused r p e = rw (le-ltb (length counts) countsRow long, ← left, p, e) refl
+
+-- ---- a lent row of counts
+
+-- the facts beside it
+pub beside-short : (row facts : List ℕ) → length row < countsRow → factsBeside row facts ≡ []
+unfolding factsBeside
+beside-short row facts h = rw (lt-ltb (length row) countsRow h) refl
+
+pub beside-long : (row facts : List ℕ) → countsRow ≤ length row → factsBeside row facts ≡ facts
+unfolding factsBeside
+beside-long row facts h = rw (le-ltb (length row) countsRow h) refl
+
+-- A ROW THAT IS TOO SHORT IS 8, whatever else was lent
+pub short-row : (row facts costs shares : List ℕ) → length row < countsRow → tablesFault (rowTables row facts costs shares) ≡ Fault TableTooShort
+unfolding tablesFault roomy
+short-row row facts costs shares h = rw (beside-short row facts h) refl

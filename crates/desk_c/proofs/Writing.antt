@@ -19,14 +19,14 @@ use Rattle.grammar.specs.declared.Reading.the-variants as reading
 use Rattle.grammar.specs.declared.Written.the-variants as written
 use Rattle.grammar.specs.Fields.{leaves}
 use Rattle.grammar.specs.Grammar.{readText}
-use Rattle.grammar.specs.Spelling.{spelled, tablesOf}
+use Rattle.grammar.specs.Spelling.{spelled, tablesOf, canon}
 use Rattle.grammar.specs.Writing.{textRoom, over, writeText}
 use Rattle.grammar.proofs.SpellLeft.{Named}
 use Rattle.grammar.proofs.RoundTrips.{tablesLeft}
 use Rattle.desk.proofs.RoundTrips as desk
 use Rattle.words.specs.Words.{word, done, refusedWord, readingWord, writtenWord}
 use Rattle.words.proofs.Told.{found-told, written-told}
-use Rattle.desk_c.specs.Handing.{ReadLeft, countsRow, countsAfter, readCounted, readHanded, WriteLeft, writeLeft, writeTold, writeHanded}
+use Rattle.desk_c.specs.Handing.{ReadLeft, countsRow, countsIn, countsPut, countsAfter, readCounted, readHanded, WriteLeft, writeLeft, writeTold, writeHanded}
 
 -- a row of counts that is long enough
 long-handed : (task counts f c s : List ℕ) → countsRow ≤ length counts → readHanded task counts f c s ≡ readCounted (readText task f c s) counts
@@ -69,7 +69,7 @@ module _ (t : Tables) (buffer : List ℕ) (x : WriteLeft) (h : x ≡ writeHanded
           subst (λ (z : List ℕ). Named (taskOf t) f c s (readText (take n z) f c s)) (sym bytes-are)
           (desk.read-written t buffer (writeText t buffer) refl n answers f c s a b d (readText (take n (writeText t buffer .bytes)) f c s) refl)
 
-      accepts : readText (take n (x .bytes)) f c s .answer ≡ reading.Accepted (t .counts)
+      accepts : readText (take n (x .bytes)) f c s .answer ≡ reading.Accepted (canon t .counts)
       unfolding tablesOf
       accepts = named .answer
 
@@ -77,8 +77,8 @@ module _ (t : Tables) (buffer : List ℕ) (x : WriteLeft) (h : x ≡ writeHanded
       hands = g ∙ long-handed (take n (x .bytes)) counts f c s l
 
       -- done; the task's counts in the row; its own numbers in the tables, and 0 in every other place
-      pub read-written : (y .word ≡ word done 0) × (y .counts ≡ set (set (set counts 0 (t .counts .vars)) 1 (t .counts .ops)) 2 (t .counts .maps))
-          × Named (taskOf t) f c s (leaves (reading.Accepted (t .counts)) (y .facts) (y .costs) (y .shares))
+      pub read-written : (y .word ≡ word done 0) × (y .counts ≡ countsPut (canon t .counts) counts)
+          × Named (taskOf t) f c s (leaves (reading.Accepted (canon t .counts)) (y .facts) (y .costs) (y .shares))
       read-written = (
         ap (λ (z : ReadLeft). z .word) hands ∙ ap readingWord accepts,
         ap (λ (z : ReadLeft). z .counts) hands ∙ ap (λ (k : Reading). countsAfter k counts) accepts,
@@ -88,15 +88,13 @@ module _ (t : Tables) (buffer : List ℕ) (x : WriteLeft) (h : x ≡ writeHanded
 
 -- ---- WRITING WHAT WAS READ
 
--- the counts that stand in a row
-abbrev pub countsIn : List ℕ → Counts
-countsIn row = record { vars = getD row 0 0; ops = getD row 1 0; maps = getD row 2 0 }
-
 counts-put : (row : List ℕ) (n : Counts) → countsRow ≤ length row → countsIn (countsAfter (reading.Accepted n) row) ≡ n
 counts-put [] n l = absurd (let z : ⊥ = omega arith in z)
 counts-put (a ∷ []) n l = absurd (let z : ⊥ = omega arith in z)
 counts-put (a ∷ b ∷ []) n l = absurd (let z : ⊥ = omega arith in z)
-counts-put (a ∷ b ∷ c ∷ row) n l = refl
+counts-put (a ∷ b ∷ c ∷ []) n l = absurd (let z : ⊥ = omega arith in z)
+counts-put (a ∷ b ∷ c ∷ d ∷ []) n l = absurd (let z : ⊥ = omega arith in z)
+counts-put (a ∷ b ∷ c ∷ d ∷ e ∷ row) n l = refl
 
 -- a word of 0 is an accepted text's
 accepted-by : (a : Reading) → readingWord a ≡ word done 0 → (n : Counts) × (a ≡ reading.Accepted n)
