@@ -1,4 +1,4 @@
--- The goal, the operators and lines of the same kind, read as the grammar says. A list of facts is ended by a mark; before that of an operator's effects the machine
+-- The goal, the operators and lines of the same kind, read as the grammar says. A list of facts is ended by a sign; before that of an operator's effects the machine
 -- asks its area, and the grammar its tables, whether the operator is idle. Assumes nothing.
 use Prim.Native.Nat.{ℕ, zero, suc, _+_, _≤_, _<_, zero-le}
 use native.Mathlib.Omega.{arith}
@@ -39,11 +39,11 @@ use Rattle.text.specs.Inside.Area.{putWord, costByte}
 use Rattle.text.specs.Inside.Control.{going, up, stopped, partBegun, due, opened, withDigit, dashed, toLine, rowOr, nextLine, countCap}
 use Rattle.text.specs.Inside.Control.{fieldGoalVar, fieldGoalVal, fieldOps, fieldCost, fieldPreVar, fieldPreVal, fieldEffVar, fieldEffVal, fieldMaps}
 use Rattle.text.specs.Inside.Fields.{keyByte, limit, countsWith, seenWith, noted, stored, kind}
-use Rattle.text.specs.Inside.Steps.{mark, idleHere, listEnd, afterValue, afterNumber, dashHere, noByte}
-use Rattle.text.proofs.BridgeReading.{tablesOf, reading, Bytes, bytes-drop, next, behind, stops, at-mark, kw, spelled, key-ok}
+use Rattle.text.specs.Inside.Steps.{sign, idleHere, listEnd, afterValue, afterNumber, dashHere, noByte}
+use Rattle.text.proofs.BridgeReading.{tablesOf, reading, Bytes, bytes-drop, next, behind, stops, at-sign, kw, spelled, key-ok}
 use Rattle.grammar.proofs.Runs.{within-both}
 use Rattle.text.proofs.BridgeArea.{cost-kept, idle-of}
-use Rattle.text.proofs.BridgeRows.{then-mark, no-fault, Fits, Known, known-put3, ofVar, ofRow, fromVar}
+use Rattle.text.proofs.BridgeRows.{then-sign, no-fault, Fits, Known, known-put3, ofVar, ofRow, fromVar}
 use Rattle.text.proofs.BridgeLines.{eol, bare, single-ok}
 use Rattle.text.proofs.BridgeFacts.{number-at, FactList, list-ok}
 use Rattle.tables.specs.Lines.{lineOfGoal, lineOfOps, lineOfOp, lineOfMaps}
@@ -57,25 +57,25 @@ pick-self false = refl
 abbrev pub afterRow : ℕ → ℕ → ℕ → ℕ → ℕ → Counts → Ctrl
 afterRow l f g r N n = cond (ltb (up r) N) (kw (up l) f (up r) n 0) (kw (up l) g 0 n 0)
 
--- ---- where a list of facts is over: the mark x, and then d is the control
-abbrev byMark : ℕ → Ctrl → Ctrl → List ℕ → ℕ → Ctrl
-byMark x d c w b = mark c b x d
+-- ---- where a list of facts is over: the sign x, and then d is the control
+abbrev bySign : ℕ → Ctrl → Ctrl → List ℕ → ℕ → Ctrl
+bySign x d c w b = sign c b x d
 
-mark-ends : (n : Counts) (x : ℕ) (d : Ctrl) (l : ℕ) (k : Rest) → eqb noByte x ≡ false
+sign-ends : (n : Counts) (x : ℕ) (d : Ctrl) (l : ℕ) (k : Rest) → eqb noByte x ≡ false
     → ((w : List ℕ) → Known (n .vars) w → (t : List ℕ) → Bytes t → reading d w t ≡ k t l (tablesOf n w))
-    → (c : Ctrl) → c .line ≡ l → (w : List ℕ) → Known (n .vars) w → (t : List ℕ) → Bytes t → reading (byMark x d c w (next t)) w (behind t) ≡ lit (x ∷ []) t l (tablesOf n w) k
+    → (c : Ctrl) → c .line ≡ l → (w : List ℕ) → Known (n .vars) w → (t : List ℕ) → Bytes t → reading (bySign x d c w (next t)) w (behind t) ≡ lit (x ∷ []) t l (tablesOf n w) k
 unfolding lit
-mark-ends n x d l k q ok c e w p t a = at-mark c d w l x [] t (tablesOf n w) k e q (λ z. ok w p (behind t) (bytes-drop 1 a))
+sign-ends n x d l k q ok c e w p t a = at-sign c d w l x [] t (tablesOf n w) k e q (λ z. ok w p (behind t) (bytes-drop 1 a))
 
--- an operator's effects: before their mark it is told that the operator is idle
+-- an operator's effects: before their sign it is told that the operator is idle
 abbrev unlessIdle : ℕ → ℕ → Counts → Ctrl → List ℕ → ℕ → Ctrl
-unlessIdle l r n c w b = cond (isIdle (n .vars) w r) (stopped c Idle) (mark c b lineEnd (afterRow l fieldCost fieldMaps r (n .ops) n))
+unlessIdle l r n c w b = cond (isIdle (n .vars) w r) (stopped c Idle) (sign c b lineEnd (afterRow l fieldCost fieldMaps r (n .ops) n))
 
 effects-stop : (l r : ℕ) (n : Counts) (c : Ctrl) (w : List ℕ) → going (unlessIdle l r n c w noByte .halt) ≡ false
-unfolding mark stopped
+unfolding sign stopped
 effects-stop l r n c w = split (isIdle (n .vars) w r)
   where
-    split : (q : Bool) → going (cond q (stopped c Idle) (mark c noByte lineEnd (afterRow l fieldCost fieldMaps r (n .ops) n)) .halt) ≡ false
+    split : (q : Bool) → going (cond q (stopped c Idle) (sign c noByte lineEnd (afterRow l fieldCost fieldMaps r (n .ops) n)) .halt) ≡ false
     split true = refl
     split false = refl
 
@@ -87,14 +87,14 @@ unfolding demand
 effects-end l r n sized h k ok c e w p t a =
     split (isIdle (n .vars) w r) ∙ ap (λ (q : Bool). demand (not q) IdleOperator t l (tablesOf n w) (eol k)) (idle-of n w r (sized .high) h)
   where
-    split : (q : Bool) → reading (cond q (stopped c Idle) (mark c (next t) lineEnd (afterRow l fieldCost fieldMaps r (n .ops) n))) w (behind t)
+    split : (q : Bool) → reading (cond q (stopped c Idle) (sign c (next t) lineEnd (afterRow l fieldCost fieldMaps r (n .ops) n))) w (behind t)
         ≡ demand (not q) IdleOperator t l (tablesOf n w) (eol k)
     split true = stops c Idle (IdleOperator l) w (behind t) refl (ap (λ (m : ℕ). Fault (IdleOperator m)) e)
-    split false = mark-ends n lineEnd (afterRow l fieldCost fieldMaps r (n .ops) n) l (λ u m U. k u (m + 1) U) refl ok c e w p t a
+    split false = sign-ends n lineEnd (afterRow l fieldCost fieldMaps r (n .ops) n) l (λ u m U. k u (m + 1) U) refl ok c e w p t a
 
 -- ---- the three lists of facts: the goal's, and an operator's preconditions and effects
-goal-list : (n : Counts) → FactList lineOfGoal fieldGoalVar fieldGoalVal 0 n goalPlace (byMark lineEnd (kw lineOfOps fieldOps 0 n 0))
-unfolding limit stored withDigit noted afterNumber kind afterValue listEnd idleHere mark stopped nextLine toLine due dashHere dashed partBegun seenWith countsWith
+goal-list : (n : Counts) → FactList lineOfGoal fieldGoalVar fieldGoalVal 0 n goalPlace (bySign lineEnd (kw lineOfOps fieldOps 0 n 0))
+unfolding limit stored withDigit noted afterNumber kind afterValue listEnd idleHere sign stopped nextLine toLine due dashHere dashed partBegun seenWith countsWith
 goal-list n =
     record {
       var-goes = λ z. omega arith;
@@ -116,8 +116,8 @@ goal-list n =
       room = λ v q. (omega arith, omega arith);
     }
 
-pre-list : (l r : ℕ) (n : Counts) → r < 64 → FactList l fieldPreVar fieldPreVal r n (prePlace r) (byMark semicolon (fromVar l fieldEffVar 0 r n))
-unfolding limit stored withDigit noted afterNumber kind afterValue listEnd mark stopped due dashHere dashed partBegun seenWith countsWith
+pre-list : (l r : ℕ) (n : Counts) → r < 64 → FactList l fieldPreVar fieldPreVal r n (prePlace r) (bySign semicolon (fromVar l fieldEffVar 0 r n))
+unfolding limit stored withDigit noted afterNumber kind afterValue listEnd sign stopped due dashHere dashed partBegun seenWith countsWith
 pre-list l r n h =
     record {
       var-goes = λ z. omega arith;
@@ -169,7 +169,7 @@ pub goal-ok : (n : Counts) → Fits n → (w : List ℕ) → Known (n .vars) w �
 unfolding goalLine textLine endOfLine _▸_ opened partBegun spelled keyByte
 goal-ok n sized w p k ok =
     key-ok lineOfGoal fieldGoalVar 0 n w (λ z. omega arith) (tablesOf n w) _
-    (list-ok lineOfGoal fieldGoalVar fieldGoalVal 0 n goalPlace _ (goal-list n) sized (eol k) (mark-ends n lineEnd _ lineOfGoal (λ u m U. k u (m + 1) U) refl ok) w p)
+    (list-ok lineOfGoal fieldGoalVar fieldGoalVal 0 n goalPlace _ (goal-list n) sized (eol k) (sign-ends n lineEnd _ lineOfGoal (λ u m U. k u (m + 1) U) refl ok) w p)
     0 (bytesOf "goal=") refl
 
 -- ops=
@@ -198,7 +198,7 @@ operator-ok l r n sized h w p k ok =
     number-at (ofRow l fieldCost r n) w 0 (mostCost + 1) refl refl (λ z. omega arith) (omega arith) (omega arith) _ (tablesOf n w) _
     (λ z v u y o b s q.
     let x = sized .high in
-    then-mark (ofRow l fieldCost r n) w z v semicolon (fromVar l fieldPreVar 0 r n) (tablesOf n (putWord w (costByte r) v)) pres refl (λ i. omega arith) y
+    then-sign (ofRow l fieldCost r n) w z v semicolon (fromVar l fieldPreVar 0 r n) (tablesOf n (putWord w (costByte r) v)) pres refl (λ i. omega arith) y
     (no-fault (ofRow l fieldCost r n) w z v y (λ i. omega arith) s zero-le)
     (λ i. refl)
     (pres-ok (putWord w (costByte r) v) (known-put3 p (costByte r) v (omega arith)))
@@ -218,7 +218,7 @@ operator-ok l r n sized h w p k ok =
     effs-ok = list-ok l fieldEffVar fieldEffVal r n (effPlace r) _ (eff-list l r n h) sized _ (effects-end l r n sized h k ok)
 
     pres-ok : (u : List ℕ) → Known (n .vars) u → (t : List ℕ) → Bytes t → reading (fromVar l fieldPreVar 0 r n) u t ≡ pres t l (tablesOf n u)
-    pres-ok = list-ok l fieldPreVar fieldPreVal r n (prePlace r) _ (pre-list l r n h) sized _ (mark-ends n semicolon _ l effs refl effs-ok)
+    pres-ok = list-ok l fieldPreVar fieldPreVal r n (prePlace r) _ (pre-list l r n h) sized _ (sign-ends n semicolon _ l effs refl effs-ok)
 
 -- ---- lines of one kind: N rows of field f, each read by `one`, up to line E, where field g follows
 module _ (f g N E : ℕ) (n : Counts) (j : ℕ) (p : ℕ → Part) (k : Rest) (few : N ≤ 64) (low : E < countCap)

@@ -43,7 +43,7 @@ keys = bytesOf "edition=vars=   dom=    init=   goal=           ops=    op=     
 unfoldable pub keyByte : ℕ → ℕ → ℕ
 keyByte f k = getD keys (f * 8 + k) 256
 
--- the least number of each field, and the first number beyond its range, where two marks stand for what the text itself has said
+-- the least number of each field, and the first number beyond its range, where two numbers stand for what the text itself has said
 abbrev pub leasts : List ℕ
 leasts = 1 ∷ 1 ∷ 1 ∷ 0 ∷ 0 ∷ 0 ∷ 0 ∷ 0 ∷ 0 ∷ 0 ∷ 0 ∷ 0 ∷ 1 ∷ 0 ∷ 0 ∷ 0 ∷ 0 ∷ 0 ∷ []
 

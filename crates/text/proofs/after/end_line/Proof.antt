@@ -1,4 +1,4 @@
--- `text::after::end_line` meets its contract: the mark is the line end. Assumes nothing.
+-- `text::after::end_line` meets its contract: the sign is the line end. Assumes nothing.
 use borrow.Author.Needs.{needs}
 use Rattle.text.proofs.after.end_line.Statement.{statement}
 use Rattle.text.proofs.after.end_line.Tie as tie
