@@ -21,9 +21,9 @@ use Rattle.text.specs.Inside.Fields.{leasts, limit, noted, fault, stored
 use Rattle.text.specs.Inside.Steps.{sign, listEnd, afterNumber, dashHere, atNumber, live, byteRead, noByte, valueCap}
 use Rattle.text.proofs.BridgeReading.{tablesOf, reading, Bytes, bytes-drop, next, behind, pick-same, goes-on, by-sign}
 use Rattle.grammar.proofs.Runs.{clash, within-both, Stop}
-use Rattle.text.proofs.BridgeNumbers.{beginsDash, faulty, sound, number-ok}
+use Rattle.text.proofs.BridgeNumbers.{beginsDash, faulty, number-ok}
 use Rattle.text.proofs.BridgeArea.{fact-kept, dom-of}
-use Rattle.text.proofs.BridgeRows.{then-sign, fault-plain, no-fault, Fits, Known, known-put, ofVar, fromVar}
+use Rattle.text.proofs.BridgeRows.{then-on, then-sign, fault-plain, no-fault, Fits, Known, known-put, ofVar, fromVar}
 
 -- a number, with its range named
 module _ (c : Ctrl) (w : List ℕ) (lo lim : ℕ) (e : getD leasts (c .spot .field) 0 ≡ lo) (q : limit c w ≡ lim) (h : c .spot .field ≡ fieldEnd → ⊥) (low : lo ≤ valueCap) (cap : lim ≤ valueCap)
@@ -90,11 +90,8 @@ module _ (l f g r : ℕ) (n : Counts) (place : ℕ → ℕ) (over : Ctrl → Lis
 
         move : reading (withDigit (ofVar l g v r n) z y) w u ≡ reading (cond (eqb (next u) comma) (fromVar l f (up v) r n) (over c w₁ (next u))) w₁ (behind u)
         move =
-            goes-on _ _ w w₁ u (L .val-goes)
-            (sound (ofVar l g v r n) w z y q o e
-            ∙ ap (λ (x : List ℕ). mk (afterNumber c x (next u)) x) (L .val-kept v z y w)
-            ∙ ap (λ (x : Ctrl). mk x w₁) (L .val-after v z y (next u) w₁))
-            (λ i. rw i (L .over-stops c w₁))
+            then-on (ofVar l g v r n) w w₁ z y (λ b. cond (eqb b comma) (fromVar l f (up v) r n) (over c w₁ b)) (L .val-goes) q e (L .val-kept v z y w)
+            (λ b. L .val-after v z y b w₁) (L .over-stops c w₁) o
 
         split : (s : Bool) → eqb (next u) comma ≡ s
             → reading (cond (eqb (next u) comma) (fromVar l f (up v) r n) (over c w₁ (next u))) w₁ (behind u)

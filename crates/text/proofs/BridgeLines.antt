@@ -15,7 +15,6 @@ use Rattle.grammar.specs.Fields.{comma, lineEnd, bytesOf, dash}
 use Rattle.grammar.specs.Grammar.{
   Rest,
   _▸_,
-  nothing,
   ask,
   keep,
   lit,
@@ -24,7 +23,8 @@ use Rattle.grammar.specs.Grammar.{
   numberRow,
   endOfLine,
   textLine,
-  withCounts,
+  putEdition,
+  putVars,
   putFact,
   editionLine,
   varsLine,
@@ -33,14 +33,14 @@ use Rattle.grammar.specs.Grammar.{
 }
 use Rattle.text.specs.Inside.Area.{domIn}
 use Rattle.text.specs.Inside.Control.{up, partBegun, due, opened, withDigit, toLine, nextLine, fieldEdition, fieldVars, fieldDom, fieldInit, fieldGoalVar, fieldClass, fieldEnd}
-use Rattle.text.specs.Inside.Fields.{keyByte, leasts, limit, countsWith, seenWith, noted, lastVar, stored, kind, kindVar}
+use Rattle.text.specs.Inside.Fields.{keyByte, withCount, leasts, limit, countsWith, seenWith, noted, lastVar, stored, kind, kindVar}
 use Rattle.text.specs.Inside.Steps.{sign, afterVar, afterNumber, dashHere, valueCap}
 use Rattle.text.proofs.BridgeReading.{tablesOf, reading, Bytes, next, pick-same, kw, spelled, key-ok}
 use Rattle.text.proofs.BridgeNumbers.{beginsDash, number-ok}
 use Rattle.grammar.proofs.Runs.{within-both}
 use Rattle.text.proofs.BridgeArea.{fact-kept, dom-of}
 use Rattle.text.proofs.BridgeRows.{then-sign, no-fault, Fits, Known, known-put, known-dom, row-ok, ofVar, lone}
-use Rattle.tables.specs.Lines.{lineOfVars, lineOfDom, lineOfInit, lineOfGoal}
+use Rattle.tables.specs.Lines.{lineOfEdition, lineOfVars, lineOfDom, lineOfInit, lineOfGoal}
 
 -- the line end, and then what follows on the next line
 abbrev pub eol : Rest → Rest
@@ -68,17 +68,22 @@ module _ (l f : ℕ) (n : Counts) (w : List ℕ) (h : f ≡ fieldEnd → ⊥) (c
       t a (bare (lone l f n) t e)
 
 -- edition=
-pub edition-ok : (n : Counts) (w : List ℕ) (k : Rest) → ((t : List ℕ) → Bytes t → reading (kw lineOfVars fieldVars 0 n 0) w t ≡ k t lineOfVars (tablesOf n w))
-    → (t : List ℕ) → Bytes t → reading (kw 1 fieldEdition 0 n 0) w t ≡ editionLine t 1 (tablesOf n w) k
-unfolding editionLine textLine endOfLine _▸_ nothing keep opened partBegun limit stored withDigit noted afterNumber kind nextLine toLine spelled keyByte seenWith countsWith
+abbrev pub withEdition : ℕ → Counts → Counts
+withEdition = withCount fieldEdition
+
+pub edition-ok : (n : Counts) (w : List ℕ) (k : Rest)
+    → ((v : ℕ) (t : List ℕ) → Bytes t → reading (kw lineOfVars fieldVars 0 (withEdition v n) 0) w t ≡ k t lineOfVars (tablesOf (withEdition v n) w))
+    → (t : List ℕ) → Bytes t → reading (kw lineOfEdition fieldEdition 0 n 0) w t ≡ editionLine t lineOfEdition (tablesOf n w) k
+unfolding editionLine textLine endOfLine _▸_ keep opened partBegun limit stored withDigit noted afterNumber kind nextLine toLine spelled keyByte tablesOf seenWith countsWith
 edition-ok n w k ok =
-    key-ok 1 fieldEdition 0 n w (λ z. omega arith) (tablesOf n w) _
-    (single-ok 1 fieldEdition n w (λ z. omega arith) (λ z. omega arith) (omega arith) (omega arith) refl (λ v T. T) k (λ v. kw lineOfVars fieldVars 0 n 0) (λ z v. refl) (λ z v b u. refl) (λ v q. ok))
+    key-ok lineOfEdition fieldEdition 0 n w (λ z. omega arith) (tablesOf n w) _
+    (single-ok lineOfEdition fieldEdition n w (λ z. omega arith) (λ z. omega arith) (omega arith) (omega arith) refl
+    putEdition k (λ v. kw lineOfVars fieldVars 0 (withEdition v n) 0) (λ z v. refl) (λ z v b u. refl) (λ v q. ok v))
     0 (bytesOf "edition=") refl
 
 -- vars=
 abbrev pub withVars : ℕ → Counts → Counts
-withVars v n = record { vars = v; ops = n .ops; maps = n .maps }
+withVars = withCount fieldVars
 
 pub vars-ok : (n : Counts) (w : List ℕ) (k : Rest)
     → ((v : ℕ) → 1 ≤ v → v ≤ 8 → (t : List ℕ) → Bytes t → reading (kw lineOfDom fieldDom 0 (withVars v n) 0) w t ≡ k t lineOfDom (tablesOf (withVars v n) w))
@@ -87,7 +92,7 @@ unfolding varsLine textLine endOfLine _▸_ keep opened partBegun limit stored w
 vars-ok n w k ok =
     key-ok lineOfVars fieldVars 0 n w (λ z. omega arith) (tablesOf n w) _
     (single-ok lineOfVars fieldVars n w (λ z. omega arith) (λ z. omega arith) (omega arith) (omega arith) refl
-    (λ v T. withCounts v (T .counts .ops) (T .counts .maps) T) k (λ v. kw lineOfDom fieldDom 0 (withVars v n) 0) (λ z v. refl) (λ z v b u. refl)
+    putVars k (λ v. kw lineOfDom fieldDom 0 (withVars v n) 0) (λ z v. refl) (λ z v b u. refl)
     (λ v q. let g = within-both v 1 9 q in ok v (g .0) (omega arith)))
     0 (bytesOf "vars=") refl
 

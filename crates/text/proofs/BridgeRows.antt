@@ -17,7 +17,7 @@ use Rattle.text.specs.Inside.Area.{areaRoom, putByte, putWord, domIn}
 use Rattle.text.specs.Inside.Control.{mk, partNumber, going, spotAt, noDigits, turnOf, seenOf, withDigit, fieldClass, fieldShare, fieldEnd, noneSeen}
 use Rattle.text.specs.Inside.Fields.{leasts, limit, numberFault, countsWith, seenWith, noted, lastClass, before, fault, stored}
 use Rattle.text.specs.Inside.Steps.{sign, afterNumber, noByte, valueCap}
-use Rattle.text.proofs.BridgeReading.{tablesOf, reading, Bytes, bytes-drop, next, behind, sign-read}
+use Rattle.text.proofs.BridgeReading.{tablesOf, reading, Bytes, bytes-drop, next, behind, goes-on, sign-read}
 use Rattle.grammar.proofs.Runs.{Stop}
 use Rattle.text.proofs.BridgeNumbers.{beginsDash, sound, in-range, run-of, number-ok}
 use Rattle.text.proofs.BridgeArea.{put-getD, put-same, put-length, put3-length, put3-getD}
@@ -53,7 +53,17 @@ aClass l v i r m p n = num l fieldClass r (turnOf v 0 i) (seenOf m p) n
 abbrev pub aShare : ℕ → ℕ → ℕ → Counts → Ctrl
 aShare l i r n = ofItem l fieldShare 0 i r n
 
--- ---- the sign after a number without a fault
+-- ---- a number without a fault: it is kept, and what the machine does with the next byte follows
+pub then-on : (c : Ctrl) (w u : List ℕ) (r v : ℕ) (d : ℕ → Ctrl) → (c .spot .field ≡ fieldEnd → ⊥) → (r ≡ 0 → ⊥) → fault (withDigit c r v) w ≡ Going → stored (withDigit c r v) w ≡ u
+    → ((b : ℕ) → afterNumber (noted (withDigit c r v)) u b ≡ d b) → going (d noByte .halt) ≡ false
+    → {t : List ℕ} → Stop t → reading (withDigit c r v) w t ≡ reading (d (next t)) u (behind t)
+unfolding withDigit
+then-on c w u r v d h z e s goes stop {t} o =
+    goes-on (withDigit c r v) (d (next t)) w u t h
+    (sound c w r v z o e ∙ ap (λ (x : List ℕ). mk (afterNumber (noted (withDigit c r v)) x (next t)) x) s ∙ ap (λ (x : Ctrl). mk x u) (goes (next t)))
+    (λ i. rw i stop)
+
+-- the sign after it
 pub then-sign : (c : Ctrl) (w : List ℕ) (r v x : ℕ) (d : Ctrl) (T : Tables) (k : Rest) → eqb noByte x ≡ false → (c .spot .field ≡ fieldEnd → ⊥) → (r ≡ 0 → ⊥)
     → fault (withDigit c r v) w ≡ Going
     → ((b : ℕ) → afterNumber (noted (withDigit c r v)) (stored (withDigit c r v) w) b ≡ sign (noted (withDigit c r v)) b x d)

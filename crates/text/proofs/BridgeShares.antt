@@ -21,7 +21,7 @@ use Rattle.grammar.specs.Grammar.{
   endOfLine,
   textLine,
   textLines,
-  withCounts,
+  putMaps,
   putShare,
   mapClasses,
   mapsLine,
@@ -31,8 +31,8 @@ use Rattle.grammar.specs.Grammar.{
 }
 use Rattle.text.specs.Inside.Area.{shareByte}
 use Rattle.text.specs.Inside.Control.{up, partBegun, due, opened, withDigit, dashed, toLine, rowOr, nextLine, partNumber, partAfterDash, partDashDue, fieldMaps, fieldClass, fieldShare, fieldEnd}
-use Rattle.text.specs.Inside.Fields.{keyByte, limit, countsWith, seenWith, noted, stored, kind}
-use Rattle.text.specs.Inside.Steps.{idleHere, listEnd, afterShare, afterNumber, live, byteRead}
+use Rattle.text.specs.Inside.Fields.{keyByte, withCount, limit, countsWith, seenWith, noted, stored, kind}
+use Rattle.text.specs.Inside.Steps.{markDue, idleHere, listEnd, afterShare, afterNumber, live, byteRead}
 use Rattle.text.proofs.BridgeReading.{tablesOf, reading, Bytes, bytes-drop, behind, sign-read, kw, spelled, key-ok}
 use Rattle.grammar.proofs.Runs.{within-both}
 use Rattle.text.proofs.BridgeArea.{share-kept}
@@ -44,7 +44,7 @@ use Rattle.meaning.specs.Limits.{mostCost}
 
 -- maps=
 abbrev pub withMaps : ℕ → Counts → Counts
-withMaps v n = record { vars = n .vars; ops = n .ops; maps = v }
+withMaps = withCount fieldMaps
 
 pub maps-ok : (l : ℕ) (n : Counts) (w : List ℕ) (k : Rest) → l ≤ 100
     → ((v : ℕ) → 1 ≤ v → v ≤ 8 → (t : List ℕ) → Bytes t → reading (kw (l + 1) fieldClass 0 (withMaps v n) 0) w t ≡ k t (l + 1) (tablesOf (withMaps v n) w))
@@ -54,7 +54,7 @@ maps-ok l n w k h ok =
     let e : up l ≡ l + 1 = omega arith in
     key-ok l fieldMaps 0 n w (λ z. omega arith) (tablesOf n w) _
     (single-ok l fieldMaps n w (λ z. omega arith) (λ z. omega arith) (omega arith) (omega arith) refl
-    (λ v T. withCounts (T .counts .vars) (T .counts .ops) v T) k (λ v. kw (up l) fieldClass 0 (withMaps v n) 0) (λ z v. refl) (λ z v b u. refl)
+    putMaps k (λ v. kw (up l) fieldClass 0 (withMaps v n) 0) (λ z v. refl) (λ z v b u. refl)
     (λ v q t a. let g = within-both v 1 9 q in ap (λ (x : ℕ). reading (kw x fieldClass 0 (withMaps v n) 0) w t) e ∙ ok v (g .0) (omega arith) t a))
     0 (bytesOf "maps=") refl
 
@@ -94,7 +94,7 @@ module _ (l r : ℕ) (n : Counts) (sized : Fits n) (hr : r < 8) (w : List ℕ) (
   part p = partBegun (kw l fieldShare r n 0) l p fieldShare r
 
   dash-end : (t : List ℕ) → Bytes t → reading (part partAfterDash) w t ≡ eol k t l (tablesOf n w)
-  unfolding part partBegun lit byteRead live listEnd idleHere nextLine rowOr toLine
+  unfolding part partBegun lit byteRead live listEnd markDue idleHere nextLine rowOr toLine
   dash-end t a =
       sign-read (part partAfterDash) (part partAfterDash) (afterRow l fieldShare fieldEnd r (n .maps) n) w w lineEnd [] t (tablesOf n w) (λ u m U. k u (m + 1) U) (λ z. omega arith) refl
       refl (λ q. ok w g (behind t) (bytes-drop 1 a))

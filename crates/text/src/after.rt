@@ -230,7 +230,7 @@ pub fn list_over(c: Ctrl, b: u32) -> bool
     }
 }
 
-// The byte after a number, which is kept in the area, where no list of facts is over.
+// The byte after a number, which is kept in the area, where neither a list of facts nor a mark is over.
 pub fn after_number(c: Ctrl, w: &[u8], b: u32) -> Ctrl
     requires { ⌜ listOver c b ≡ false ⌝ }
     ensures { λ r. ⌜ r ≡ afterNumber c (was w) b ⌝ }
