@@ -54,10 +54,15 @@ pub fn expect(c: Ctrl, b: u32, x: u32, n: Ctrl) -> Ctrl
     if b == x { n } else { stop(c, Halt::Form) }
 }
 
+// The line must end here. The next line's control is made where it does, and not handed to `expect`: so the control stays in registers.
 pub fn end_line(c: Ctrl, b: u32) -> Ctrl
     ensures { λ r. ⌜ r ≡ sign c b lineEnd (nextLine c) ⌝ }
 {
-    expect(c, b, LINE_END, next_line(c))
+    if b == LINE_END {
+        next_line(c)
+    } else {
+        stop(c, Halt::Form)
+    }
 }
 
 // An operator's effects are over, and its mark is due.
