@@ -163,6 +163,6 @@ over-of c w n same h g =
     rw (same, e, q)
     (each-same _ _ (n .ops) 0
     (λ o a b.
-    ap₂ (λ (x y : ℕ). unless (leb x y) (SharesAboveCost (lineOfOp o)))
+    ap₂ (λ (x y : ℕ). unless (leb x y) (SharesAboveCost (lineOfOp (n .edition) o)))
     (sum-same _ _ (n .maps) (λ i l. sym (threes-get sharesRoom sharesByte w (sharePlace i o) (shareByte i o) refl (omega arith))))
     (sym (threes-get costsRoom costsByte w o (costByte o) refl (omega arith)))))

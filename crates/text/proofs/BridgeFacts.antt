@@ -18,12 +18,12 @@ use Rattle.grammar.specs.Grammar.{refused, Rest, Part, _▸_, nothing, ask, kee
 use Rattle.text.specs.Inside.Area.{putByte, domIn}
 use Rattle.text.specs.Inside.Control.{mk, going, up, partBegun, withDigit, dashed, fieldClass, fieldEnd}
 use Rattle.text.specs.Inside.Fields.{leasts, limit, noted, fault, stored}
-use Rattle.text.specs.Inside.Steps.{mark, listEnd, afterNumber, dashHere, atNumber, live, byteRead, noByte, valueCap}
-use Rattle.text.proofs.BridgeReading.{tablesOf, reading, Bytes, bytes-drop, next, behind, pick-same, goes-on, by-mark}
+use Rattle.text.specs.Inside.Steps.{sign, listEnd, afterNumber, dashHere, atNumber, live, byteRead, noByte, valueCap}
+use Rattle.text.proofs.BridgeReading.{tablesOf, reading, Bytes, bytes-drop, next, behind, pick-same, goes-on, by-sign}
 use Rattle.grammar.proofs.Runs.{clash, within-both, Stop}
-use Rattle.text.proofs.BridgeNumbers.{beginsDash, faulty, sound, number-ok}
+use Rattle.text.proofs.BridgeNumbers.{beginsDash, faulty, number-ok}
 use Rattle.text.proofs.BridgeArea.{fact-kept, dom-of}
-use Rattle.text.proofs.BridgeRows.{then-mark, fault-plain, no-fault, Fits, Known, known-put, ofVar, fromVar}
+use Rattle.text.proofs.BridgeRows.{then-on, then-sign, fault-plain, no-fault, Fits, Known, known-put, ofVar, fromVar}
 
 -- a number, with its range named
 module _ (c : Ctrl) (w : List ℕ) (lo lim : ℕ) (e : getD leasts (c .spot .field) 0 ≡ lo) (q : limit c w ≡ lim) (h : c .spot .field ≡ fieldEnd → ⊥) (low : lo ≤ valueCap) (cap : lim ≤ valueCap)
@@ -54,7 +54,7 @@ pub record FactList (l f g r : ℕ) (n : Counts) (place : ℕ → ℕ) (over : C
   pub var-kept : (m z v : ℕ) (w : List ℕ) → stored (withDigit (fromVar l f m r n) z v) w ≡ w
   pub val-kept : (v z y : ℕ) (w : List ℕ) → stored (withDigit (ofVar l g v r n) z y) w ≡ putByte w (place v) (up y)
   pub var-after : (m z v b : ℕ) (w : List ℕ)
-      → afterNumber (noted (withDigit (fromVar l f m r n) z v)) w b ≡ mark (noted (withDigit (fromVar l f m r n) z v)) b colon (ofVar l g v r n)
+      → afterNumber (noted (withDigit (fromVar l f m r n) z v)) w b ≡ sign (noted (withDigit (fromVar l f m r n) z v)) b colon (ofVar l g v r n)
   pub val-after : (v z y b : ℕ) (w : List ℕ)
       → afterNumber (noted (withDigit (ofVar l g v r n) z y)) w b
       ≡ cond (eqb b comma) (fromVar l f (up v) r n) (over (noted (withDigit (ofVar l g v r n) z y)) w b)
@@ -77,7 +77,7 @@ module _ (l f g r : ℕ) (n : Counts) (place : ℕ → ℕ) (over : Ctrl → Lis
     more-or-end : (z y : ℕ) (w u : List ℕ) → Known (n .vars) w → (z ≡ 0 → ⊥) → Stop u → Bytes u → y < 8 → fault (withDigit (ofVar l g v r n) z y) w ≡ Going
         → reading (withDigit (ofVar l g v r n) z y) w u ≡ choice comma (factsFrom place N (v + 1)) nothing u l (tablesOf n (putByte w (place v) (up y))) ends
     unfolding nothing noted withDigit
-    more-or-end z y w u p q o a h e = move ∙ split (eqb (next u) comma) refl ∙ sym (by-mark comma (factsFrom place N (v + 1)) nothing u l (tablesOf n w₁) ends refl)
+    more-or-end z y w u p q o a h e = move ∙ split (eqb (next u) comma) refl ∙ sym (by-sign comma (factsFrom place N (v + 1)) nothing u l (tablesOf n w₁) ends refl)
       where
         c : Ctrl
         c = noted (withDigit (ofVar l g v r n) z y)
@@ -90,11 +90,8 @@ module _ (l f g r : ℕ) (n : Counts) (place : ℕ → ℕ) (over : Ctrl → Lis
 
         move : reading (withDigit (ofVar l g v r n) z y) w u ≡ reading (cond (eqb (next u) comma) (fromVar l f (up v) r n) (over c w₁ (next u))) w₁ (behind u)
         move =
-            goes-on _ _ w w₁ u (L .val-goes)
-            (sound (ofVar l g v r n) w z y q o e
-            ∙ ap (λ (x : List ℕ). mk (afterNumber c x (next u)) x) (L .val-kept v z y w)
-            ∙ ap (λ (x : Ctrl). mk x w₁) (L .val-after v z y (next u) w₁))
-            (λ i. rw i (L .over-stops c w₁))
+            then-on (ofVar l g v r n) w w₁ z y (λ b. cond (eqb b comma) (fromVar l f (up v) r n) (over c w₁ b)) (L .val-goes) q e (L .val-kept v z y w)
+            (λ b. L .val-after v z y b w₁) (L .over-stops c w₁) o
 
         split : (s : Bool) → eqb (next u) comma ≡ s
             → reading (cond (eqb (next u) comma) (fromVar l f (up v) r n) (over c w₁ (next u))) w₁ (behind u)
@@ -134,7 +131,7 @@ module _ (l f g r : ℕ) (n : Counts) (place : ℕ → ℕ) (over : Ctrl → Lis
   unfolding demand
   variable-ok N m w p again z v u y o b s i true j =
       rw j
-      (then-mark (fromVar l f m r n) w z v colon (ofVar l g v r n) (tablesOf n w) _ refl (L .var-goes) y (no-fault (fromVar l f m r n) w z v y (L .var-plain) s (leb-true m v j))
+      (then-sign (fromVar l f m r n) w z v colon (ofVar l g v r n) (tablesOf n w) _ refl (L .var-goes) y (no-fault (fromVar l f m r n) w z v y (L .var-plain) s (leb-true m v j))
       (λ x. L .var-after m z v x _)
       (λ u₁ b₁. rw (L .var-kept m z v w) (value-ok N v i (again v (leb-true m v j)) w p u₁ b₁)) o b)
   variable-ok N m w p again z v u y o b s i false j = rw j (rising m z v w u y o s (leb-false m v j))
@@ -165,7 +162,7 @@ module _ (l f g r : ℕ) (n : Counts) (place : ℕ → ℕ) (over : Ctrl → Lis
 
   pub list-ok : (w : List ℕ) → Known (n .vars) w → (t : List ℕ) → Bytes t → reading (fromVar l f 0 r n) w t ≡ factList place t l (tablesOf n w) ends
   unfolding factList ask nothing tablesOf
-  list-ok w p t a = split (eqb (next t) dash) refl ∙ sym (by-mark dash nothing (ask (λ T. factsFrom place (T .counts .vars) 0)) t l (tablesOf n w) ends refl)
+  list-ok w p t a = split (eqb (next t) dash) refl ∙ sym (by-sign dash nothing (ask (λ T. factsFrom place (T .counts .vars) 0)) t l (tablesOf n w) ends refl)
     where
       split : (q : Bool) → eqb (next t) dash ≡ q
           → reading (fromVar l f 0 r n) w t ≡ cond (eqb (next t) dash) (ends (behind t) l (tablesOf n w)) (factsFrom place (n .vars) 0 t l (tablesOf n w) ends)

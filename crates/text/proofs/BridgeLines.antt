@@ -15,7 +15,6 @@ use Rattle.grammar.specs.Fields.{comma, lineEnd, bytesOf, dash}
 use Rattle.grammar.specs.Grammar.{
   Rest,
   _▸_,
-  nothing,
   ask,
   keep,
   lit,
@@ -24,7 +23,8 @@ use Rattle.grammar.specs.Grammar.{
   numberRow,
   endOfLine,
   textLine,
-  withCounts,
+  putEdition,
+  putVars,
   putFact,
   editionLine,
   varsLine,
@@ -33,14 +33,14 @@ use Rattle.grammar.specs.Grammar.{
 }
 use Rattle.text.specs.Inside.Area.{domIn}
 use Rattle.text.specs.Inside.Control.{up, partBegun, due, opened, withDigit, toLine, nextLine, fieldEdition, fieldVars, fieldDom, fieldInit, fieldGoalVar, fieldClass, fieldEnd}
-use Rattle.text.specs.Inside.Fields.{keyByte, leasts, limit, countsWith, seenWith, noted, lastVar, stored, kind, kindVar}
-use Rattle.text.specs.Inside.Steps.{mark, afterVar, afterNumber, dashHere, valueCap}
+use Rattle.text.specs.Inside.Fields.{keyByte, withCount, leasts, limit, countsWith, seenWith, noted, lastVar, stored, kind, kindVar}
+use Rattle.text.specs.Inside.Steps.{sign, afterVar, afterNumber, dashHere, valueCap}
 use Rattle.text.proofs.BridgeReading.{tablesOf, reading, Bytes, next, pick-same, kw, spelled, key-ok}
 use Rattle.text.proofs.BridgeNumbers.{beginsDash, number-ok}
 use Rattle.grammar.proofs.Runs.{within-both}
 use Rattle.text.proofs.BridgeArea.{fact-kept, dom-of}
-use Rattle.text.proofs.BridgeRows.{then-mark, no-fault, Fits, Known, known-put, known-dom, row-ok, ofVar, lone}
-use Rattle.tables.specs.Lines.{lineOfVars, lineOfDom, lineOfInit, lineOfGoal}
+use Rattle.text.proofs.BridgeRows.{then-sign, no-fault, Fits, Known, known-put, known-dom, row-ok, ofVar, lone}
+use Rattle.tables.specs.Lines.{lineOfEdition, lineOfVars, lineOfDom, lineOfInit, lineOfGoal}
 
 -- the line end, and then what follows on the next line
 abbrev pub eol : Rest → Rest
@@ -55,7 +55,7 @@ bare c t e = rw e (pick-same (eqb (next t) dash) false)
 module _ (l f : ℕ) (n : Counts) (w : List ℕ) (h : f ≡ fieldEnd → ⊥) (c : f ≡ fieldClass → ⊥) (low : getD leasts f 0 ≤ valueCap) (cap : limit (lone l f n) w ≤ valueCap)
     (e : eqb (kind f) kindVar ≡ false) (keeps : ℕ → Tables → Tables) (k : Rest) (d : ℕ → Ctrl)
     (same : (z v : ℕ) → stored (withDigit (lone l f n) z v) w ≡ w)
-    (goes : (z v b : ℕ) (u : List ℕ) → afterNumber (noted (withDigit (lone l f n) z v)) u b ≡ mark (noted (withDigit (lone l f n) z v)) b lineEnd (d v))
+    (goes : (z v b : ℕ) (u : List ℕ) → afterNumber (noted (withDigit (lone l f n) z v)) u b ≡ sign (noted (withDigit (lone l f n) z v)) b lineEnd (d v))
     (ok : (v : ℕ) → fits v (getD leasts f 0) (limit (lone l f n) w) ≡ true → (t : List ℕ) → Bytes t → reading (d v) w t ≡ k t (l + 1) (keeps v (tablesOf n w))) where
   pub single-ok : (t : List ℕ) → Bytes t
       → reading (lone l f n) w t ≡ numeral (getD leasts f 0) (limit (lone l f n) w) (λ v. keep (keeps v)) t l (tablesOf n w) (eol k)
@@ -63,22 +63,27 @@ module _ (l f : ℕ) (n : Counts) (w : List ℕ) (h : f ≡ fieldEnd → ⊥) (c
   single-ok t a =
       number-ok (lone l f n) w h low cap (λ v. keep (keeps v)) (tablesOf n w) (eol k)
       (λ z v u y o b s.
-      then-mark (lone l f n) w z v lineEnd (d v) (keeps v (tablesOf n w)) (λ u₁ m₁ U₁. k u₁ (m₁ + 1) U₁) refl h y
+      then-sign (lone l f n) w z v lineEnd (d v) (keeps v (tablesOf n w)) (λ u₁ m₁ U₁. k u₁ (m₁ + 1) U₁) refl h y
       (no-fault (lone l f n) w z v y c s zero-le) (λ x. goes z v x _) (λ u₁ b₁. rw (same z v) (ok v s u₁ b₁)) o b)
       t a (bare (lone l f n) t e)
 
 -- edition=
-pub edition-ok : (n : Counts) (w : List ℕ) (k : Rest) → ((t : List ℕ) → Bytes t → reading (kw lineOfVars fieldVars 0 n 0) w t ≡ k t lineOfVars (tablesOf n w))
-    → (t : List ℕ) → Bytes t → reading (kw 1 fieldEdition 0 n 0) w t ≡ editionLine t 1 (tablesOf n w) k
-unfolding editionLine textLine endOfLine _▸_ nothing keep opened partBegun limit stored withDigit noted afterNumber kind nextLine toLine spelled keyByte seenWith countsWith
+abbrev pub withEdition : ℕ → Counts → Counts
+withEdition = withCount fieldEdition
+
+pub edition-ok : (n : Counts) (w : List ℕ) (k : Rest)
+    → ((v : ℕ) (t : List ℕ) → Bytes t → reading (kw lineOfVars fieldVars 0 (withEdition v n) 0) w t ≡ k t lineOfVars (tablesOf (withEdition v n) w))
+    → (t : List ℕ) → Bytes t → reading (kw lineOfEdition fieldEdition 0 n 0) w t ≡ editionLine t lineOfEdition (tablesOf n w) k
+unfolding editionLine textLine endOfLine _▸_ keep opened partBegun limit stored withDigit noted afterNumber kind nextLine toLine spelled keyByte tablesOf seenWith countsWith
 edition-ok n w k ok =
-    key-ok 1 fieldEdition 0 n w (λ z. omega arith) (tablesOf n w) _
-    (single-ok 1 fieldEdition n w (λ z. omega arith) (λ z. omega arith) (omega arith) (omega arith) refl (λ v T. T) k (λ v. kw lineOfVars fieldVars 0 n 0) (λ z v. refl) (λ z v b u. refl) (λ v q. ok))
+    key-ok lineOfEdition fieldEdition 0 n w (λ z. omega arith) (tablesOf n w) _
+    (single-ok lineOfEdition fieldEdition n w (λ z. omega arith) (λ z. omega arith) (omega arith) (omega arith) refl
+    putEdition k (λ v. kw lineOfVars fieldVars 0 (withEdition v n) 0) (λ z v. refl) (λ z v b u. refl) (λ v q. ok v))
     0 (bytesOf "edition=") refl
 
 -- vars=
 abbrev pub withVars : ℕ → Counts → Counts
-withVars v n = record { vars = v; ops = n .ops; maps = n .maps }
+withVars = withCount fieldVars
 
 pub vars-ok : (n : Counts) (w : List ℕ) (k : Rest)
     → ((v : ℕ) → 1 ≤ v → v ≤ 8 → (t : List ℕ) → Bytes t → reading (kw lineOfDom fieldDom 0 (withVars v n) 0) w t ≡ k t lineOfDom (tablesOf (withVars v n) w))
@@ -87,7 +92,7 @@ unfolding varsLine textLine endOfLine _▸_ keep opened partBegun limit stored w
 vars-ok n w k ok =
     key-ok lineOfVars fieldVars 0 n w (λ z. omega arith) (tablesOf n w) _
     (single-ok lineOfVars fieldVars n w (λ z. omega arith) (λ z. omega arith) (omega arith) (omega arith) refl
-    (λ v T. withCounts v (T .counts .ops) (T .counts .maps) T) k (λ v. kw lineOfDom fieldDom 0 (withVars v n) 0) (λ z v. refl) (λ z v b u. refl)
+    putVars k (λ v. kw lineOfDom fieldDom 0 (withVars v n) 0) (λ z v. refl) (λ z v b u. refl)
     (λ v q. let g = within-both v 1 9 q in ok v (g .0) (omega arith)))
     0 (bytesOf "vars=") refl
 
@@ -98,13 +103,13 @@ data VarRow : ℕ → Type 0 where
 
 module _ (l z v b i : ℕ) (n : Counts) (w : List ℕ) (g : n .vars ≤ 8) where
   vars-more : {f : ℕ} → VarRow f → i + 1 < n .vars
-      → afterNumber (noted (withDigit (ofVar l f i 0 n) z v)) w b ≡ mark (noted (withDigit (ofVar l f i 0 n) z v)) b comma (ofVar l f (i + 1) 0 n)
+      → afterNumber (noted (withDigit (ofVar l f i 0 n) z v)) w b ≡ sign (noted (withDigit (ofVar l f i 0 n) z v)) b comma (ofVar l f (i + 1) 0 n)
   unfolding afterNumber kind afterVar lastVar noted withDigit due seenWith countsWith
   vars-more domRow h = let e : up i ≡ i + 1 = omega arith in rw (e, ne-eqb (i + 1) (n .vars) (λ q. omega arith))
   vars-more initRow h = let e : up i ≡ i + 1 = omega arith in rw (e, ne-eqb (i + 1) (n .vars) (λ q. omega arith))
 
   vars-last : {f : ℕ} → VarRow f → i + 1 ≡ n .vars
-      → afterNumber (noted (withDigit (ofVar l f i 0 n) z v)) w b ≡ mark (noted (withDigit (ofVar l f i 0 n) z v)) b lineEnd (kw (up l) (up f) 0 n 0)
+      → afterNumber (noted (withDigit (ofVar l f i 0 n) z v)) w b ≡ sign (noted (withDigit (ofVar l f i 0 n) z v)) b lineEnd (kw (up l) (up f) 0 n 0)
   unfolding afterNumber kind afterVar lastVar noted withDigit nextLine toLine partBegun seenWith countsWith
   vars-last domRow h = let e : up i ≡ n .vars = omega arith in rw (eq-eqb (up i) (n .vars) e)
   vars-last initRow h = let e : up i ≡ n .vars = omega arith in rw (eq-eqb (up i) (n .vars) e)
@@ -127,7 +132,7 @@ dom-ok n sized w g k ok =
     (fact-kept n u (p .long) i v (omega arith) (omega arith) ∙ ap (λ (j : ℕ). putFact j v (tablesOf n u)) (sym (zero-add i)), known-dom p v (omega arith) (s .0) (omega arith)))
     (λ i z v b u y. vars-more lineOfDom z v b i n u (sized .high) domRow y)
     (λ i z v u t₁ y x o a₁ p e.
-    then-mark (ofVar lineOfDom fieldDom i 0 n) u z v lineEnd (kw lineOfInit fieldInit 0 n 0) _ (λ u₁ m₁ U₁. k u₁ (m₁ + 1) U₁) refl (λ q. omega arith) x e
+    then-sign (ofVar lineOfDom fieldDom i 0 n) u z v lineEnd (kw lineOfInit fieldInit 0 n 0) _ (λ u₁ m₁ U₁. k u₁ (m₁ + 1) U₁) refl (λ q. omega arith) x e
     (λ b. vars-last lineOfDom z v b i n _ (sized .high) domRow y) (ok _ (rw y at p)) o a₁)
     (n .vars - 1) 0 (omega arith) w g t a
     ∙ ap (λ (m : ℕ). numberRow 1 (λ i U. 9) (λ i v. putFact (domPlace i) v) m 0 t 3 (tablesOf n w) (eol k)) one)
@@ -158,7 +163,7 @@ init-ok n sized w g k ok =
     (fact-kept n u (p .long) (initPlace i) v (omega arith) (omega arith), known-put p (initPlace i) v (omega arith)))
     (λ i z v b u y. vars-more lineOfInit z v b i n u (sized .high) initRow y)
     (λ i z v u t₁ y x o a₁ p e.
-    then-mark (ofVar lineOfInit fieldInit i 0 n) u z v lineEnd (kw lineOfGoal fieldGoalVar 0 n 0) _ (λ u₁ m₁ U₁. k u₁ (m₁ + 1) U₁) refl (λ q. omega arith) x e
+    then-sign (ofVar lineOfInit fieldInit i 0 n) u z v lineEnd (kw lineOfGoal fieldGoalVar 0 n 0) _ (λ u₁ m₁ U₁. k u₁ (m₁ + 1) U₁) refl (λ q. omega arith) x e
     (λ b. vars-last lineOfInit z v b i n _ (sized .high) initRow y) (ok _ p) o a₁)
     (n .vars - 1) 0 (omega arith) w g t a
     ∙ ap (λ (m : ℕ). numberRow 0 (λ i U. domAt (U .facts) i) (λ i v. putFact (initPlace i) v) m 0 t 4 (tablesOf n w) (eol k)) one)

@@ -29,12 +29,12 @@ use Rattle.grammar.proofs.SpellClasses.{count-same, size-same}
 use Rattle.text.specs.Inside.Area.{areaRoom, putByte, domIn}
 use Rattle.text.specs.Inside.Control.{up, due, withDigit, partBegun, toLine, rowOr, nextLine, fieldClass, fieldShare}
 use Rattle.text.specs.Inside.Fields.{limit, withClass, width, gapless, times, countsWith, seenWith, noted, lastClass, lastVar, classFault, before, fault, stored, kind, statesOver}
-use Rattle.text.specs.Inside.Steps.{mark, afterClass, afterNumber}
+use Rattle.text.specs.Inside.Steps.{sign, afterClass, afterNumber}
 use Rattle.text.proofs.BridgeReading.{tablesOf, reading, Bytes}
 use Rattle.text.proofs.BridgeNumbers.{run-of, faulty}
 use Rattle.grammar.proofs.Runs.{within-both, Stop}
 use Rattle.text.proofs.BridgeArea.{fact-kept, dom-of, put-getD}
-use Rattle.text.proofs.BridgeRows.{then-mark, judged-in, Fits, Known, known-put, aClass}
+use Rattle.text.proofs.BridgeRows.{then-sign, judged-in, Fits, Known, known-put, aClass}
 use Rattle.text.proofs.BridgeLines.{eol, bare}
 use Rattle.text.proofs.BridgeFacts.{number-at}
 use Rattle.text.proofs.BridgeOps.{afterRow}
@@ -55,13 +55,13 @@ times-cap s (suc c) h = split (ltb mostStates (min s statesOver)) refl
 -- ---- the byte after a class
 module _ (l v i r m p : ℕ) (n : Counts) (z x b : ℕ) (w : List ℕ) where
   class-more : i + 1 < domIn w v → i < 8
-      → afterNumber (noted (withDigit (aClass l v i r m p n) z x)) w b ≡ mark (noted (withDigit (aClass l v i r m p n) z x)) b comma (aClass l v (i + 1) r (withClass m x) p n)
+      → afterNumber (noted (withDigit (aClass l v i r m p n) z x)) w b ≡ sign (noted (withDigit (aClass l v i r m p n) z x)) b comma (aClass l v (i + 1) r (withClass m x) p n)
   unfolding afterNumber kind afterClass lastClass noted withDigit due seenWith countsWith
   class-more h g = let e : up i ≡ i + 1 = omega arith in rw (e, ne-eqb (i + 1) (domIn w v) (λ q. omega arith))
 
   class-slash : i + 1 ≡ domIn w v → i < 8 → v + 1 < n .vars → v < 8
       → afterNumber (noted (withDigit (aClass l v i r m p n) z x)) w b
-      ≡ mark (noted (withDigit (aClass l v i r m p n) z x)) b slash (aClass l (v + 1) 0 r 0 (times p (width (withClass m x))) n)
+      ≡ sign (noted (withDigit (aClass l v i r m p n) z x)) b slash (aClass l (v + 1) 0 r 0 (times p (width (withClass m x))) n)
   unfolding afterNumber kind afterClass lastClass lastVar noted withDigit due seenWith countsWith
   class-slash h g e y =
       let q : up i ≡ domIn w v = omega arith in
@@ -69,7 +69,7 @@ module _ (l v i r m p : ℕ) (n : Counts) (z x b : ℕ) (w : List ℕ) where
       rw (eq-eqb (up i) (domIn w v) q, s, ne-eqb (v + 1) (n .vars) (λ o. omega arith))
 
   class-end : i + 1 ≡ domIn w v → i < 8 → v + 1 ≡ n .vars → v < 8
-      → afterNumber (noted (withDigit (aClass l v i r m p n) z x)) w b ≡ mark (noted (withDigit (aClass l v i r m p n) z x)) b lineEnd (afterRow l fieldClass fieldShare r (n .maps) n)
+      → afterNumber (noted (withDigit (aClass l v i r m p n) z x)) w b ≡ sign (noted (withDigit (aClass l v i r m p n) z x)) b lineEnd (afterRow l fieldClass fieldShare r (n .maps) n)
   unfolding afterNumber kind afterClass lastClass lastVar noted withDigit nextLine rowOr toLine partBegun seenWith countsWith
   class-end h g e y =
       let q : up i ≡ domIn w v = omega arith in
@@ -225,10 +225,10 @@ module _ (l r v : ℕ) (n : Counts) (sized : Fits n) (hr : r < 8) (hv : v < n .v
       let w₁ = putByte w (classPlace r v i) x in
       let f : domIn w₁ v ≡ domIn w v = dom-same n sized r v i x p hr hv w g (omega arith) (j .1) in
       let rest : Rest = λ u₁ m₁ U. numberRow 0 (λ x₁ U₁. domAt (U₁ .facts) v) (λ x₁ c. putFact (classPlace r v x₁) c) (suc m) (i + 1) u₁ m₁ U K in
-      then-mark (aClass l v i r (maskOf (cls n w r v) i) p n) w z x comma (aClass l v (i + 1) r (maskOf (cls n w₁ r v) (i + 1)) p n) (tablesOf n w₁) rest refl (λ f. omega arith) y
+      then-sign (aClass l v i r (maskOf (cls n w r v) i) p n) w z x comma (aClass l v (i + 1) r (maskOf (cls n w₁ r v) (i + 1)) p n) (tablesOf n w₁) rest refl (λ f. omega arith) y
       (none-yet l v i r (maskOf (cls n w r v) i) p n z x w y s (omega arith) (omega arith))
       (λ c. class-more l v i r (maskOf (cls n w r v) i) p n z x c w₁ (omega arith) (omega arith)
-      ∙ ap (λ (c₁ : ℕ). mark (noted (withDigit (aClass l v i r (maskOf (cls n w r v) i) p n) z x)) c comma (aClass l v (i + 1) r c₁ p n))
+      ∙ ap (λ (c₁ : ℕ). sign (noted (withDigit (aClass l v i r (maskOf (cls n w r v) i) p n) z x)) c comma (aClass l v (i + 1) r c₁ p n))
       (mask-goes n sized r v i x p hr hv w g (omega arith) (j .1)))
       (classes-ok m (i + 1) w₁ (next-at n sized r v i x p hr hv w g (omega arith) (j .1)) (omega arith)) o b
       ∙ ap (λ (T : Tables). lit (comma ∷ []) u l T rest) (fact-kept n w (g .known .long) (classPlace r v i) x (omega arith) (omega arith)))
@@ -316,7 +316,7 @@ module _ (l r : ℕ) (n : Counts) (sized : Fits n) (hr : r < 8) (k : Rest)
     last-end h f true j =
         let d : up v ≡ n .vars = let m = small in omega arith in
         rw j
-        (then-mark c w z x lineEnd (afterRow l fieldClass fieldShare r (n .maps) n) (tablesOf n w₁) (λ u₁ m₁ U. k u₁ (m₁ + 1) U) refl (λ m. omega arith) y
+        (then-sign c w z x lineEnd (afterRow l fieldClass fieldShare r (n .maps) n) (tablesOf n w₁) (λ u₁ m₁ U. k u₁ (m₁ + 1) U) refl (λ m. omega arith) y
         (fault-is ∙ rw (f, eq-eqb (up v) (n .vars) d, le-ltb mostStates (min states statesOver) (omega (arith, leb-true states mostStates j))))
         (λ m. class-end l v i r (maskOf (cls n w r v) i) p n z x m w₁ dom₁ (let s = small in omega arith) h (small .0)) (ok _ (next .known)) o b)
     last-end h f false j =
@@ -332,10 +332,10 @@ module _ (l r : ℕ) (n : Counts) (sized : Fits n) (hr : r < 8) (k : Rest)
     unfolding c w₁ stored withDigit
     last-slash h f go again =
         let d : up v ≡ n .vars → ⊥ = λ m. let j = small in omega arith in
-        then-mark c w z x slash (aClass l (v + 1) 0 r 0 (min states statesOver) n) (tablesOf n w₁) go refl (λ m. omega arith) y
+        then-sign c w z x slash (aClass l (v + 1) 0 r 0 (min states statesOver) n) (tablesOf n w₁) go refl (λ m. omega arith) y
         (fault-is ∙ rw (f, ne-eqb (up v) (n .vars) d))
         (λ m. class-slash l v i r (maskOf (cls n w r v) i) p n z x m w₁ dom₁ (let s = small in omega arith) h (small .0)
-        ∙ ap (λ (j : ℕ). mark (noted (withDigit c z x)) m slash (aClass l (v + 1) 0 r 0 j n)) product)
+        ∙ ap (λ (j : ℕ). sign (noted (withDigit c z x)) m slash (aClass l (v + 1) 0 r 0 j n)) product)
         again o b
 
     gaps-first : (go : Rest) (j : Bool) → gaps ≡ j → (gaps ≡ true → reading (withDigit c z x) w u ≡ go u l (tablesOf n w₁))

@@ -1,4 +1,4 @@
--- What the end of the text says of a state as the grammar's verdict, and the machine's way over marks and keywords. The machine reads the end as one byte more, which
+-- What the end of the text says of a state as the grammar's verdict, and the machine's way over signs and keywords. The machine reads the end as one byte more, which
 -- fits nowhere: so the laws speak of the byte that stands next, which at the end is none, and `goes-on` alone tells the end from a byte. Assumes nothing.
 use Prim.Native.Nat.{ℕ, zero, suc, _<_}
 use mathlib.Core.Path.{_≡_, refl, sym, ap, _∙_}
@@ -19,7 +19,7 @@ use Rattle.grammar.specs.Grammar.{Verdict, refused, Rest, Part, _▸_, demand, 
 use Rattle.text.specs.Inside.Area.{costsByte, sharesByte, threes}
 use Rattle.text.specs.Inside.Control.{mk, partKey, going, up, spotAt, noDigits, firstTurn, noneSeen, stopped, partBegun, nextKey, opened, St, fieldEnd}
 use Rattle.text.specs.Inside.Fields.{keyByte}
-use Rattle.text.specs.Inside.Steps.{equals, inKey, mark, live, byteRead, feed, noByte, ended}
+use Rattle.text.specs.Inside.Steps.{equals, inKey, sign, live, byteRead, feed, noByte, ended}
 use Rattle.text.specs.Inside.End.{refusalOf, lastFault}
 use Rattle.grammar.proofs.Runs.{clash, both-true}
 
@@ -101,32 +101,32 @@ pub stops-at : (c d : Ctrl) (w u t : List ℕ) (k : Halt) (r : Refusal) → (c .
 unfolding stopped
 stops-at c d w u t k r h e n q = goes-on c (stopped d k) w u t h e (λ z. n) ∙ stops d k r u (behind t) n q
 
--- ---- a mark that must stand here, and the first byte of a literal
-pub at-mark : (c d : Ctrl) (u : List ℕ) (l x : ℕ) (bs t : List ℕ) (T : Tables) (k : Rest) → c .line ≡ l → eqb noByte x ≡ false
-    → (next t ≡ x → reading d u (behind t) ≡ lit bs (behind t) l T k) → reading (mark c (next t) x d) u (behind t) ≡ lit (x ∷ bs) t l T k
-unfolding mark lit demand _▸_
-at-mark c d u l x bs [] T k e n r = rw (n, ← e) (off-form c u [])
-at-mark c d u l x bs (b ∷ t) T k e n r = split (eqb b x) refl
+-- ---- a sign that must stand here, and the first byte of a literal
+pub at-sign : (c d : Ctrl) (u : List ℕ) (l x : ℕ) (bs t : List ℕ) (T : Tables) (k : Rest) → c .line ≡ l → eqb noByte x ≡ false
+    → (next t ≡ x → reading d u (behind t) ≡ lit bs (behind t) l T k) → reading (sign c (next t) x d) u (behind t) ≡ lit (x ∷ bs) t l T k
+unfolding sign lit demand _▸_
+at-sign c d u l x bs [] T k e n r = rw (n, ← e) (off-form c u [])
+at-sign c d u l x bs (b ∷ t) T k e n r = split (eqb b x) refl
   where
     split : (q : Bool) → eqb b x ≡ q → reading (cond (eqb b x) d (stopped c Form)) u t ≡ demand (eqb b x) OffForm t l T (λ u₁ m U. lit bs u₁ m U k)
     split true q = rw q (r (eqb-true b x q))
     split false q = rw (q, ← e) (off-form c u t)
 
-mark-stops : (c d : Ctrl) (x : ℕ) (t : List ℕ) → eqb noByte x ≡ false → t ≡ [] → going (mark c (next t) x d .halt) ≡ false
-unfolding mark stopped
-mark-stops c d x t n z = rw (z, n)
+sign-stops : (c d : Ctrl) (x : ℕ) (t : List ℕ) → eqb noByte x ≡ false → t ≡ [] → going (sign c (next t) x d .halt) ≡ false
+unfolding sign stopped
+sign-stops c d x t n z = rw (z, n)
 
-pub marked : (c e d : Ctrl) (w u : List ℕ) (x : ℕ) (bs t : List ℕ) (T : Tables) (k : Rest) → (c .spot .field ≡ fieldEnd → ⊥) → eqb noByte x ≡ false
-    → byteRead (mk c w) (next t) ≡ mk (mark e (next t) x d) u → (next t ≡ x → reading d u (behind t) ≡ lit bs (behind t) (e .line) T k)
+pub sign-read : (c e d : Ctrl) (w u : List ℕ) (x : ℕ) (bs t : List ℕ) (T : Tables) (k : Rest) → (c .spot .field ≡ fieldEnd → ⊥) → eqb noByte x ≡ false
+    → byteRead (mk c w) (next t) ≡ mk (sign e (next t) x d) u → (next t ≡ x → reading d u (behind t) ≡ lit bs (behind t) (e .line) T k)
     → reading c w t ≡ lit (x ∷ bs) t (e .line) T k
-marked c e d w u x bs t T k h n q r = goes-on c (mark e (next t) x d) w u t h q (mark-stops e d x t n) ∙ at-mark e d u (e .line) x bs t T k refl n r
+sign-read c e d w u x bs t T k h n q r = goes-on c (sign e (next t) x d) w u t h q (sign-stops e d x t n) ∙ at-sign e d u (e .line) x bs t T k refl n r
 
--- a mark that may stand here
-pub by-mark : (x : ℕ) (p q : Part) (t : List ℕ) (l : ℕ) (T : Tables) (k : Rest) → eqb noByte x ≡ false
+-- a sign that may stand here
+pub by-sign : (x : ℕ) (p q : Part) (t : List ℕ) (l : ℕ) (T : Tables) (k : Rest) → eqb noByte x ≡ false
     → choice x p q t l T k ≡ cond (eqb (next t) x) (p (behind t) l T k) (q t l T k)
 unfolding choice
-by-mark x p q [] l T k n = rw n
-by-mark x p q (b ∷ t) l T k n = split (eqb b x)
+by-sign x p q [] l T k n = rw n
+by-sign x p q (b ∷ t) l T k n = split (eqb b x)
   where
     split : (y : Bool) → cond {A = List ℕ → Verdict} y (λ u. p u l T k) (λ u. q (b ∷ u) l T k) t ≡ cond y (p t l T k) (q (b ∷ t) l T k)
     split true = refl
@@ -145,14 +145,14 @@ spelled f k (b ∷ x ∷ bs) = cond (eqb b equals) false (cond (eqb noByte b) fa
 
 module _ (l f r : ℕ) (n : Counts) (w : List ℕ) (h : f ≡ fieldEnd → ⊥) (T : Tables) (go : Rest)
     (ok : (t : List ℕ) → Bytes t → reading (opened (kw l f r n 0)) w t ≡ go t l T) where
-  key-step : (k b : ℕ) → byteRead (mk (kw l f r n k) w) b ≡ mk (mark (kw l f r n k) b (keyByte f k) (cond (eqb b equals) (opened (kw l f r n 0)) (kw l f r n (up k)))) w
-  unfolding byteRead live inKey mark nextKey opened partBegun
+  key-step : (k b : ℕ) → byteRead (mk (kw l f r n k) w) b ≡ mk (sign (kw l f r n k) b (keyByte f k) (cond (eqb b equals) (opened (kw l f r n 0)) (kw l f r n (up k)))) w
+  unfolding byteRead live inKey sign nextKey opened partBegun
   key-step k b = refl
 
   key-byte : (k b : ℕ) (bs t : List ℕ) → eqb noByte b ≡ false → keyByte f k ≡ b
       → (next t ≡ b → reading (cond (eqb (next t) equals) (opened (kw l f r n 0)) (kw l f r n (up k))) w (behind t) ≡ lit bs (behind t) l T go)
       → reading (kw l f r n k) w t ≡ lit (b ∷ bs) t l T go
-  key-byte k b bs t q e again = marked (kw l f r n k) (kw l f r n k) _ w w b bs t T go h q (rw e at (key-step k (next t))) again
+  key-byte k b bs t q e again = sign-read (kw l f r n k) (kw l f r n k) _ w w b bs t T go h q (rw e at (key-step k (next t))) again
 
   pub key-ok : (k : ℕ) (bs : List ℕ) → spelled f k bs ≡ true → (t : List ℕ) → Bytes t → reading (kw l f r n k) w t ≡ lit bs t l T go
   unfolding lit spelled

@@ -1,4 +1,4 @@
--- After a number: the mark that must follow it, and rows of numbers parted by commas, read as the grammar says. Assumes nothing.
+-- After a number: the sign that must follow it, and rows of numbers parted by commas, read as the grammar says. Assumes nothing.
 use Prim.Native.Nat.{ℕ, zero, suc, _+_, _≤_, _<_, zero-le}
 use native.Mathlib.Omega.{arith}
 use mathlib.Core.Path.{_≡_, refl, ap, _∙_}
@@ -16,8 +16,8 @@ use Rattle.grammar.specs.Grammar.{Rest, _▸_, keep, lit, fits, numeral, parted
 use Rattle.text.specs.Inside.Area.{areaRoom, putByte, putWord, domIn}
 use Rattle.text.specs.Inside.Control.{mk, partNumber, going, spotAt, noDigits, turnOf, seenOf, withDigit, fieldClass, fieldShare, fieldEnd, noneSeen}
 use Rattle.text.specs.Inside.Fields.{leasts, limit, numberFault, countsWith, seenWith, noted, lastClass, before, fault, stored}
-use Rattle.text.specs.Inside.Steps.{mark, afterNumber, noByte, valueCap}
-use Rattle.text.proofs.BridgeReading.{tablesOf, reading, Bytes, bytes-drop, next, behind, marked}
+use Rattle.text.specs.Inside.Steps.{sign, afterNumber, noByte, valueCap}
+use Rattle.text.proofs.BridgeReading.{tablesOf, reading, Bytes, bytes-drop, next, behind, goes-on, sign-read}
 use Rattle.grammar.proofs.Runs.{Stop}
 use Rattle.text.proofs.BridgeNumbers.{beginsDash, sound, in-range, run-of, number-ok}
 use Rattle.text.proofs.BridgeArea.{put-getD, put-same, put-length, put3-length, put3-getD}
@@ -53,15 +53,25 @@ aClass l v i r m p n = num l fieldClass r (turnOf v 0 i) (seenOf m p) n
 abbrev pub aShare : ℕ → ℕ → ℕ → Counts → Ctrl
 aShare l i r n = ofItem l fieldShare 0 i r n
 
--- ---- the mark after a number without a fault
-pub then-mark : (c : Ctrl) (w : List ℕ) (r v x : ℕ) (d : Ctrl) (T : Tables) (k : Rest) → eqb noByte x ≡ false → (c .spot .field ≡ fieldEnd → ⊥) → (r ≡ 0 → ⊥)
+-- ---- a number without a fault: it is kept, and what the machine does with the next byte follows
+pub then-on : (c : Ctrl) (w u : List ℕ) (r v : ℕ) (d : ℕ → Ctrl) → (c .spot .field ≡ fieldEnd → ⊥) → (r ≡ 0 → ⊥) → fault (withDigit c r v) w ≡ Going → stored (withDigit c r v) w ≡ u
+    → ((b : ℕ) → afterNumber (noted (withDigit c r v)) u b ≡ d b) → going (d noByte .halt) ≡ false
+    → {t : List ℕ} → Stop t → reading (withDigit c r v) w t ≡ reading (d (next t)) u (behind t)
+unfolding withDigit
+then-on c w u r v d h z e s goes stop {t} o =
+    goes-on (withDigit c r v) (d (next t)) w u t h
+    (sound c w r v z o e ∙ ap (λ (x : List ℕ). mk (afterNumber (noted (withDigit c r v)) x (next t)) x) s ∙ ap (λ (x : Ctrl). mk x u) (goes (next t)))
+    (λ i. rw i stop)
+
+-- the sign after it
+pub then-sign : (c : Ctrl) (w : List ℕ) (r v x : ℕ) (d : Ctrl) (T : Tables) (k : Rest) → eqb noByte x ≡ false → (c .spot .field ≡ fieldEnd → ⊥) → (r ≡ 0 → ⊥)
     → fault (withDigit c r v) w ≡ Going
-    → ((b : ℕ) → afterNumber (noted (withDigit c r v)) (stored (withDigit c r v) w) b ≡ mark (noted (withDigit c r v)) b x d)
+    → ((b : ℕ) → afterNumber (noted (withDigit c r v)) (stored (withDigit c r v) w) b ≡ sign (noted (withDigit c r v)) b x d)
     → ((t : List ℕ) → Bytes t → reading d (stored (withDigit c r v) w) t ≡ k t (c .line) T)
     → {t : List ℕ} → Stop t → Bytes t → reading (withDigit c r v) w t ≡ lit (x ∷ []) t (c .line) T k
 unfolding lit noted withDigit seenWith countsWith
-then-mark c w r v x d T k n h z e goes ok {t} o a =
-    marked (withDigit c r v) (noted (withDigit c r v)) d w (stored (withDigit c r v) w) x [] t T k h n
+then-sign c w r v x d T k n h z e goes ok {t} o a =
+    sign-read (withDigit c r v) (noted (withDigit c r v)) d w (stored (withDigit c r v) w) x [] t T k h n
     (sound c w r v z o e ∙ ap (λ (y : Ctrl). mk y (stored (withDigit c r v) w)) (goes (next t)))
     (λ q. ok (behind t) (bytes-drop 1 a))
 
@@ -135,7 +145,7 @@ module _ (l f r : ℕ) (n : Counts) (vi it : ℕ → ℕ) (N : ℕ) (h : f ≡ f
     × P (i + 1) (stored (withDigit (ofItem l f (vi i) (it i) r n) z v) w))
     (more : (i z v b : ℕ) (w : List ℕ) → i + 1 < N
     → afterNumber (noted (withDigit (ofItem l f (vi i) (it i) r n) z v)) w b
-    ≡ mark (noted (withDigit (ofItem l f (vi i) (it i) r n) z v)) b comma (ofItem l f (vi (i + 1)) (it (i + 1)) r n))
+    ≡ sign (noted (withDigit (ofItem l f (vi i) (it i) r n) z v)) b comma (ofItem l f (vi (i + 1)) (it (i + 1)) r n))
     (last : (i z v : ℕ) (w u : List ℕ) → i + 1 ≡ N → (z ≡ 0 → ⊥) → Stop u → Bytes u → P (i + 1) (stored (withDigit (ofItem l f (vi i) (it i) r n) z v) w)
     → fault (withDigit (ofItem l f (vi i) (it i) r n) z v) w ≡ Going
     → reading (withDigit (ofItem l f (vi i) (it i) r n) z v) w u ≡ k u l (tablesOf n (stored (withDigit (ofItem l f (vi i) (it i) r n) z v) w))) where
@@ -159,7 +169,7 @@ module _ (l f r : ℕ) (n : Counts) (vi it : ℕ → ℕ) (N : ℕ) (h : f ≡ f
       (λ z v u y o b s.
       let s₁ : fits v (getD leasts f 0) (lim i (tablesOf n w)) ≡ true = rw (q .0) at s in
       let d = kept i z v w g p s₁ in
-      then-mark (ofItem l f (vi i) (it i) r n) w z v comma _ _ (λ u₁ m₁ U. numberRow (getD leasts f 0) lim keeps (suc m) (i + 1) u₁ m₁ U k) refl h y
+      then-sign (ofItem l f (vi i) (it i) r n) w z v comma _ _ (λ u₁ m₁ U. numberRow (getD leasts f 0) lim keeps (suc m) (i + 1) u₁ m₁ U k) refl h y
       (no-fault (ofItem l f (vi i) (it i) r n) w z v y c s zero-le) (λ x. more i z v x _ (omega arith))
       (λ u₁ b₁. row-ok m (i + 1) (omega arith) _ (d .1) u₁ b₁) o b
       ∙ ap (λ (T : Tables). lit (comma ∷ []) u l T (λ u₁ m₁ U. numberRow (getD leasts f 0) lim keeps (suc m) (i + 1) u₁ m₁ U k)) (d .0))

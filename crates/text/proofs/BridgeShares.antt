@@ -21,7 +21,7 @@ use Rattle.grammar.specs.Grammar.{
   endOfLine,
   textLine,
   textLines,
-  withCounts,
+  putMaps,
   putShare,
   mapClasses,
   mapsLine,
@@ -31,12 +31,12 @@ use Rattle.grammar.specs.Grammar.{
 }
 use Rattle.text.specs.Inside.Area.{shareByte}
 use Rattle.text.specs.Inside.Control.{up, partBegun, due, opened, withDigit, dashed, toLine, rowOr, nextLine, partNumber, partAfterDash, partDashDue, fieldMaps, fieldClass, fieldShare, fieldEnd}
-use Rattle.text.specs.Inside.Fields.{keyByte, limit, countsWith, seenWith, noted, stored, kind}
-use Rattle.text.specs.Inside.Steps.{idleHere, listEnd, afterShare, afterNumber, live, byteRead}
-use Rattle.text.proofs.BridgeReading.{tablesOf, reading, Bytes, bytes-drop, behind, marked, kw, spelled, key-ok}
+use Rattle.text.specs.Inside.Fields.{keyByte, withCount, limit, countsWith, seenWith, noted, stored, kind}
+use Rattle.text.specs.Inside.Steps.{markDue, idleHere, listEnd, afterShare, afterNumber, live, byteRead}
+use Rattle.text.proofs.BridgeReading.{tablesOf, reading, Bytes, bytes-drop, behind, sign-read, kw, spelled, key-ok}
 use Rattle.grammar.proofs.Runs.{within-both}
 use Rattle.text.proofs.BridgeArea.{share-kept}
-use Rattle.text.proofs.BridgeRows.{then-mark, Fits, Known, known-put3, row-ok, aShare}
+use Rattle.text.proofs.BridgeRows.{then-sign, Fits, Known, known-put3, row-ok, aShare}
 use Rattle.text.proofs.BridgeLines.{eol, bare, single-ok}
 use Rattle.text.proofs.BridgeOps.{afterRow, lines-ok}
 use Rattle.text.proofs.BridgeMaps.{map-classes-ok}
@@ -44,7 +44,7 @@ use Rattle.meaning.specs.Limits.{mostCost}
 
 -- maps=
 abbrev pub withMaps : ℕ → Counts → Counts
-withMaps v n = record { vars = n .vars; ops = n .ops; maps = v }
+withMaps = withCount fieldMaps
 
 pub maps-ok : (l : ℕ) (n : Counts) (w : List ℕ) (k : Rest) → l ≤ 100
     → ((v : ℕ) → 1 ≤ v → v ≤ 8 → (t : List ℕ) → Bytes t → reading (kw (l + 1) fieldClass 0 (withMaps v n) 0) w t ≡ k t (l + 1) (tablesOf (withMaps v n) w))
@@ -54,7 +54,7 @@ maps-ok l n w k h ok =
     let e : up l ≡ l + 1 = omega arith in
     key-ok l fieldMaps 0 n w (λ z. omega arith) (tablesOf n w) _
     (single-ok l fieldMaps n w (λ z. omega arith) (λ z. omega arith) (omega arith) (omega arith) refl
-    (λ v T. withCounts (T .counts .vars) (T .counts .ops) v T) k (λ v. kw (up l) fieldClass 0 (withMaps v n) 0) (λ z v. refl) (λ z v b u. refl)
+    putMaps k (λ v. kw (up l) fieldClass 0 (withMaps v n) 0) (λ z v. refl) (λ z v b u. refl)
     (λ v q t a. let g = within-both v 1 9 q in ap (λ (x : ℕ). reading (kw x fieldClass 0 (withMaps v n) 0) w t) e ∙ ok v (g .0) (omega arith) t a))
     0 (bytesOf "maps=") refl
 
@@ -94,15 +94,15 @@ module _ (l r : ℕ) (n : Counts) (sized : Fits n) (hr : r < 8) (w : List ℕ) (
   part p = partBegun (kw l fieldShare r n 0) l p fieldShare r
 
   dash-end : (t : List ℕ) → Bytes t → reading (part partAfterDash) w t ≡ eol k t l (tablesOf n w)
-  unfolding part partBegun lit byteRead live listEnd idleHere nextLine rowOr toLine
+  unfolding part partBegun lit byteRead live listEnd markDue idleHere nextLine rowOr toLine
   dash-end t a =
-      marked (part partAfterDash) (part partAfterDash) (afterRow l fieldShare fieldEnd r (n .maps) n) w w lineEnd [] t (tablesOf n w) (λ u m U. k u (m + 1) U) (λ z. omega arith) refl
+      sign-read (part partAfterDash) (part partAfterDash) (afterRow l fieldShare fieldEnd r (n .maps) n) w w lineEnd [] t (tablesOf n w) (λ u m U. k u (m + 1) U) (λ z. omega arith) refl
       refl (λ q. ok w g (behind t) (bytes-drop 1 a))
 
   dash-due : (t : List ℕ) → Bytes t → reading (part partDashDue) w t ≡ lit (dash ∷ []) t l (tablesOf n w) (eol k)
   unfolding part partBegun lit byteRead live dashed
   dash-due t a =
-      marked (part partDashDue) (part partDashDue) (part partAfterDash) w w dash [] t (tablesOf n w) (eol k) (λ z. omega arith) refl refl
+      sign-read (part partDashDue) (part partDashDue) (part partAfterDash) w w dash [] t (tablesOf n w) (eol k) (λ z. omega arith) refl refl
       (λ q. dash-end (behind t) (bytes-drop 1 a))
 
   row-due : (m : ℕ) → n .ops ≡ suc m → (t : List ℕ) → Bytes t
@@ -120,7 +120,7 @@ module _ (l r : ℕ) (n : Counts) (sized : Fits n) (hr : r < 8) (w : List ℕ) (
       (λ i z v b u h. let x : up i ≡ i + 1 = omega arith in rw (x, ne-eqb (i + 1) (n .ops) (λ q. omega arith)))
       (λ i z v u t₁ h x o a₁ p q.
       let j : up i ≡ n .ops = omega arith in
-      then-mark (aShare l i r n) u z v lineEnd (afterRow l fieldShare fieldEnd r (n .maps) n) _ (λ u₁ m₁ U. k u₁ (m₁ + 1) U) refl (λ s. omega arith) x q
+      then-sign (aShare l i r n) u z v lineEnd (afterRow l fieldShare fieldEnd r (n .maps) n) _ (λ u₁ m₁ U. k u₁ (m₁ + 1) U) refl (λ s. omega arith) x q
       (λ b. rw (eq-eqb (up i) (n .ops) j)) (ok _ p) o a₁)
       m 0 (omega arith) w g t a
 

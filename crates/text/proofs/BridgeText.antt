@@ -11,7 +11,26 @@ use Rattle.scan.specs.declared.Found.the-variants.{Clean, Fault}
 use Rattle.text.specs.declared.Halt.the-variants.{Form}
 use Rattle.tables.specs.Layout.{Tables, factsRoom, costsRoom, sharesRoom}
 use Rattle.grammar.specs.Fields.{Outcome, admitted}
-use Rattle.grammar.specs.Grammar.{Verdict, _▸_, domLine, initLine, goalLine, opsLine, opLines, mapsLine, mapLines, shareLines, taskLines, settled, theEnd, noTask, verdict, outcome, readText}
+use Rattle.grammar.specs.Grammar.{
+  Verdict,
+  _▸_,
+  domLine,
+  initLine,
+  goalLine,
+  quotaLine,
+  opsLine,
+  opLines,
+  mapsLine,
+  mapLines,
+  shareLines,
+  taskLines,
+  settled,
+  theEnd,
+  noTask,
+  verdict,
+  outcome,
+  readText,
+}
 use Rattle.text.specs.Inside.Area.{areaRoom, wordIn, threes, costsByte, sharesByte}
 use Rattle.text.specs.Inside.Control.{mk, start, stopped, St, fieldEdition, fieldDom, fieldMaps, fieldEnd}
 use Rattle.text.specs.Inside.Fields.{keyByte}
@@ -20,10 +39,10 @@ use Rattle.text.specs.Inside.End.{lastFault, written, leftBehind, machin
 use Rattle.text.proofs.BridgeReading.{tablesOf, judged, told, reading, Bytes, none, byte, off-form, moves, kw}
 use Rattle.text.proofs.BridgeArea.{over-of}
 use Rattle.text.proofs.BridgeRows.{Fits, Known}
-use Rattle.text.proofs.BridgeLines.{edition-ok, vars-ok, dom-ok, init-ok, withVars}
-use Rattle.text.proofs.BridgeOps.{goal-ok, ops-ok, op-lines-ok, withOps}
+use Rattle.text.proofs.BridgeLines.{edition-ok, vars-ok, dom-ok, init-ok, withEdition, withVars}
+use Rattle.text.proofs.BridgeOps.{goal-ok, quota-ok, ops-ok, op-lines-ok, withQuota, withOps}
 use Rattle.text.proofs.BridgeShares.{maps-ok, map-lines-ok, share-lines-ok, withMaps}
-use Rattle.tables.specs.Lines.{lineOfDom, lineOfMaps}
+use Rattle.tables.specs.Lines.{lineOfDom}
 
 -- ---- after the last line
 stop-end : (l b : ℕ) (n : Counts) (w : List ℕ) → b < 256 → byteRead (mk (kw l fieldEnd 0 n 0) w) b ≡ mk (stopped (kw l fieldEnd 0 n 0) Form) w
@@ -56,7 +75,7 @@ zeros-threes zero i m = refl
 zeros-threes (suc n) i m = rw (zeros-get3 m i, zeros-threes n (i + 3) m)
 
 noCounts : Counts
-noCounts = record { vars = 0; ops = 0; maps = 0 }
+noCounts = record { vars = 0; ops = 0; maps = 0; edition = 0; quota = 0 }
 
 empty-area : (m : ℕ) → factsRoom ≤ m → tablesOf noCounts (replicate m 0) ≡ noTask
 unfolding tablesOf noTask noCounts
@@ -75,23 +94,24 @@ from-maps l n sized h w g =
     (λ u g₁. share-lines-ok (l + 1 + v) n₁ f low (omega arith) u g₁ theEnd (λ u₁ g₂. end-ok (l + 1 + v + v) n₁ f u₁)))
 
 from-dom : (n : Counts) → Fits n → (w : List ℕ) → Known 0 w → (t : List ℕ) → Bytes t
-    → reading (kw lineOfDom fieldDom 0 n 0) w t ≡ (domLine ▸ initLine ▸ goalLine ▸ opsLine ▸ opLines ▸ mapsLine ▸ mapLines ▸ shareLines) t lineOfDom (tablesOf n w) theEnd
+    → reading (kw lineOfDom fieldDom 0 n 0) w t ≡ (domLine ▸ initLine ▸ goalLine ▸ quotaLine ▸ opsLine ▸ opLines ▸ mapsLine ▸ mapLines ▸ shareLines) t lineOfDom (tablesOf n w) theEnd
 unfolding _▸_
 from-dom n sized w g =
     dom-ok n sized w g _
     (λ u₁ g₁. init-ok n sized u₁ g₁ _
     (λ u₂ g₂. goal-ok n sized u₂ g₂ _
-    (λ u₃ g₃. ops-ok n u₃ _
+    (λ u₃ g₃. quota-ok n u₃ _
+    (λ l q i. ops-ok l (withQuota q n) u₃ _ (omega arith)
     (λ v h.
-    let n₁ = withOps v n in
+    let n₁ = withOps v (withQuota q n) in
     let f : Fits n₁ = record { low = sized .low; high = sized .high; ops = h; maps = sized .maps } in
-    op-lines-ok n₁ f u₃ g₃ _ (λ u₄ g₄. from-maps (lineOfMaps v) n₁ f (omega arith) u₄ g₄)))))
+    op-lines-ok (l + 1) n₁ f (omega arith) u₃ g₃ _ (λ u₄ g₄. from-maps (l + 1 + v) n₁ f (omega arith) u₄ g₄))))))
 
 lines-all : (w : List ℕ) → Known 0 w → (t : List ℕ) → Bytes t → reading (kw 1 fieldEdition 0 noCounts 0) w t ≡ taskLines t 1 (tablesOf noCounts w) theEnd
 unfolding taskLines _▸_ noCounts
 lines-all w g =
     edition-ok noCounts w _
-    (vars-ok noCounts w _ (λ v low high. from-dom (withVars v noCounts) (record { low = low; high = high; ops = zero-le; maps = zero-le }) w g))
+    (λ e. vars-ok (withEdition e noCounts) w _ (λ v low high. from-dom (withVars v (withEdition e noCounts)) (record { low = low; high = high; ops = zero-le; maps = zero-le }) w g))
 
 -- the machine's verdict is the grammar's
 pub verdict-is : (text : List ℕ) → Bytes text → reading start (replicate areaRoom 0) text ≡ verdict text

@@ -5,7 +5,7 @@ use native.Mathlib.Omega.{arith}
 use native.Mathlib.Numerals.{add-one}
 use mathlib.Core.Path.{_≡_, refl, ap}
 use lib.Dec.{ltb, eqb}
-use borrow.Author.Tests.{eqb-true, ltb-true, ltb-false}
+use borrow.Author.Tests.{ne-eqb, eqb-true, ltb-true, ltb-false}
 use mathlib.Core.Bool.{Bool, true, false, cond}
 use mathlib.Core.List.{List, [], _∷_}
 use lib.ListN.{length, getD, take, drop, List·getD-eq-default}
@@ -39,20 +39,27 @@ pub feed-next : (s : St) (t : List ℕ) (i : ℕ) → i < length t → feed (byt
 unfolding feed
 feed-next s t i h = rw (add-one, drop-cons t i 0)
 
--- a test of a field that is known
-pub at-field : {f g : ℕ} (k : ℕ) → f ≡ g → eqb f k ≡ eqb g k
-at-field k h = ap (λ (x : ℕ). eqb x k) h
-
 -- a table of the fields has 0 at all but those named
 abbrev pub among : List ℕ → ℕ → Bool
 among [] f = false
 among (x ∷ fs) f = cond (eqb f x) true (among fs f)
 
-pub table-else : (fs l : List ℕ) → every (λ f. cond (among fs f) true (eqb (getD l f 0) 0)) (length l) ≡ true → (f : ℕ) → among fs f ≡ false → getD l f 0 ≡ 0
+-- what the last arm of a match knows of its number: it is none of those before, the last of them outermost
+abbrev pub Unmatched : List ℕ → ℕ → Type 0
+Unmatched [] f = Unit {0}
+Unmatched (x ∷ fs) f = Unmatched fs f × (f ≡ x → ⊥)
+
+none-among : (fs : List ℕ) (f : ℕ) → Unmatched fs f → among fs f ≡ false
+none-among [] f n = refl
+none-among (x ∷ fs) f n = rw (ne-eqb f x (n .1)) (none-among fs f (n .0))
+
+pub table-else : (fs l : List ℕ) → every (λ f. cond (among fs f) true (eqb (getD l f 0) 0)) (length l) ≡ true → (f : ℕ) → Unmatched fs f → getD l f 0 ≡ 0
 table-else fs l h f n = split (ltb f (length l)) refl
   where
     split : (q : Bool) → ltb f (length l) ≡ q → getD l f 0 ≡ 0
-    split true q = eqb-true (getD l f 0) 0 (rw n at (every-true (λ (f : ℕ). cond (among fs f) true (eqb (getD l f 0) 0)) (length l) h f (ltb-true f (length l) q)))
+    split true q =
+        eqb-true (getD l f 0) 0
+        (rw (none-among fs f n) at (every-true (λ (f : ℕ). cond (among fs f) true (eqb (getD l f 0) 0)) (length l) h f (ltb-true f (length l) q)))
     split false q = List·getD-eq-default l 0 (ltb-false f (length l) q)
 
 -- what a text leaves behind whose end left the control c and the area w: nothing on a refusal, else the tables

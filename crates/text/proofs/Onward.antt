@@ -1,4 +1,4 @@
--- Numbers read ahead: after each the machine goes on as before it. By its steps over the number's digits and over the mark after them, which are those of the
+-- Numbers read ahead: after each the machine goes on as before it. By its steps over the number's digits and over the sign after them, which are those of the
 -- bridge to the grammar. Assumes nothing.
 use Prim.Native.Nat.{ℕ, _+_, _-_, _*_, _≤_, _<_, zero-le}
 use native.Mathlib.Omega.{arith}
@@ -61,7 +61,7 @@ use Rattle.text.specs.Inside.Control.{
   fieldShare,
 }
 use Rattle.text.specs.Inside.Fields.{leasts, limit, withClass, countsWith, seenWith, noted, lastClass, before, fault, stored, kind}
-use Rattle.text.specs.Inside.Steps.{more, runWith, mark, afterClass, afterValue, afterShare, afterNumber, byteRead, feed}
+use Rattle.text.specs.Inside.Steps.{more, runWith, sign, afterClass, afterValue, afterShare, afterNumber, byteRead, feed}
 use Rattle.grammar.proofs.Runs.{clash, other}
 use Rattle.text.proofs.Laws.{feed-next}
 use Rattle.text.proofs.BridgeNumbers.{run-of, run-two, digit-step, sound}
@@ -146,7 +146,7 @@ run-some d e = split (eqb (0 + d) 0) refl
     split true q = let z : _≡_ {A = ℕ} 1 0 = rw q at e in omega arith
     split false q = let z : _≡_ {A = ℕ} 2 0 = rw q at e in omega arith
 
--- a number's first digit, and the mark after a number without a fault
+-- a number's first digit, and the sign after a number without a fault
 module _ (c : Ctrl) (w s : List ℕ) where
   pub first-digit : (i j : ℕ) → i < length s → j ≡ i + 1 → digitAt s i < 10
       → feed (mk (withDigit c (runWith 0 (digitAt s i)) (digitAt s i)) w) (drop j s) ≡ feed (mk (withDigit c 0 0) w) (drop i s)
@@ -192,7 +192,7 @@ module _ (l f g r place : ℕ) (n : Counts) (s w : List ℕ) (i m : ℕ) (h : Fa
 module _ (l r : ℕ) (n : Counts) (s w : List ℕ) (i m : ℕ) (h : FactHere s i w (n .vars) m) where
   fact-of : (f : ℕ) → (factsPlace f r ≡ 0 → ⊥)
       → feed (mk (fromVar l f (up (digitAt s i)) r n) (putByte w (factsPlace f r + digitAt s i) (up (digitAt s (i + 2))))) (drop (i + 4) s) ≡ feed (mk (fromVar l f m r n) w) (drop i s)
-  unfolding factsPlace limit stored withDigit noted afterNumber kind afterValue mark due seenWith countsWith
+  unfolding factsPlace limit stored withDigit noted afterNumber kind afterValue sign due seenWith countsWith
   fact-of f z = goal (eqb f fieldGoalVar) refl
     where
       Goal : ℕ → Type 0
@@ -235,7 +235,7 @@ class-sound l v i r m p n z x w y h g =
 class-next : (l v i r m p : ℕ) (n : Counts) (z x : ℕ) (w : List ℕ) → up i < domIn w v
     → mk (afterNumber (noted (withDigit (aClass l v i r m p n) z x)) (stored (withDigit (aClass l v i r m p n) z x) w) comma) (stored (withDigit (aClass l v i r m p n) z x) w)
     ≡ mk (aClass l v (up i) r (withClass m x) p n) (putByte w (classPlace r v i) x)
-unfolding stored withDigit noted afterNumber kind afterClass lastClass mark due seenWith countsWith
+unfolding stored withDigit noted afterNumber kind afterClass lastClass sign due seenWith countsWith
 class-next l v i r m p n z x w h =
     let e = put-getD w (classPlace r v i) x v (omega arith) in
     rw (e, ne-eqb (up i) (domIn w v) (λ q. omega arith))
@@ -304,7 +304,7 @@ run-known v e = split (eqb v 0) refl
 share-next : (l i r : ℕ) (n : Counts) (z v : ℕ) (w : List ℕ) → up i < n .ops
     → mk (afterNumber (noted (withDigit (aShare l i r n) z v)) (stored (withDigit (aShare l i r n) z v) w) comma) (stored (withDigit (aShare l i r n) z v) w)
     ≡ mk (aShare l (up i) r n) (putWord w (shareByte r i) v)
-unfolding stored withDigit noted afterNumber kind afterShare mark due seenWith countsWith
+unfolding stored withDigit noted afterNumber kind afterShare sign due seenWith countsWith
 share-next l i r n z v w h = rw (ne-eqb (up i) (n .ops) (λ q. omega arith))
 
 pub share-ahead : (c : Ctrl) (i j v item : ℕ) (s w : List ℕ) → Numbered s i j v → ShareHere s i j v item (c .counts .ops)

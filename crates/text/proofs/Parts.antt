@@ -1,5 +1,5 @@
--- The machine's step at a number and after a dash is that of `live`: the code asks first whether a list of facts is over, and whether a run ends. By cases on
--- those two questions. Assumes nothing.
+-- The machine's step at a number and after a dash is that of `live`: the code asks first whether a list of facts or a mark is over, and whether a run ends. By
+-- cases on those two questions. Assumes nothing.
 use Prim.Native.Nat.{ℕ, _≤_}
 use native.Mathlib.Omega.{arith}
 use mathlib.Core.Path.{_≡_, refl, ap, _∙_}
@@ -7,12 +7,13 @@ use mathlib.Core.List.{List}
 use mathlib.Core.Bool.{Bool, true, false, cond, not}
 use lib.Dec.{eqb}
 use borrow.Author.Tests.{eq-eqb, ne-eqb, eqb-true, eqb-false, not-true, not-false}
+use Rattle.meaning.proofs.Facts.{by-cases}
 use Rattle.text.specs.declared.Ctrl.{Ctrl}
 use Rattle.grammar.specs.Fields.{isDigit, comma}
 use Rattle.text.specs.Inside.Control.{St, mk, going, stopped, partKey, partNumber, partAfterDash}
-use Rattle.text.specs.Inside.Fields.{kind, kindVal, noted, fault}
+use Rattle.text.specs.Inside.Fields.{kind, kindVal, kindMark, noted, fault}
 use Rattle.text.specs.Inside.Steps.{listEnd, listOver, afterNumber, afterValue, afterPart, runFault, runKept, closed, partClosed, dashHere, atNumber, inValue, live}
-use Rattle.grammar.proofs.Runs.{clash, both-true}
+use Rattle.grammar.proofs.Runs.{clash}
 
 -- a value that ends no list has its comma
 pub comma-next : (c : Ctrl) (b : ℕ) → listOver c b ≡ false → kind (c .spot .field) ≡ kindVal → eqb b comma ≡ true
@@ -23,8 +24,17 @@ comma-next c b h e = split (eqb (c .spot .part) partAfterDash) refl
     split true q = clash refl (rw q at h)
     split false q = not-false (eqb b comma) (rw (q, e) at h)
 
+-- and where no mark is over, none was read
+pub no-mark : (c : Ctrl) (b : ℕ) → listOver c b ≡ false → (kind (c .spot .field) ≡ kindVal → ⊥) → eqb (kind (c .spot .field)) kindMark ≡ false
+unfolding listOver
+no-mark c b h n = split (eqb (c .spot .part) partAfterDash) refl
+  where
+    split : (q : Bool) → eqb (c .spot .part) partAfterDash ≡ q → eqb (kind (c .spot .field)) kindMark ≡ false
+    split true q = clash refl (rw q at h)
+    split false q = rw (q, ne-eqb (kind (c .spot .field)) kindVal n) at h
+
 module _ (c : Ctrl) (w : List ℕ) (b : ℕ) where
-  -- whether a list of facts is over
+  -- whether a list of facts or a mark is over
   pub over-list : listOver c b ≡ true → afterPart c w b ≡ listEnd c w b
   unfolding listOver afterPart afterNumber afterValue
   over-list h = split (eqb (c .spot .part) partAfterDash) refl
@@ -32,8 +42,8 @@ module _ (c : Ctrl) (w : List ℕ) (b : ℕ) where
       split : (q : Bool) → eqb (c .spot .part) partAfterDash ≡ q → afterPart c w b ≡ listEnd c w b
       split true q = rw q
       split false q =
-          let p = both-true (eqb (kind (c .spot .field)) kindVal) (not (eqb b comma)) (rw q at h) in
-          rw (q, eqb-true (kind (c .spot .field)) kindVal (p .0), not-true (eqb b comma) (p .1))
+          let k = kind (c .spot .field) in
+          by-cases (eqb k kindVal) (λ e. rw (q, eqb-true k kindVal e, not-true (eqb b comma) (rw (q, e) at h))) (λ e. rw (q, eqb-true k kindMark (rw (q, e) at h)))
 
   pub more-number : listOver c b ≡ false → afterPart c w b ≡ afterNumber c w b
   unfolding listOver afterPart

@@ -1,11 +1,11 @@
-// The byte after a number or a dash: the mark that must stand there, and what follows it.
+// The byte after a number or a dash: the sign that must stand there, and what follows it.
 ghost use mathlib.Core.Bool.{false};
 ghost use mathlib.Core.Path.{_≡_};
 ghost use Prim.Native.Nat.{_-_};
 ghost use Rattle.grammar.specs.Fields.{lineEnd};
 ghost use Rattle.text.specs.Inside.Control.{nextLine};
 ghost use Rattle.tables.specs.Task.{was};
-ghost use Rattle.text.specs.Inside.Steps.{mark, markDue, idleHere, listEnd, afterClass, afterVar, nextFact, afterShare, afterNumber, listOver, afterPart};
+ghost use Rattle.text.specs.Inside.Steps.{sign, markDue, idleHere, listEnd, afterClass, afterVar, nextFact, afterShare, afterNumber, listOver, afterPart};
 use crate::Ctrl;
 use crate::Halt;
 use crate::Seen;
@@ -47,17 +47,22 @@ use meaning::OpNo;
 use meaning::limits::QUOTA_EDITION;
 use tables::steps::is_idle;
 
-// The mark x must stand here.
+// The sign x must stand here.
 pub fn expect(c: Ctrl, b: u32, x: u32, n: Ctrl) -> Ctrl
-    ensures { λ r. ⌜ r ≡ mark c b x n ⌝ }
+    ensures { λ r. ⌜ r ≡ sign c b x n ⌝ }
 {
     if b == x { n } else { stop(c, Halt::Form) }
 }
 
+// The line must end here. The next line's control is made where it does, and not handed to `expect`: so the control stays in registers.
 pub fn end_line(c: Ctrl, b: u32) -> Ctrl
-    ensures { λ r. ⌜ r ≡ mark c b lineEnd (nextLine c) ⌝ }
+    ensures { λ r. ⌜ r ≡ sign c b lineEnd (nextLine c) ⌝ }
 {
-    expect(c, b, LINE_END, next_line(c))
+    if b == LINE_END {
+        next_line(c)
+    } else {
+        stop(c, Halt::Form)
+    }
 }
 
 // An operator's effects are over, and its mark is due.
@@ -230,7 +235,7 @@ pub fn list_over(c: Ctrl, b: u32) -> bool
     }
 }
 
-// The byte after a number, which is kept in the area, where no list of facts is over.
+// The byte after a number, which is kept in the area, where neither a list of facts nor a mark is over.
 pub fn after_number(c: Ctrl, w: &[u8], b: u32) -> Ctrl
     requires { ⌜ listOver c b ≡ false ⌝ }
     ensures { λ r. ⌜ r ≡ afterNumber c (was w) b ⌝ }

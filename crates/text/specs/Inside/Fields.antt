@@ -43,7 +43,7 @@ keys = bytesOf "edition=vars=   dom=    init=   goal=           ops=    op=     
 unfoldable pub keyByte : ℕ → ℕ → ℕ
 keyByte f k = getD keys (f * 8 + k) 256
 
--- the least number of each field, and the first number beyond its range, where two marks stand for what the text itself has said
+-- the least number of each field, and the first number beyond its range, where two numbers stand for what the text itself has said
 abbrev pub leasts : List ℕ
 leasts = 1 ∷ 1 ∷ 1 ∷ 0 ∷ 0 ∷ 0 ∷ 0 ∷ 0 ∷ 0 ∷ 0 ∷ 0 ∷ 0 ∷ 1 ∷ 0 ∷ 0 ∷ 0 ∷ 0 ∷ 0 ∷ []
 
@@ -106,16 +106,19 @@ statesOver = mostStates + 1
 unfoldable pub times : ℕ → ℕ → ℕ
 times p n = cond (ltb mostStates p) statesOver (min (p * n) statesOver)
 
--- what a finished number is to the control: a count, a class seen
-unfoldable pub countsWith : Ctrl → Counts
-countsWith c =
+-- what a finished number is to the control: a count, if its field f has one; a class seen
+abbrev pub withCount : ℕ → ℕ → Counts → Counts
+withCount f v n =
     record {
-      vars = cond (eqb (c .spot .field) fieldVars) (c .digits .val) (c .counts .vars);
-      ops = cond (eqb (c .spot .field) fieldOps) (c .digits .val) (c .counts .ops);
-      maps = cond (eqb (c .spot .field) fieldMaps) (c .digits .val) (c .counts .maps);
-      edition = cond (eqb (c .spot .field) fieldEdition) (c .digits .val) (c .counts .edition);
-      quota = cond (eqb (c .spot .field) fieldQuota) (c .digits .val) (c .counts .quota);
+      vars = cond (eqb f fieldVars) v (n .vars);
+      ops = cond (eqb f fieldOps) v (n .ops);
+      maps = cond (eqb f fieldMaps) v (n .maps);
+      edition = cond (eqb f fieldEdition) v (n .edition);
+      quota = cond (eqb f fieldQuota) v (n .quota);
     }
+
+unfoldable pub countsWith : Ctrl → Counts
+countsWith c = withCount (c .spot .field) (c .digits .val) (c .counts)
 
 unfoldable pub seenWith : Ctrl → Seen
 seenWith c = seenOf (cond (eqb (c .spot .field) fieldClass) (withClass (c .seen .mask) (c .digits .val)) (c .seen .mask)) (c .seen .prod)

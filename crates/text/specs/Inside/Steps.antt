@@ -85,9 +85,9 @@ unfoldable pub digitRead : Ctrl → ℕ → Ctrl
 digitRead c d =
     cond (eqb (c .digits .run) runZero) (stopped c Form) (withDigit c (runWith (c .digits .run) d) (more (c .digits .val) d))
 
--- the mark x must stand here, and then n is the control
-unfoldable pub mark : Ctrl → ℕ → ℕ → Ctrl → Ctrl
-mark c b x n = cond (eqb b x) n (stopped c Form)
+-- the sign x must stand here, and then n is the control
+unfoldable pub sign : Ctrl → ℕ → ℕ → Ctrl → Ctrl
+sign c b x n = cond (eqb b x) n (stopped c Form)
 
 -- an operator's effects are over, and its mark is due
 unfoldable pub markDue : Ctrl → Bool
@@ -101,25 +101,25 @@ idleHere c w = cond (endsOperator (c .spot .field)) (isIdle (c .counts .vars) w 
 unfoldable pub listEnd : Ctrl → List ℕ → ℕ → Ctrl
 listEnd c w b =
     cond (eqb (listNo (c .spot .field)) preList)
-    (mark c b semicolon (due c fieldEffVar firstTurn noneSeen))
+    (sign c b semicolon (due c fieldEffVar firstTurn noneSeen))
     (cond (markDue c)
-    (mark c b semicolon (due c fieldMark firstTurn noneSeen))
-    (cond (idleHere c w) (stopped c Idle) (mark c b lineEnd (nextLine c))))
+    (sign c b semicolon (due c fieldMark firstTurn noneSeen))
+    (cond (idleHere c w) (stopped c Idle) (sign c b lineEnd (nextLine c))))
 
 -- the byte after a class
 unfoldable pub afterClass : Ctrl → List ℕ → ℕ → Ctrl
 afterClass c w b =
     cond (lastClass c w)
     (cond (lastVar c)
-    (mark c b lineEnd (nextLine c))
-    (mark c b slash (due c fieldClass (turnOf (up (c .turn .var)) 0 0) (seenOf 0 (times (c .seen .prod) (width (c .seen .mask)))))))
-    (mark c b comma (due c fieldClass (turnOf (c .turn .var) 0 (up (c .turn .item))) (c .seen)))
+    (sign c b lineEnd (nextLine c))
+    (sign c b slash (due c fieldClass (turnOf (up (c .turn .var)) 0 0) (seenOf 0 (times (c .seen .prod) (width (c .seen .mask)))))))
+    (sign c b comma (due c fieldClass (turnOf (c .turn .var) 0 (up (c .turn .item))) (c .seen)))
 
 unfoldable pub afterVar : Ctrl → ℕ → Ctrl
 afterVar c b =
     cond (lastVar c)
-    (mark c b lineEnd (nextLine c))
-    (mark c b comma (due c (c .spot .field) (turnOf (up (c .turn .var)) 0 0) noneSeen))
+    (sign c b lineEnd (nextLine c))
+    (sign c b comma (due c (c .spot .field) (turnOf (up (c .turn .var)) 0 0) noneSeen))
 
 -- the byte after a fact's value: a comma means one more fact, with a later variable
 abbrev pub nextFact : Ctrl → Ctrl
@@ -131,8 +131,8 @@ afterValue c w b = cond (eqb b comma) (nextFact c) (listEnd c w b)
 unfoldable pub afterShare : Ctrl → ℕ → Ctrl
 afterShare c b =
     cond (eqb (up (c .turn .item)) (c .counts .ops))
-    (mark c b lineEnd (nextLine c))
-    (mark c b comma (due c fieldShare (turnOf 0 0 (up (c .turn .item))) noneSeen))
+    (sign c b lineEnd (nextLine c))
+    (sign c b comma (due c fieldShare (turnOf 0 0 (up (c .turn .item))) noneSeen))
 
 -- the byte after a number, which is kept in the area
 unfoldable pub afterNumber : Ctrl → List ℕ → ℕ → Ctrl
@@ -140,16 +140,16 @@ afterNumber c w b =
     cond (eqb (kind (c .spot .field)) kindRow)
     (afterVar c b)
     (cond (eqb (kind (c .spot .field)) kindVar)
-    (mark c b colon (due c (up (c .spot .field)) (turnOf (c .digits .val) 0 0) noneSeen))
+    (sign c b colon (due c (up (c .spot .field)) (turnOf (c .digits .val) 0 0) noneSeen))
     (cond (eqb (kind (c .spot .field)) kindVal)
     (afterValue c w b)
     (cond (eqb (kind (c .spot .field)) kindCost)
-    (mark c b semicolon (due c fieldPreVar firstTurn noneSeen))
+    (sign c b semicolon (due c fieldPreVar firstTurn noneSeen))
     (cond (eqb (kind (c .spot .field)) kindClass)
     (afterClass c w b)
     (cond (eqb (kind (c .spot .field)) kindShare)
     (afterShare c b)
-    (cond (eqb (kind (c .spot .field)) kindMark) (listEnd c w b) (mark c b lineEnd (nextLine c))))))))
+    (cond (eqb (kind (c .spot .field)) kindMark) (listEnd c w b) (sign c b lineEnd (nextLine c))))))))
 
 -- a byte that is no digit ends the run: its fault stops the reading, else the number is kept and the byte judged
 unfoldable pub closed : Ctrl → List ℕ → ℕ → St
@@ -194,7 +194,7 @@ live c w b =
     (mk (inKey c b) w)
     (cond (eqb (c .spot .part) partNumber)
     (atNumber c w b)
-    (cond (eqb (c .spot .part) partAfterDash) (mk (listEnd c w b) w) (mk (mark c b dash (dashed c)) w)))
+    (cond (eqb (c .spot .part) partAfterDash) (mk (listEnd c w b) w) (mk (sign c b dash (dashed c)) w)))
 
 -- ONE BYTE; a reading that has stopped stays as it is
 unfoldable pub byteRead : St → ℕ → St

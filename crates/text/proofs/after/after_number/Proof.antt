@@ -1,5 +1,5 @@
 -- `text::after::after_number` meets its contract: by the kind of the field. Assumes nothing.
-use Rattle.text.proofs.Parts.{comma-next}
+use Rattle.text.proofs.Parts.{comma-next, no-mark}
 use Rattle.text.specs.Inside.Steps.{afterNumber, afterValue}
 use borrow.Author.Needs.{needs}
 use borrow.Author.Tests.{ne-eqb}
@@ -12,8 +12,10 @@ unfolding afterNumber
 returns-7 c =
     let late = c .before .match .rest in
     let early = late .0 .0 .0 in
-    simp (← c .before .before .kind-of .ensures, ne-eqb _ _ (early .0 .0 .1), ne-eqb _ _ (early .0 .1), ne-eqb _ _ (early .1))
-    (simp (ne-eqb _ _ (late .0 .0 .1), ne-eqb _ _ (late .0 .1), ne-eqb _ _ (late .1)) (c .end-line .ensures))
+    let k = c .before .before .kind-of in
+    simp (no-mark _ _ (c .before .before .before .before .pre) (λ e. early .1 (k .ensures ∙ e)))
+    (simp (← k .ensures, ne-eqb _ _ (early .0 .0 .1), ne-eqb _ _ (early .0 .1), ne-eqb _ _ (early .1))
+    (simp (ne-eqb _ _ (late .0 .0 .1), ne-eqb _ _ (late .0 .1), ne-eqb _ _ (late .1)) (c .end-line .ensures)))
 
 returns-3 : tie.Need-returns-3
 unfolding afterNumber afterValue

@@ -1,6 +1,5 @@
--- `text::after::idle_here` meets its contract: by the list. Assumes nothing.
+-- `text::after::idle_here` meets its contract: by whether the field ends an operator. Assumes nothing.
 use borrow.Author.Needs.{needs}
-use borrow.Author.Tests.{eq-eqb, ne-eqb}
 use Rattle.text.specs.Inside.Steps.{idleHere}
 use Rattle.text.proofs.after.idle_here.Statement.{statement}
 use Rattle.text.proofs.after.idle_here.Tie as tie
@@ -12,5 +11,5 @@ idle-here-spec =
     (tie.spec
     (λ c κs. search needs)
     (λ c κs. search needs)
-    (λ c. simp (← c .before .before .list-of .ensures, eq-eqb _ _ (c .before .if1 .taken)) (c .is-idle .ensures))
-    (λ c. simp (← c .before .list-of .ensures, ne-eqb _ _ (c .if1 .left))))
+    (λ c. simp (← c .before .before .ends-operator .ensures, c .before .if1 .taken) (c .is-idle .ensures))
+    (λ c. simp (← c .before .ends-operator .ensures, c .if1 .left)))

@@ -9,11 +9,11 @@ use Rattle.text.proofs.ahead.class_here.Tie as tie
 
 returns-5 : tie.Need-returns-5
 returns-5 c z =
-    let mark = c .before .before .before in
+    let sign = c .before .before .before in
     record {
       room = omega arith;
       class = omega arith;
-      comma = sym (mark .word .ensures .0) ∙ c .before .before .if3 .left;
+      comma = sym (sign .word .ensures .0) ∙ c .before .before .if3 .left;
       fits = omega arith;
       more = rw (← c .one-more .ensures) (ltb-true _ _ z);
     }

@@ -9,16 +9,16 @@ use Rattle.text.proofs.ahead.fact_here.Tie as tie
 
 returns-8 : tie.Need-returns-8
 returns-8 c z =
-    let mark = c .before .before .before .before in
-    let colon = mark .before .before .before in
+    let sign = c .before .before .before .before in
+    let colon = sign .before .before .before in
     let value = colon .before .before .before .before in
     let var = value .before in
     record {
       room = omega arith;
       var = omega arith;
-      colon = sym (colon .word .ensures .0) ∙ mark .before .before .if4 .left;
+      colon = sym (colon .word .ensures .0) ∙ sign .before .before .if4 .left;
       value = omega arith;
-      comma = sym (mark .word2 .ensures .0) ∙ c .before .before .before .if5 .left;
+      comma = sym (sign .word2 .ensures .0) ∙ c .before .before .before .if5 .left;
       known = omega arith;
       rising = omega arith;
       fits = rw (← var .digit-at .ensures, ← value .digit-at2 .ensures, ← c .values-of .ensures) (ltb-true _ _ z);

@@ -9,15 +9,15 @@ use Rattle.text.proofs.ahead.share_here.Tie as tie
 
 returns-5 : tie.Need-returns-5
 returns-5 c z =
-    let mark = c .before .before .before .before in
-    let far = mark .before .before .before in
+    let sign = c .before .before .before .before in
+    let far = sign .before .before .before in
     let number = far .before .before .pre in
     let on = number .on in
     let within = number .within in
     record {
       some = omega (arith, far .if1 .left);
       room = omega arith;
-      comma = sym (mark .word .ensures .0) ∙ c .before .before .before .if3 .left;
+      comma = sym (sign .word .ensures .0) ∙ c .before .before .before .if3 .left;
       fits = omega arith;
       more = rw (← c .one-more .ensures) (ltb-true _ _ z);
     }

@@ -1,32 +1,20 @@
 -- `text::control::next_line` meets its contract: by the field. Assumes nothing.
-use Rattle.text.specs.Inside.Control.{nextLine}
+use mathlib.Core.Path.{_≡_}
+use mathlib.Core.Bool.{false}
+use lib.Dec.{eqb}
+use Rattle.text.specs.Inside.Control.{nextLine, listNo, goalList, fieldOps, fieldClass, fieldShare}
+use Rattle.text.specs.declared.Ctrl.{Ctrl}
 use borrow.Author.Needs.{needs}
 use borrow.Author.Tests.{eq-eqb, ne-eqb}
 use Rattle.text.proofs.control.next_line.Statement.{statement}
 use Rattle.text.proofs.control.next_line.Tie as tie
 
-returns-4 : tie.Need-returns-4
-unfolding nextLine
-returns-4 c =
-    let third = c .before .before .before in
-    simp (ne-eqb _ _ (third .before .before .if1 .left), ne-eqb _ _ (third .before .if2 .left), ne-eqb _ _ (third .if3 .left))
-    (simp (← c .before .before .list-of .ensures, eq-eqb _ _ (c .before .if4 .taken)) (c .to-line .ensures))
+-- past the first three fields, and past the goal's
+past : (c : tie.After-list-of) → let f = c .before .before .before .before .args .c .spot .field in (eqb f fieldOps ≡ false) × (eqb f fieldClass ≡ false) × (eqb f fieldShare ≡ false)
+past c = (ne-eqb _ _ (c .before .before .before .if1 .left), ne-eqb _ _ (c .before .before .if2 .left), ne-eqb _ _ (c .before .if3 .left))
 
-returns-5 : tie.Need-returns-5
-unfolding nextLine
-returns-5 c =
-    let third = c .before .before .before .before in
-    let second = third .before in
-    simp (ne-eqb _ _ (second .before .if1 .left), ne-eqb _ _ (second .if2 .left), ne-eqb _ _ (third .if3 .left))
-    (simp (← c .before .before .before .list-of .ensures, ne-eqb _ _ (c .before .before .if4 .left), eq-eqb _ _ (c .before .if5 .taken)) (c .row-or3 .ensures))
-
-returns-6 : tie.Need-returns-6
-unfolding nextLine
-returns-6 c =
-    let fourth = c .before .before .before in
-    let third = fourth .before .before in
-    simp (ne-eqb _ _ (third .before .before .if1 .left), ne-eqb _ _ (third .before .if2 .left), ne-eqb _ _ (third .if3 .left))
-    (simp (← fourth .before .list-of .ensures, ne-eqb _ _ (fourth .if4 .left), ne-eqb _ _ (c .before .before .if5 .left), ← c .before .one-more .ensures) (c .to-line2 .ensures))
+no-goal : (c : tie.Else4) → eqb (listNo (c .before .before .before .before .before .args .c .spot .field)) goalList ≡ false
+no-goal c = rw (← c .before .list-of .ensures) (ne-eqb _ _ (c .if4 .left))
 
 pub next-line-spec : {M : Type 1} → statement M
 unfolding nextLine
@@ -41,9 +29,20 @@ next-line-spec =
     (λ c. simp (ne-eqb _ _ (c .before .before .before .if1 .left), ne-eqb _ _ (c .before .before .if2 .left), eq-eqb _ _ (c .before .if3 .taken)) (c .row-or2 .ensures))
     (λ c κs. search needs)
     (λ c κs. search needs)
-    returns-4
+    (λ c. let p = past (c .before .before) in simp (p .0, p .1, p .2, ← c .before .before .list-of .ensures, eq-eqb _ _ (c .before .if4 .taken)) (c .after-goal .ensures))
     (λ c κs. search needs)
-    returns-5
+    (λ c. let x = c .before .before in let p = past (x .before) in simp (p .0, p .1, p .2, no-goal x, eq-eqb _ _ (c .before .if5 .taken)) (c .to-line .ensures))
     (λ c κs. search needs)
     (λ c κs. search needs)
-    returns-6)
+    (λ c.
+    let y = c .before .before in
+    let x = y .before .before in
+    let p = past (x .before) in
+    simp (p .0, p .1, p .2, no-goal x, ne-eqb _ _ (y .before .if5 .left), ← y .ends-operator .ensures, c .before .if6 .taken) (c .row-or3 .ensures))
+    (λ c κs. search needs)
+    (λ c κs. search needs)
+    (λ c.
+    let y = c .before .before .before in
+    let x = y .before .before in
+    let p = past (x .before) in
+    simp (p .0, p .1, p .2, no-goal x, ne-eqb _ _ (y .before .if5 .left), ← y .ends-operator .ensures, c .before .before .if6 .left, ← c .before .one-more .ensures) (c .to-line2 .ensures)))

@@ -14,6 +14,7 @@ use Rattle.tables.specs.Lines.{lineOfOp}
 use Rattle.scan.specs.declared.Found.the-variants.{Clean, Fault}
 use Rattle.scan.specs.Scan.{each}
 use Rattle.scan.proofs.Walks.{tests, tests-more, tests-here, walk-none, walk-end}
+use Rattle.text.specs.declared.Ctrl.{Ctrl}
 use Rattle.text.specs.Inside.Area.{costIn, shareIn}
 use Rattle.text.specs.Inside.End.{over}
 use Rattle.text.proofs.end.over_fault.Statement.{statement}
@@ -22,19 +23,19 @@ use Rattle.text.proofs.end.over_fault.Tie as tie
 abbrev passes : List ℕ → ℕ → ℕ → Bool
 passes w maps o = leb (sum (λ m. shareIn w m o) maps) (costIn w o)
 
-abbrev said : ℕ → Refusal
-said o = SharesAboveCost (lineOfOp o)
+abbrev said : Ctrl → ℕ → Refusal
+said k o = SharesAboveCost (lineOfOp (k .counts .edition) o)
 
 abbrev Inv-loop : tie.InvT-loop
-Inv-loop w maps ops o₀ o = (o ≤ ops) × (ops ≤ 64) × (maps ≤ 8) × (each (tests (passes w maps) said) o 0 ≡ Clean)
+Inv-loop k w maps ops o₀ o = (o ≤ ops) × (ops ≤ 64) × (maps ≤ 8) × (each (tests (passes w maps) (said k)) o 0 ≡ Clean)
 
 abbrev μ-loop : tie.MeasureT-loop
-μ-loop w maps ops o₀ o = ops - o
+μ-loop k w maps ops o₀ o = ops - o
 
 loop-holds : tie.Need-loop-holds Inv-loop μ-loop
 loop-holds c =
-    let w = c .before .before .before .args .w .now in
-    (omega arith, omega (arith, c .at-most2 .ensures), omega (arith, c .before .at-most .ensures), walk-none (tests (passes w (c .before .at-most .result)) said))
+    let a = c .before .before .before .args in
+    (omega arith, omega (arith, c .at-most2 .ensures), omega (arith, c .before .at-most .ensures), walk-none (tests (passes (a .w .now) (c .before .at-most .result)) (said (a .c))))
 
 word-at-requires : tie.Need-word-at-requires Inv-loop μ-loop
 word-at-requires c κs = c .cost-byte .ensures .1
@@ -56,13 +57,14 @@ returns c =
     let z = t .before .before in
     let x = z .before in
     let run = x .loop in
-    let w = x .before .before .before .before .args .w .now in
+    let a = x .before .before .before .before .args in
+    let w = a .w .now in
     let maps = x .before .before .at-most in
     let ops = x .before .at-most2 in
     let more = simp (t .word-at .ensures .0, t .before .cost-byte .ensures .0, c .before .before .share-total .ensures) at (c .before .if1 .taken) in
     let high = lt-leb (sum (λ m. shareIn w m (run .o)) (maps .result)) (costIn w (run .o)) more in
     ap (λ (l : ℕ). Fault (SharesAboveCost l)) (c .op-line .ensures)
-    ∙ sym (simp (← maps .ensures, ← ops .ensures) (tests-here (passes w (maps .result)) said (ops .result) (run .o) (run .inv .3) (z .loop-test .taken) high))
+    ∙ sym (simp (← maps .ensures, ← ops .ensures) (tests-here (passes w (maps .result)) (said (a .c)) (ops .result) (run .o) (run .inv .3) (z .loop-test .taken) high))
 
 loop-again : tie.Need-loop-again Inv-loop μ-loop
 loop-again c =
@@ -70,21 +72,23 @@ loop-again c =
     let z = y .before .before in
     let x = z .before in
     let run = x .loop in
-    let w = x .before .before .before .before .args .w .now in
+    let a = x .before .before .before .before .args in
+    let w = a .w .now in
     let maps = x .before .before .at-most in
     let less = simp (y .word-at .ensures .0, y .before .cost-byte .ensures .0, c .before .share-total .ensures) at (c .if1 .left) in
     let low = le-leb (sum (λ m. shareIn w m (run .o)) (maps .result)) (costIn w (run .o)) less in
-    (omega arith, run .inv .1, run .inv .2, tests-more (passes w (maps .result)) said (run .o) (run .inv .3) low)
+    (omega arith, run .inv .1, run .inv .2, tests-more (passes w (maps .result)) (said (a .c)) (run .o) (run .inv .3) low)
 
 returns-2 : tie.Need-returns-2 Inv-loop μ-loop
 unfolding over
 returns-2 c =
     let x = c .before in
     let run = x .loop in
-    let w = x .before .before .before .before .args .w .now in
+    let a = x .before .before .before .before .args in
+    let w = a .w .now in
     let maps = x .before .before .at-most in
     let ops = x .before .at-most2 in
-    sym (simp (← maps .ensures, ← ops .ensures) (walk-end (tests (passes w (maps .result)) said) (ops .result) (run .o) (run .inv .3) (omega arith) (omega arith)))
+    sym (simp (← maps .ensures, ← ops .ensures) (walk-end (tests (passes w (maps .result)) (said (a .c))) (ops .result) (run .o) (run .inv .3) (omega arith) (omega arith)))
 
 pub over-fault-spec : {M : Type 1} → statement M
 over-fault-spec =

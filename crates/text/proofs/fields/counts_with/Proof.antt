@@ -1,15 +1,27 @@
 -- `text::fields::counts_with` meets its contract: by the field. Assumes nothing.
+use Prim.Native.Nat.{ℕ}
+use mathlib.Core.Path.{_≡_, sym, ap}
 use borrow.Author.Tests.{ne-eqb}
-use Rattle.text.proofs.Laws.{at-field}
-use Rattle.text.specs.Inside.Control.{fieldVars, fieldOps, fieldMaps}
-use Rattle.text.specs.Inside.Fields.{countsWith}
+use Rattle.text.specs.declared.Ctrl.{Ctrl}
+use Rattle.text.specs.Inside.Fields.{withCount, countsWith}
 use Rattle.text.proofs.fields.counts_with.Statement.{statement}
 use Rattle.text.proofs.fields.counts_with.Tie as tie
 
+-- a field that is known
+at : (k : Ctrl) {f : ℕ} → k .spot .field ≡ f → withCount f (k .digits .val) (k .counts) ≡ countsWith k
+unfolding countsWith
+at k e = sym (ap (λ (x : ℕ). withCount x (k .digits .val) (k .counts)) e)
+
 pub counts-with-spec : {M : Type 1} → statement M
 unfolding countsWith
-counts-with-spec = tie.close (tie.spec
-    (λ c. simp (at-field fieldVars (c .if1 .taken), at-field fieldOps (c .if1 .taken), at-field fieldMaps (c .if1 .taken)))
-    (λ c. simp (at-field fieldVars (c .if2 .taken), at-field fieldOps (c .if2 .taken), at-field fieldMaps (c .if2 .taken)))
-    (λ c. simp (at-field fieldVars (c .if3 .taken), at-field fieldOps (c .if3 .taken), at-field fieldMaps (c .if3 .taken)))
-    (λ c. simp (ne-eqb _ _ (c .before .before .if1 .left), ne-eqb _ _ (c .before .if2 .left), ne-eqb _ _ (c .if3 .left))))
+counts-with-spec =
+    tie.close
+    (tie.spec
+    (λ c. at (c .before .before .args .c) (c .if1 .taken))
+    (λ c. at (c .before .before .before .args .c) (c .if2 .taken))
+    (λ c. at (c .before .before .before .before .args .c) (c .if3 .taken))
+    (λ c. at (c .before .before .before .before .before .args .c) (c .if4 .taken))
+    (λ c. at (c .before .before .before .before .before .before .args .c) (c .if5 .taken))
+    (λ c.
+    let x = c .before .before in
+    simp (ne-eqb _ _ (x .before .before .if1 .left), ne-eqb _ _ (x .before .if2 .left), ne-eqb _ _ (x .if3 .left), ne-eqb _ _ (c .before .if4 .left), ne-eqb _ _ (c .if5 .left))))

@@ -5,12 +5,12 @@ use borrow.Author.Tests.{ne-eqb}
 use Rattle.text.proofs.fields.store.Statement.{statement}
 use Rattle.text.proofs.fields.store.Tie as tie
 
-returns-9 : tie.Need-returns-9
+returns-10 : tie.Need-returns-10
 unfolding stored
-returns-9 c =
+returns-10 c =
     let late = c .match .rest in
     let early = late .0 .0 .0 .0 in
-    simp (ne-eqb _ _ (early .0 .0 .0 .1), ne-eqb _ _ (early .0 .0 .1), ne-eqb _ _ (early .0 .1), ne-eqb _ _ (early .1))
+    simp (ne-eqb _ _ (early .0 .0 .0 .0 .1), ne-eqb _ _ (early .0 .0 .0 .1), ne-eqb _ _ (early .0 .0 .1), ne-eqb _ _ (early .0 .1), ne-eqb _ _ (early .1))
     (simp (ne-eqb _ _ (late .0 .0 .0 .1), ne-eqb _ _ (late .0 .0 .1), ne-eqb _ _ (late .0 .1), ne-eqb _ _ (late .1)))
 
 pub store-spec : {M : Type 1} → statement M
@@ -18,6 +18,8 @@ unfolding stored
 store-spec =
     tie.close
     (tie.spec
+    (λ c κs. search needs)
+    (λ c κs. search needs)
     (λ c κs. search needs)
     (λ c κs. search needs)
     (λ c κs. search needs)
@@ -53,4 +55,6 @@ store-spec =
     (λ c. let put = c .before .before in simp (put .before .before .before .match .keys7, ← put .before .class-place .ensures) (put .put-byte6 .ensures))
     (λ c. search needs)
     (λ c. let put = c .before .before in simp (put .before .before .before .match .keys8, ← put .before .share-byte .ensures .0) (put .put-word2 .ensures))
-    returns-9)
+    (λ c. search needs)
+    (λ c. let put = c .before .before in simp (put .before .before .before .match .keys9, ← put .before .mark-place .ensures) (put .put-byte7 .ensures))
+    returns-10)

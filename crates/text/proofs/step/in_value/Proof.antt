@@ -17,9 +17,9 @@ returns c =
 returns-2 : tie.Need-returns-2
 unfolding inValue atNumber
 returns-2 c =
-    let mark = c .before .before in
-    let byte = mark .before .before in
-    simp (eq-eqb _ _ (byte .before .if1 .taken), ← byte .is-digit .ensures, mark .before .if2 .left, ← mark .dash-here .ensures, c .before .if3 .taken, c .take-dash .ensures)
+    let sign = c .before .before in
+    let byte = sign .before .before in
+    simp (eq-eqb _ _ (byte .before .if1 .taken), ← byte .is-digit .ensures, sign .before .if2 .left, ← sign .dash-here .ensures, c .before .if3 .taken, c .take-dash .ensures)
 
 returns-3 : tie.Need-returns-3
 returns-3 c =
