@@ -15,7 +15,7 @@ use Rattle.meaning.proofs.Facts.{and-left, by-cases}
 use Rattle.meaning.specs.Limits.{mostVars, mostOps}
 use Rattle.refusals.specs.declared.Refusal.the-variants.{TableTooShort}
 use Rattle.tables.specs.declared.Counts.{Counts}
-use Rattle.tables.specs.Layout.{preRow, effRow, factsRoom, costsRoom, place, Tables, sharesRoom}
+use Rattle.tables.specs.Layout.{preRow, effRow, markPlace, factsRoom, costsRoom, place, Tables, sharesRoom}
 use Rattle.tables.specs.Task.{stateOf, tables}
 use Rattle.tables.specs.Steps.{overwritten}
 use Rattle.scan.specs.Scan.{roomy, tablesFault, inputFault}
@@ -107,7 +107,9 @@ unfolding laidOf laidOne
 length-laid-facts rows zero t = refl
 length-laid-facts rows (suc o) t =
     let u = laidOf rows o t in
-    length-row (rowLaid (u .facts) (preRow o) (recordAt rows o .pre) mostVars) (recordAt rows o .eff) (effRow o) mostVars
+    let asked = rowLaid (u .facts) (preRow o) (recordAt rows o .pre) mostVars in
+    length-set (rowLaid asked (effRow o) (recordAt rows o .eff) mostVars) (markPlace o) (recordAt rows o .mark)
+    ∙ length-row asked (recordAt rows o .eff) (effRow o) mostVars
     ∙ length-row (u .facts) (recordAt rows o .pre) (preRow o) mostVars
     ∙ length-laid-facts rows o t
 

@@ -21,7 +21,7 @@ use Rattle.records.specs.Records.{atMost, moreOps, recordsTables}
 
 -- the counts with another number of operators
 abbrev pub numbered : Counts → ℕ → Counts
-numbered c n = record { vars = c .vars; ops = n; maps = c .maps }
+numbered c n = record { vars = c .vars; ops = n; maps = c .maps; edition = c .edition; quota = c .quota }
 
 module _ (c : Counts) (f k shares : List ℕ) (a b : ℕ) (p : mostOps < a) (q : mostOps < b) where
   many-fault : tablesFault (tables (numbered c a) f k shares) ≡ tablesFault (tables (numbered c b) f k shares)

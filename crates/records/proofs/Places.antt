@@ -1,6 +1,7 @@
--- What stands in the tables once the records are laid: each record's facts and cost in its places, and what was there before in all others. Assumes nothing.
-use Prim.Native.Nat.{ℕ, zero, suc, _+_, _*_, _≤_, _<_}
-use mathlib.Core.Path.{_≡_, refl, _∙_}
+-- What stands in the tables once the records are laid: each record's facts, mark and cost in its places, and what was there before in all others.
+-- Assumes nothing.
+use Prim.Native.Nat.{ℕ, zero, suc, _≤_, _<_}
+use mathlib.Core.Path.{_≡_, refl, sym, _∙_}
 use mathlib.Core.List.{List}
 use native.Mathlib.Omega.{arith}
 use lib.Dec.{eqb}
@@ -8,7 +9,7 @@ use lib.ListN.{length, getD}
 use lib.Seq.{getD-set-same, getD-set-other}
 use borrow.Author.Tests.{eqb-true, eqb-false}
 use Rattle.meaning.specs.Limits.{mostVars, mostOps}
-use Rattle.tables.specs.Layout.{preRow, effRow, preAt, effAt, costAt, place, prePlace, effPlace}
+use Rattle.tables.specs.Layout.{preRow, effRow, preAt, effAt, markAt, costAt, place, prePlace, effPlace, markPlace, factsRoom}
 use Rattle.meaning.proofs.Facts.{by-cases}
 use Rattle.records.specs.declared.OpRecord.{OpRecord}
 use Rattle.records.specs.declared.laying.Laid.{Laid}
@@ -39,62 +40,93 @@ module _ (facts values : List ℕ) (row : ℕ) where
 
 -- ---- one record
 
+-- a place that is none of operator o's
+pub record Apart (o q : ℕ) : Type 0 where
+  pub pre : (v : ℕ) → v < mostVars → q ≡ prePlace o v → ⊥
+  pub eff : (v : ℕ) → v < mostVars → q ≡ effPlace o v → ⊥
+  pub mark : q ≡ markPlace o → ⊥
+
 module _ (t : Laid) (o : ℕ) (r : OpRecord) where
-  -- a place in neither of its rows
-  one-other : (q : ℕ) → ((v : ℕ) → v < mostVars → q ≡ prePlace o v → ⊥) → ((v : ℕ) → v < mostVars → q ≡ effPlace o v → ⊥) → getD (laidOne t o r .facts) q 0 ≡ getD (t .facts) q 0
-  unfolding laidOne
-  one-other q h g =
-      row-other (rowLaid (t .facts) (preRow o) (r .pre) mostVars) (r .eff) (effRow o) mostVars q g ∙ row-other (t .facts) (r .pre) (preRow o) mostVars q h
+  -- the facts with its two rows, before its mark
+  abbrev asked : List ℕ
+  asked = rowLaid (t .facts) (preRow o) (r .pre) mostVars
 
-  one-pre : (v : ℕ) → v < mostVars → o < mostOps → 1048 ≤ length (t .facts) → preAt (laidOne t o r .facts) o v ≡ getD (r .pre) v 0
-  unfolding laidOne
-  one-pre v l few long =
-      row-other (rowLaid (t .facts) (preRow o) (r .pre) mostVars) (r .eff) (effRow o) mostVars (prePlace o v) (λ u k e. omega arith)
-      ∙ row-there (t .facts) (r .pre) (preRow o) mostVars v l (omega arith)
+  abbrev done : List ℕ
+  done = rowLaid asked (effRow o) (r .eff) mostVars
 
-  one-eff : (v : ℕ) → v < mostVars → o < mostOps → 1048 ≤ length (t .facts) → effAt (laidOne t o r .facts) o v ≡ getD (r .eff) v 0
+  one-other : (q : ℕ) → Apart o q → getD (laidOne t o r .facts) q 0 ≡ getD (t .facts) q 0
   unfolding laidOne
-  one-eff v l few long =
-      row-there (rowLaid (t .facts) (preRow o) (r .pre) mostVars) (r .eff) (effRow o) mostVars v l (omega (arith, length-row (t .facts) (r .pre) (preRow o) mostVars))
+  one-other q h =
+      getD-set-other done (markPlace o) q (r .mark) 0 (h .mark) ∙ row-other asked (r .eff) (effRow o) mostVars q (h .eff)
+      ∙ row-other (t .facts) (r .pre) (preRow o) mostVars q (h .pre)
 
--- a place in none of the operators' rows
-abbrev pub Outside : ℕ → Type 0
-Outside q = (o v : ℕ) → o < 2 * mostOps → v < mostVars → q ≡ prePlace o v → ⊥
+  module _ (few : o < mostOps) (long : factsRoom ≤ length (t .facts)) where
+    one-pre : (v : ℕ) → v < mostVars → preAt (laidOne t o r .facts) o v ≡ getD (r .pre) v 0
+    unfolding laidOne
+    one-pre v l =
+        getD-set-other done (markPlace o) (prePlace o v) (r .mark) 0 (λ e. omega arith)
+        ∙ row-other asked (r .eff) (effRow o) mostVars (prePlace o v) (λ u k e. omega arith)
+        ∙ row-there (t .facts) (r .pre) (preRow o) mostVars v l (omega arith)
+
+    one-eff : (v : ℕ) → v < mostVars → effAt (laidOne t o r .facts) o v ≡ getD (r .eff) v 0
+    unfolding laidOne
+    one-eff v l =
+        getD-set-other done (markPlace o) (effPlace o v) (r .mark) 0 (λ e. omega arith)
+        ∙ row-there asked (r .eff) (effRow o) mostVars v l (omega (arith, length-row (t .facts) (r .pre) (preRow o) mostVars))
+
+    one-mark : markAt (laidOne t o r .facts) o ≡ r .mark
+    unfolding laidOne
+    one-mark =
+        getD-set-same done (markPlace o) (r .mark) 0
+        (omega (arith, length-row asked (r .eff) (effRow o) mostVars, length-row (t .facts) (r .pre) (preRow o) mostVars))
 
 -- ---- the first n records
 
+-- a place that is no operator's: one before their rows, or between them and the marks
+abbrev pub Outside : ℕ → Type 0
+Outside q = (o : ℕ) → o < mostOps → Apart o q
+
+pub before-rows : (q : ℕ) → q < 24 → Outside q
+before-rows q l o few = record { pre = λ v k e. omega arith; eff = λ v k e. omega arith; mark = λ e. omega arith }
+
+pub after-rows : (q : ℕ) → 1048 ≤ q → q < 1560 → Outside q
+after-rows q g l o few = record { pre = λ v k e. omega arith; eff = λ v k e. omega arith; mark = λ e. omega arith }
+
 module _ (rows : List OpRecord) (t : Laid) where
-  -- a place outside the operators' rows
   pub laid-other : (n q : ℕ) → n ≤ mostOps → Outside q → getD (laidOf rows n t .facts) q 0 ≡ getD (t .facts) q 0
   unfolding laidOf
   laid-other zero q few h = refl
-  laid-other (suc o) q few h =
-      one-other (laidOf rows o t) o (recordAt rows o) q (λ v l e. h o v (omega arith) l e) (λ v l e. h (mostOps + o) v (omega arith) l (omega arith))
-      ∙ laid-other o q (omega arith) h
+  laid-other (suc o) q few h = one-other (laidOf rows o t) o (recordAt rows o) q (h o (omega arith)) ∙ laid-other o q (omega arith) h
 
-  pub laid-pre : (n o v : ℕ) → n ≤ mostOps → o < n → v < mostVars → 1048 ≤ length (t .facts) → preAt (laidOf rows n t .facts) o v ≡ getD (recordAt rows o .pre) v 0
-  unfolding laidOf
-  laid-pre zero o v few l g long = absurd (let z : ⊥ = omega arith in z)
-  laid-pre (suc n) o v few l g long =
-      by-cases (eqb o n)
-      (λ e.
-      let p : o ≡ n = eqb-true o n e in
-      rw p (one-pre (laidOf rows n t) n (recordAt rows n) v g (omega arith) (omega (arith, length-laid-facts rows n t))))
-      (λ e.
-      one-other (laidOf rows n t) n (recordAt rows n) (prePlace o v) (λ u k p. omega (arith, eqb-false o n e)) (λ u k p. omega arith)
-      ∙ laid-pre n o v (omega arith) (omega (arith, eqb-false o n e)) g long)
+  -- what record o lays in a place stays there, since the records after it lay elsewhere
+  module _ (o q x : ℕ) (lays : (u : Laid) → o < mostOps → factsRoom ≤ length (u .facts) → getD (laidOne u o (recordAt rows o) .facts) q 0 ≡ x)
+      (elsewhere : (p : ℕ) → p < mostOps → o < p → Apart p q) where
+    laid-own : (n : ℕ) → n ≤ mostOps → o < n → factsRoom ≤ length (t .facts) → getD (laidOf rows n t .facts) q 0 ≡ x
+    unfolding laidOf
+    laid-own zero few l long = absurd (let z : ⊥ = omega arith in z)
+    laid-own (suc n) few l long =
+        by-cases (eqb o n)
+        (λ e.
+        let p : n ≡ o = sym (eqb-true o n e) in
+        rw p (lays (laidOf rows o t) (omega arith) (omega (arith, length-laid-facts rows o t))))
+        (λ e.
+        one-other (laidOf rows n t) n (recordAt rows n) q (elsewhere n (omega arith) (omega (arith, eqb-false o n e)))
+        ∙ laid-own n (omega arith) (omega (arith, eqb-false o n e)) long)
 
-  pub laid-eff : (n o v : ℕ) → n ≤ mostOps → o < n → v < mostVars → 1048 ≤ length (t .facts) → effAt (laidOf rows n t .facts) o v ≡ getD (recordAt rows o .eff) v 0
-  unfolding laidOf
-  laid-eff zero o v few l g long = absurd (let z : ⊥ = omega arith in z)
-  laid-eff (suc n) o v few l g long =
-      by-cases (eqb o n)
-      (λ e.
-      let p : o ≡ n = eqb-true o n e in
-      rw p (one-eff (laidOf rows n t) n (recordAt rows n) v g (omega arith) (omega (arith, length-laid-facts rows n t))))
-      (λ e.
-      one-other (laidOf rows n t) n (recordAt rows n) (effPlace o v) (λ u k p. omega arith) (λ u k p. omega (arith, eqb-false o n e))
-      ∙ laid-eff n o v (omega arith) (omega (arith, eqb-false o n e)) g long)
+  pub laid-pre : (n o v : ℕ) → n ≤ mostOps → o < n → v < mostVars → factsRoom ≤ length (t .facts) → preAt (laidOf rows n t .facts) o v ≡ getD (recordAt rows o .pre) v 0
+  laid-pre n o v few l g long =
+      laid-own o (prePlace o v) _ (λ u k h. one-pre u o (recordAt rows o) k h v g)
+      (λ p k h. record { pre = λ w i e. omega arith; eff = λ w i e. omega arith; mark = λ e. omega arith }) n few l long
+
+  pub laid-eff : (n o v : ℕ) → n ≤ mostOps → o < n → v < mostVars → factsRoom ≤ length (t .facts) → effAt (laidOf rows n t .facts) o v ≡ getD (recordAt rows o .eff) v 0
+  laid-eff n o v few l g long =
+      laid-own o (effPlace o v) _ (λ u k h. one-eff u o (recordAt rows o) k h v g)
+      (λ p k h. record { pre = λ w i e. omega arith; eff = λ w i e. omega arith; mark = λ e. omega arith }) n few l long
+
+  pub laid-mark : (n o : ℕ) → n ≤ mostOps → o < n → factsRoom ≤ length (t .facts) → markAt (laidOf rows n t .facts) o ≡ recordAt rows o .mark
+  laid-mark n o few l long =
+      laid-own o (markPlace o) _ (λ u k h. one-mark u o (recordAt rows o) k h)
+      (λ p k h. record { pre = λ w i e. omega arith; eff = λ w i e. omega arith; mark = λ e. omega arith }) n few l long
 
   pub laid-cost : (n o : ℕ) → o < n → n ≤ length (t .costs) → costAt (laidOf rows n t .costs) o ≡ recordAt rows o .cost
   unfolding laidOf laidOne

@@ -11,7 +11,8 @@ use lib.Seq.{length-take-le, getD-take}
 use borrow.Author.Tests.{le-leb}
 use Rattle.meaning.specs.Limits.{mostVars, mostOps}
 use Rattle.tables.specs.declared.Counts.{Counts}
-use Rattle.tables.specs.Layout.{Tables, factsRoom, costsRoom, sharesRoom, preAt, effAt, costAt, domPlace, initPlace, goalPlace, classPlace}
+use Rattle.tables.specs.Layout.{Tables, factsRoom, costsRoom, sharesRoom, preAt, effAt, costAt, markOf, domPlace, initPlace, goalPlace, classPlace}
+use Rattle.tables.specs.Editions.{readIn}
 use Rattle.tables.specs.Task.{tables}
 use Rattle.scan.specs.Scan.{roomy}
 use Rattle.scan.proofs.Unread.{Agree, read-alike, state-own}
@@ -22,7 +23,7 @@ use Rattle.records.specs.declared.OpRecord.{OpRecord}
 use Rattle.records.specs.declared.laying.Laid.{Laid}
 use Rattle.records.specs.Records.{recordAt, laidOf, blank, moreOps, counted, recordsTables}
 use Rattle.records.proofs.Laws.{most-within, take-room, room-facts, length-laid-facts, length-laid-costs}
-use Rattle.records.proofs.Places.{Outside, laid-other, laid-pre, laid-eff, laid-cost}
+use Rattle.records.proofs.Places.{Outside, before-rows, after-rows, laid-other, laid-pre, laid-eff, laid-mark, laid-cost}
 
 -- ---- no second answer
 
@@ -32,13 +33,15 @@ judge-records-unique c facts shares s ops rows r r′ p q = p ∙ sym q
 
 -- ---- the same answers
 
--- the row spells the operators of the tables t: as many, each with its cost, and with its facts at the task's variables; and t's costs have their room, as a row has it always
+-- the row spells the operators of the tables t: as many, each with its cost, with its facts at the task's variables, and in edition 2 with its mark; and t's costs
+-- have their room, as a row has it always
 pub record Spells (t : Tables) (rows : List OpRecord) : Type 0 where
   pub number : length rows ≡ t .counts .ops
   pub few : t .counts .ops ≤ mostOps
   pub cost : (o : ℕ) → o < t .counts .ops → recordAt rows o .cost ≡ costAt (t .costs) o
   pub pre : (o v : ℕ) → o < t .counts .ops → v < t .counts .vars → getD (recordAt rows o .pre) v 0 ≡ preAt (t .facts) o v
   pub eff : (o v : ℕ) → o < t .counts .ops → v < t .counts .vars → getD (recordAt rows o .eff) v 0 ≡ effAt (t .facts) o v
+  pub mark : (o : ℕ) → o < t .counts .ops → readIn (t .counts .edition) (recordAt rows o .mark) ≡ markOf (t .counts) (t .facts) o
   pub room : costsRoom ≤ length (t .costs)
 
 module _ (t : Tables) (rows : List OpRecord) (h : Spells t rows) where
@@ -63,18 +66,19 @@ module _ (t : Tables) (rows : List OpRecord) (h : Spells t rows) where
       let other : (q : ℕ) → q < factsRoom → Outside q → getD (t .facts) q 0 ≡ getD (laid .facts) q 0 = λ q l out. sym (laid-other rows (blank (t .facts)) n q (h .few) out
       ∙ getD-take factsRoom (t .facts) q 0 l) in
       record {
-        dom = λ v g. other (domPlace v) (omega arith) (λ o u a b e. omega arith);
-        init = λ v g. other (initPlace v) (omega arith) (λ o u a b e. omega arith);
-        goal = λ v g. other (goalPlace v) (omega arith) (λ o u a b e. omega arith);
+        dom = λ v g. other (domPlace v) (omega arith) (before-rows (domPlace v) (omega arith));
+        init = λ v g. other (initPlace v) (omega arith) (before-rows (initPlace v) (omega arith));
+        goal = λ v g. other (goalPlace v) (omega arith) (before-rows (goalPlace v) (omega arith));
         pre = λ o v l lo g. sym (laid-pre rows (blank (t .facts)) n o v (h .few) l (omega arith) (omega arith) ∙ h .pre o v l g);
         eff = λ o v l lo g. sym (laid-eff rows (blank (t .facts)) n o v (h .few) l (omega arith) (omega arith) ∙ h .eff o v l g);
-        class = λ m v x lm a l d b. other (classPlace m v x) (omega arith) (λ o u i j e. omega arith);
+        class = λ m v x lm a l d b. other (classPlace m v x) (omega arith) (after-rows (classPlace m v x) (omega arith) (omega arith));
         cost = λ o l lo. sym (laid-cost rows (blank (t .facts)) n o l (omega (arith, length-replicate {A = ℕ} costsRoom 0)) ∙ h .cost o l);
         share = λ m o lm l. refl;
+        mark = λ o l lo. sym (ap (readIn (t .counts .edition)) (laid-mark rows (blank (t .facts)) n o (h .few) l (omega arith)) ∙ h .mark o l);
       }
 
   counts-same : counted (t .counts) n ≡ t .counts
-  counts-same = ap (λ (x : ℕ). record { vars = t .counts .vars; ops = x; maps = t .counts .maps }) (sym (most-within moreOps n (omega (arith, h .few))))
+  counts-same = ap (λ (x : ℕ). record { vars = t .counts .vars; ops = x; maps = t .counts .maps; edition = t .counts .edition; quota = t .counts .quota }) (sym (most-within moreOps n (omega (arith, h .few))))
 
   pub records-agree : (s ops : List ℕ) → judgedOf (recordsTables (t .counts) (t .facts) (t .shares) rows) s ops ≡ judgedOf t s ops
   unfolding recordsTables

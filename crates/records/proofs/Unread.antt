@@ -1,4 +1,4 @@
--- Beside the row only a task's own places are read, and none of the operators' rows of the lent facts: facts and shares that agree there, and states that agree at
+-- Beside the row only a task's own places are read, and none of the operators' rows and marks of the lent facts: facts and shares that agree there, and states that agree at
 -- the variables, are judged the same. (That the lent count of operators isn't read is seen in `recordsTables`.) Assumes nothing.
 use Prim.Native.Nat.{ℕ, zero, suc, _≤_, _<_}
 use mathlib.Core.Path.{_≡_, refl, ap, ap₂, sym, _∙_}
@@ -11,6 +11,7 @@ use lib.Seq.{getD-take}
 use Rattle.meaning.specs.Limits.{mostVars, mostOps}
 use Rattle.tables.specs.declared.Counts.{Counts}
 use Rattle.tables.specs.Layout.{factsRoom, costsRoom, domAt, costAt, domPlace, initPlace, goalPlace, classPlace}
+use Rattle.tables.specs.Editions.{readIn}
 use Rattle.tables.specs.Task.{tables}
 use Rattle.scan.specs.Scan.{roomy}
 use Rattle.scan.specs.Own.{OwnState}
@@ -23,7 +24,7 @@ use Rattle.records.specs.declared.laying.Laid.{Laid}
 use Rattle.records.specs.Records.{recordAt, atMost, laidOne, laidOf, blank, moreOps, counted, recordsTables}
 use Rattle.records.specs.Own.{OwnBeside}
 use Rattle.records.proofs.Laws.{at-most-limit, at-most-number, take-room, room-facts, length-laid-facts}
-use Rattle.records.proofs.Places.{Outside, laid-other, laid-pre, laid-eff}
+use Rattle.records.proofs.Places.{Outside, before-rows, after-rows, laid-other, laid-pre, laid-eff, laid-mark}
 
 costs-same : (rows : List OpRecord) (m : ℕ) (t u : Laid) → t .costs ≡ u .costs → laidOf rows m t .costs ≡ laidOf rows m u .costs
 unfolding laidOf laidOne
@@ -58,10 +59,10 @@ module _ (c : Counts) (f g s z : List ℕ) (rows : List OpRecord) (O : OwnBeside
       (O .shares-room)
 
   module _ (long : factsRoom ≤ length (F .facts)) (long′ : factsRoom ≤ length (G .facts)) where
-    far : 1048 ≤ length (take factsRoom f)
+    far : factsRoom ≤ length (take factsRoom f)
     far = omega (arith, length-laid-facts rows n (blank f))
 
-    far′ : 1048 ≤ length (take factsRoom g)
+    far′ : factsRoom ≤ length (take factsRoom g)
     far′ = omega (arith, length-laid-facts rows n (blank g))
 
     -- a place outside the operators' rows is as it was lent
@@ -79,14 +80,14 @@ module _ (c : Counts) (f g s z : List ℕ) (rows : List OpRecord) (O : OwnBeside
     -- the number of values of a variable is as it was lent
     dom-lent : (v : ℕ) → v < mostVars → domAt (F .facts) v ≡ domAt f v
     dom-lent v l =
-        laid-other rows (blank f) n (domPlace v) few (λ o u a b e. omega arith) ∙ getD-take factsRoom f (domPlace v) 0 (omega arith)
+        laid-other rows (blank f) n (domPlace v) few (before-rows (domPlace v) (omega arith)) ∙ getD-take factsRoom f (domPlace v) 0 (omega arith)
 
     agree : c .vars ≤ mostVars → Agree d (F .facts) (G .facts) (F .costs) (G .costs) s z
     agree fits =
         record {
-          dom = λ v l. other (domPlace v) (omega arith) (λ o u a b e. omega arith) (O .dom v l);
-          init = λ v l. other (initPlace v) (omega arith) (λ o u a b e. omega arith) (O .init v l);
-          goal = λ v l. other (goalPlace v) (omega arith) (λ o u a b e. omega arith) (O .goal v l);
+          dom = λ v l. other (domPlace v) (omega arith) (before-rows (domPlace v) (omega arith)) (O .dom v l);
+          init = λ v l. other (initPlace v) (omega arith) (before-rows (initPlace v) (omega arith)) (O .init v l);
+          goal = λ v l. other (goalPlace v) (omega arith) (before-rows (goalPlace v) (omega arith)) (O .goal v l);
           pre =
               λ o v lo h l.
               laid-pre rows (blank f) n o v few (laid o lo h) (omega arith) far ∙ sym (laid-pre rows (blank g) n o v few (laid o lo h) (omega arith) far′);
@@ -95,9 +96,12 @@ module _ (c : Counts) (f g s z : List ℕ) (rows : List OpRecord) (O : OwnBeside
               laid-eff rows (blank f) n o v few (laid o lo h) (omega arith) far ∙ sym (laid-eff rows (blank g) n o v few (laid o lo h) (omega arith) far′);
           class =
               λ m v x lm a l h b.
-              other (classPlace m v x) (omega arith) (λ o u i j e. omega arith) (O .class m v x lm l (omega (arith, dom-lent v (omega arith))));
+              other (classPlace m v x) (omega arith) (after-rows (classPlace m v x) (omega arith) (omega arith)) (O .class m v x lm l (omega (arith, dom-lent v (omega arith))));
           cost = λ o l h. ap (λ (k : List ℕ). costAt k o) (costs-same rows n (blank f) (blank g) refl);
           share = λ m o lm l. O .share m o lm (omega (arith, at-most-number moreOps (length rows)));
+          mark =
+              λ o lo h.
+              ap (readIn (c .edition)) (laid-mark rows (blank f) n o few (laid o lo h) far ∙ sym (laid-mark rows (blank g) n o few (laid o lo h) far′));
         }
 
   from-room : roomy (tables d (F .facts) (F .costs) s) ≡ true → c .vars ≤ mostVars → Agree d (F .facts) (G .facts) (F .costs) (G .costs) s z

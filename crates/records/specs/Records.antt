@@ -6,14 +6,14 @@ use lib.Dec.{leb}
 use lib.ListN.{length, getD, set, take, replicate}
 use Rattle.meaning.specs.Limits.{mostVars, mostOps}
 use Rattle.tables.specs.declared.Counts.{Counts}
-use Rattle.tables.specs.Layout.{Tables, place, preRow, effRow, factsRoom, costsRoom}
+use Rattle.tables.specs.Layout.{Tables, place, preRow, effRow, markPlace, factsRoom, costsRoom}
 use Rattle.tables.specs.Task.{tables}
 use Rattle.records.specs.declared.OpRecord.{OpRecord}
 use Rattle.records.specs.declared.laying.Laid.{Laid}
 
 -- the record of operator o; past the row's end one that says nothing
 abbrev pub noRecord : OpRecord
-noRecord = record { cost = 0; pre = []; eff = [] }
+noRecord = record { cost = 0; pre = []; eff = []; mark = 0 }
 
 abbrev pub recordAt : List OpRecord → ℕ → OpRecord
 recordAt rows o = getD rows o noRecord
@@ -27,11 +27,11 @@ unfoldable pub rowLaid : List ℕ → ℕ → List ℕ → ℕ → List ℕ
 rowLaid facts row values zero = facts
 rowLaid facts row values (suc v) = set (rowLaid facts row values v) (place row v) (getD values v 0)
 
--- operator o's record in its places: its preconditions and its effects among the facts, its cost among the costs
+-- operator o's record in its places: its preconditions, its effects and its mark among the facts, its cost among the costs
 unfoldable pub laidOne : Laid → ℕ → OpRecord → Laid
 laidOne t o r =
     record {
-      facts = rowLaid (rowLaid (t .facts) (preRow o) (r .pre) mostVars) (effRow o) (r .eff) mostVars;
+      facts = set (rowLaid (rowLaid (t .facts) (preRow o) (r .pre) mostVars) (effRow o) (r .eff) mostVars) (markPlace o) (r .mark);
       costs = set (t .costs) o (r .cost);
     }
 
@@ -50,7 +50,7 @@ moreOps = suc mostOps
 
 -- the row's length is the number of operators
 abbrev pub counted : Counts → ℕ → Counts
-counted c n = record { vars = c .vars; ops = atMost moreOps n; maps = c .maps }
+counted c n = record { vars = c .vars; ops = atMost moreOps n; maps = c .maps; edition = c .edition; quota = c .quota }
 
 -- THE ROW'S TABLES: the row's records laid over the lent facts, at most as many as there may be; the places of the operators beyond the row stay as they were lent, their costs are 0
 unfoldable pub recordsTables : Counts → List ℕ → List ℕ → List OpRecord → Tables

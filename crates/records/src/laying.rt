@@ -1,9 +1,11 @@
-// The tables of a row of records, by value: the lent facts with the operators' rows laid over them, and the costs.
+// The tables of a row of records, by value: the lent facts with the operators' rows and marks laid over them, and the costs.
 ghost use mathlib.Core.Path.{_≡_};
 ghost use Prim.Native.Nat.{_<_};
+ghost use lib.ListN.{set};
 ghost use Rattle.meaning.specs.Limits.{mostVars, mostOps};
 ghost use Rattle.records.specs.Records.{atMost, counted, rowLaid, laidOne};
 ghost use Rattle.records.specs.Inside.Parts.{copyOf, laidJudged};
+ghost use Rattle.tables.specs.Layout.{markPlace};
 ghost use Rattle.tables.specs.Task.{was};
 use crate::OpRecord;
 use meaning::OpNo;
@@ -11,6 +13,7 @@ use refusals::Refusal;
 use sequences::judge;
 use sequences::judging::Judged;
 use tables::Counts;
+use tables::readers::MARK_ROW;
 use tables::readers::byte_at;
 use tables::readers::eff_row;
 use tables::readers::pre_row;
@@ -66,6 +69,16 @@ pub fn with_row(facts: [u8; 1624], row: usize, values: [u8; 8]) -> [u8; 1624]
     laid
 }
 
+// The facts with an operator's mark in its place.
+pub fn with_mark(facts: [u8; 1624], o: usize, mark: u8) -> [u8; 1624]
+    requires { ⌜ o < mostOps ⌝ }
+    ensures { λ r. ⌜ r ≡ set facts (markPlace o) mark ⌝ }
+{
+    let mut laid = facts;
+    laid[MARK_ROW as usize * 8 + o] = mark;
+    laid
+}
+
 // The tables with an operator's record in its places.
 pub fn with_record(t: Laid, o: usize, r: OpRecord) -> Laid
     requires { ⌜ o < mostOps ⌝ }
@@ -75,12 +88,14 @@ pub fn with_record(t: Laid, o: usize, r: OpRecord) -> Laid
     let mut costs = t.costs;
     let pre = r.pre;
     let eff = r.eff;
+    let mark = r.mark;
     let cost = r.cost;
     costs[o] = cost;
     let at = OpNo(o as u32);
-    let laid = with_row(facts, pre_row(at) as usize, pre);
+    let asked = with_row(facts, pre_row(at) as usize, pre);
+    let laid = with_row(asked, eff_row(at) as usize, eff);
     Laid {
-        facts: with_row(laid, eff_row(at) as usize, eff),
+        facts: with_mark(laid, o, mark),
         costs: costs,
     }
 }
@@ -94,6 +109,8 @@ pub fn counted(c: Counts, n: usize) -> Counts
         vars: c.vars,
         ops: ops,
         maps: c.maps,
+        edition: c.edition,
+        quota: c.quota,
     }
 }
 

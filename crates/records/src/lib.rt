@@ -12,14 +12,15 @@ use tables::Counts;
 pub mod laying;
 pub mod rows;
 
-// An operator: its cost, and a place a variable for its preconditions and its effects (0 for nothing, k + 1 for the value k).
+// An operator: its cost, a place a variable for its preconditions and its effects (0 for nothing, k + 1 for the value k), and how many tests it stores.
 pub struct OpRecord {
     pub cost: u32,
     pub pre: [u8; 8],
     pub eff: [u8; 8],
+    pub mark: u8,
 }
 
-// JUDGING a lent list of operators where the operators stand in a lent row of records: the row's length is their number, and the count of operators and the operators' rows of the facts aren't read.
+// JUDGING a lent list of operators where the operators stand in a lent row of records: the row's length is their number, and the count of operators, and of the facts the operators' rows and marks, aren't read.
 pub fn judge_records<'a, 'r>(
     c: Counts,
     facts: &'a [u8],

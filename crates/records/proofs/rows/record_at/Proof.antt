@@ -1,4 +1,4 @@
--- `rows::record_at` meets its contract: a walk of its code, by hand, since it reads through a slice of structs. The place of `rows[o]` is 20 * o past the pointer: the slice is
+-- `rows::record_at` meets its contract: a walk of its code, by hand, since it reads through a slice of structs. The place of `rows[o]` is 24 * o past the pointer: the slice is
 -- looked into, record o is taken out of the row, copied, and put back. A record is Copy: what it owns is had twice, once for the row and once for the result.
 -- Assumes nothing.
 use mathlib.Core.Path.{refl, sym}
@@ -50,7 +50,7 @@ abbrev stayed : Stays (op.ended .signature .params) (op.ended .kept)
 stayed = (stay-none-slice (0 ∷ []) tt (plain (λ _. T.the-row)) yes, (stay-none (λ _. usize) yes, tt))
 
 -- the place of a record fits, since all of them have room
-scaled : (i n : ℕ) → i < n → n * 20 < 2 ^ 63 → i * 20 < 2 ^ 64
+scaled : (i n : ℕ) → i < n → n * 24 < 2 ^ 63 → i * 24 < 2 ^ 64
 scaled i n l h = omega arith
 
 module _ {M : Type 1} (𝓤 : URA M) (H : Heap 𝓤) (A : Atoms 𝓤) (W : Given 𝓤 H A) (mem : Memory → SProp 𝓤) (run : Routine → Fun 𝓤) (κ : Lft) (q : Share) (b o : ℕ) (γ : GName) (ys : List OpRecord)
@@ -89,7 +89,7 @@ module _ {M : Type 1} (𝓤 : URA M) (H : Heap 𝓤) (A : Atoms 𝓤) (W : Given
         assigns ! (bin ! (load ! (from ! (stop !)) (look ! 6 refl)) (lit ! tt) (record { fits = scaled i (length ys) l (gn .1) })) (from ! (stop !))
         (init ! 4 refl (tt, record { fits = scaled i (length ys) l (gn .1) })) $
         assigns ! (bin ! (load ! (from ! (fld ! refl (stop !))) (look-in ! 8 (sub ! 0 refl (whole !)))) (load ! (from ! (stop !)) (look ! 4 refl)) tt) (from ! (stop !)) (init ! 2 refl (tt, tt)) $
-        rewrite ! 2 (λ (p : ℕ). ‵ (fat fullShare tyPtr l₄ 0 (vptr b p))) (sym (place-is 20 o i)) refl $
+        rewrite ! 2 (λ (p : ℕ). ‵ (fat fullShare tyPtr l₄ 0 (vptr b p))) (sym (place-is 24 o i)) refl $
         move ! (13 ∷ []) $ fsplit ! $ fsplit ! $ move ! (1 ∷ []) $ fsplit ! $ move ! (16 ∷ []) $ split ! $ move ! (3 ∷ 0 ∷ []) $
         looks-slice ! tt T.the-row (Is T.the-row) (shows 𝓤 H A T.the-row) (LL.vals T.the-type T′.the-laws) (LL.tells T.the-type T′.the-laws) (LL.copy T.the-type T′.the-copy 𝓤 H A W) ys b o (λ q′.
         elem-out ! T.the-row (Is T.the-row) (shows 𝓤 H A T.the-row) (LL.vals T.the-type T′.the-laws) (LL.tells T.the-type T′.the-laws) q′ ys i noRecord b o l (λ g.
