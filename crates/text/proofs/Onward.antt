@@ -4,10 +4,10 @@ use Prim.Native.Nat.{ℕ, _+_, _-_, _*_, _≤_, _<_, zero-le}
 use native.Mathlib.Omega.{arith}
 use mathlib.Core.Path.{_≡_, refl, sym, ap, _∙_}
 use mathlib.Core.List.{List, [], _∷_}
-use mathlib.Core.Bool.{Bool, true, false, cond}
+use mathlib.Core.Bool.{Bool, true, false}
 use lib.ListN.{length, getD, drop}
 use lib.Dec.{eqb}
-use borrow.Author.Tests.{eq-eqb, ne-eqb, eqb-true, eqb-false, le-leb, lt-ltb}
+use borrow.Author.Tests.{ne-eqb, eqb-true, le-leb, lt-ltb}
 use Rattle.tables.specs.declared.Counts.{Counts}
 use Rattle.meaning.specs.Limits.{mostCost}
 use Rattle.tables.specs.Layout.{goalPlace, prePlace, effPlace, classPlace}

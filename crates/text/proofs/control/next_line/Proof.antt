@@ -3,7 +3,6 @@ use mathlib.Core.Path.{_≡_}
 use mathlib.Core.Bool.{false}
 use lib.Dec.{eqb}
 use Rattle.text.specs.Inside.Control.{nextLine, listNo, goalList, fieldOps, fieldClass, fieldShare}
-use Rattle.text.specs.declared.Ctrl.{Ctrl}
 use borrow.Author.Needs.{needs}
 use borrow.Author.Tests.{eq-eqb, ne-eqb}
 use Rattle.text.proofs.control.next_line.Statement.{statement}

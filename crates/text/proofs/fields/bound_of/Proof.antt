@@ -1,5 +1,5 @@
 -- `text::fields::bound_of` meets its contract: the fields with a bound of their own are matched. Assumes nothing.
-use mathlib.Core.List.{List, [], _∷_}
+use mathlib.Core.List.{[], _∷_}
 use mathlib.Core.Path.{refl, sym}
 use Rattle.text.proofs.Laws.{table-else}
 use Rattle.text.specs.Inside.Fields.{limits}

@@ -1,6 +1,5 @@
 -- `text::fields::least_of` meets its contract: the fields with another least number are matched. Assumes nothing.
-use Prim.Native.Nat.{ℕ}
-use mathlib.Core.List.{List, [], _∷_}
+use mathlib.Core.List.{[], _∷_}
 use mathlib.Core.Path.{refl, sym}
 use Rattle.text.proofs.Laws.{table-else}
 use Rattle.text.specs.Inside.Fields.{leasts}

@@ -2,7 +2,7 @@
 use Rattle.text.proofs.Parts.{value-closed, value-past}
 use Rattle.text.specs.Inside.Steps.{atNumber, inValue}
 use borrow.Author.Needs.{needs}
-use borrow.Author.Tests.{eq-eqb, ne-eqb}
+use borrow.Author.Tests.{eq-eqb}
 use mathlib.Core.Logic.{⊎-elim}
 use mathlib.Core.Path.{_∙_, sym}
 use Rattle.text.proofs.step.in_value.Statement.{statement}
