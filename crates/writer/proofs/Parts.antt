@@ -8,10 +8,11 @@ use mathlib.Core.List.{List, [], _∷_, _++_, append-assoc, append-nil}
 use lib.Dec.{eqb}
 use lib.ListN.{length, getD, drop}
 use lib.Seq.{drop-cons}
-use borrow.Author.Tests.{ne-eqb}
+use borrow.Author.Tests.{eq-eqb, ne-eqb}
+use Rattle.meaning.specs.Limits.{quotaEdition}
 use Rattle.meaning.specs.Sas.{Facts}
 use Rattle.grammar.specs.Fields.{comma, dash}
-use Rattle.grammar.specs.Spelling.{digits, gap, joined, numbers, stacked, fact, anotherFact, moreFacts, firstFact, someFacts, shareText}
+use Rattle.grammar.specs.Spelling.{digits, gap, joined, numbers, stacked, spelledIn, fact, anotherFact, moreFacts, firstFact, someFacts, shareText}
 use Rattle.grammar.proofs.Decimal.{one-digit, digits-more}
 use Rattle.writer.specs.Inside.Pen.{Pen, inked, Writes, factsLeft, commaIf, saidOf}
 use Rattle.writer.proofs.Pens.{nothing, whole, after, so, turn, done}
@@ -200,3 +201,13 @@ module _ (F : Facts) (n v : ℕ) where
 
   pub facts-none : {p q r : Pen} {y : List ℕ} → n ≤ v → Writes p (dash ∷ []) r → Writes p (factsLeft false F (n - v) v) (inked q y) → Writes q y r
   facts-none h e = done e (left-none h)
+
+-- ---- what edition 2 alone spells
+
+pub second-spelled : (e : ℕ) (xs : List ℕ) → e ≡ quotaEdition → xs ≡ spelledIn e xs
+unfolding spelledIn
+second-spelled e xs h = sym (rw (eq-eqb e quotaEdition h) refl)
+
+pub first-spelled : (e : ℕ) (xs : List ℕ) → (e ≡ quotaEdition → ⊥) → [] ≡ spelledIn e xs
+unfolding spelledIn
+first-spelled e xs h = sym (rw (ne-eqb e quotaEdition h) refl)

@@ -1,7 +1,7 @@
 -- `writer::lines::put_op` meets its contract: its parts one after another. Assumes nothing.
 use borrow.Author.Needs.{needs}
 use Prim.Native.Nat.{ℕ}
-use mathlib.Core.Path.{ap}
+use mathlib.Core.Path.{ap, _∙_}
 use mathlib.Core.List.{List}
 use Rattle.tables.specs.Layout.{rowAt}
 use Rattle.grammar.specs.Spelling.{digits, someFacts, keyed, opText}
@@ -12,19 +12,31 @@ use Rattle.writer.proofs.lines.put_op.Tie as tie
 returns : tie.Need-returns
 unfolding keyed opText
 returns c =
-    let eff = c .before .before .before .before .before .before in
-    let mark = eff .before .before .before .before .before in
-    let pre = mark .before .before .before .before in
+    let mark = c .before .before .before .before .before .before in
+    let eff = mark .before .before .before .before in
+    let second = eff .before .before .before .before .before in
+    let pre = second .before .before .before .before in
     let first = pre .before .before .before .before .before in
     let cost = first .before .before .before .before in
     let start = cost .before .before .before .before .before in
     let a = start .before .before .before .before .before .before .args in
     let lists : ℕ → List ℕ = λ row. someFacts (rowAt (a .facts .now) row) (a .c .vars) 0 in
-    after
-    (after (start .put-word .ensures)
-    (after (after (so (cost .put-number .ensures) (ap digits (cost .before .cost-at .ensures))) (after (first .put .ensures) (so (pre .put-facts .ensures) (ap lists (pre .before .pre-row .ensures)))))
-    (after (mark .put2 .ensures) (so (eff .put-facts2 .ensures) (ap lists (eff .before .eff-row .ensures))))))
-    (c .before .before .put3 .ensures)
+    let pres = after (first .put .ensures) (so (pre .put-facts .ensures) (ap lists (pre .before .pre-row .ensures))) in
+    let effs = after (second .put2 .ensures) (so (eff .put-facts2 .ensures) (ap lists (eff .before .eff-row .ensures))) in
+    let costs = so (cost .put-number .ensures) (ap digits (cost .before .cost-at .ensures)) in
+    after (after (start .put-word .ensures) (after (after (after costs pres) effs) (mark .put-mark .ensures))) (c .before .before .put3 .ensures)
+
+same-length : tie.Need-same-length
+same-length c =
+    let mark = c .before .before .before .before .before .before in
+    let eff = mark .before .before .before .before in
+    let second = eff .before .before .before .before .before in
+    let pre = second .before .before .before .before in
+    let first = pre .before .before .before .before .before in
+    let cost = first .before .before .before .before in
+    let start = cost .before .before .before .before .before in
+    c .before .before .put3 .kept .0 ∙ mark .put-mark .kept .0 ∙ eff .put-facts2 .kept .0 ∙ second .put2 .kept .0 ∙ pre .put-facts .kept .0 ∙ first .put .kept .0
+    ∙ cost .put-number .kept .0 ∙ start .put-word .kept .0
 
 pub put-op-spec : {M : Type 1} → statement M
 put-op-spec =
@@ -41,5 +53,6 @@ put-op-spec =
     (λ c κs. search needs)
     (λ c κs. search needs)
     (λ c κs. search needs)
-    (λ c. search needs)
+    (λ c κs. search needs)
+    same-length
     returns)
