@@ -27,3 +27,4 @@ pub mod SpellLeft
 pub mod Writing
 pub mod Unread
 pub mod RoundTrips
+pub mod SpellEditions

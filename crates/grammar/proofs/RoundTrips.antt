@@ -6,7 +6,7 @@ use mathlib.Core.Path.{_≡_, refl, sym, ap, ap₂, _∙_, subst}
 use mathlib.Core.Bool.{true}
 use mathlib.Core.List.{List}
 use lib.Dec.{eqb}
-use lib.ListN.{length, getD, take}
+use lib.ListN.{length, getD}
 use lib.Seq.{ext-getD}
 use borrow.Author.Tests.{le-leb, eqb-true, eqb-false}
 use Rattle.meaning.proofs.Facts.{by-cases, by-order}
@@ -22,7 +22,7 @@ use Rattle.scan.proofs.Unread.{own-alike}
 use Rattle.grammar.specs.declared.Reading.the-variants.{Accepted}
 use Rattle.grammar.specs.declared.Written.the-variants.{Length}
 use Rattle.grammar.specs.Fields.{Outcome, leaves}
-use Rattle.grammar.specs.Grammar.{accepted, outcome, readText}
+use Rattle.grammar.specs.Grammar.{outcome, readText}
 use Rattle.grammar.specs.Spelling.{textOf, tablesOf, canon}
 use Rattle.grammar.specs.Writing.{textRoom, page, over, writeText}
 use Rattle.grammar.proofs.Editions.{OnlySecond, tables-by-edition, read-whole}

@@ -1,9 +1,9 @@
 -- READING ACCEPTS EXACTLY THE TEXTS THAT SPELL TASKS, and gives their tables, with 0 beyond the task's own places.
 -- What an accepted text spells passes the scan, for the scan is the grammar; and a valid task's text is accepted for the same reason. Assumes nothing.
-use Prim.Native.Nat.{ℕ, zero, suc, _+_, _<_}
+use Prim.Native.Nat.{ℕ, zero, suc, _<_}
 use native.Mathlib.Omega.{arith}
 use mathlib.Core.Path.{_≡_, refl, sym, ap, _∙_}
-use mathlib.Core.List.{List, [], _∷_, _++_}
+use mathlib.Core.List.{List, _∷_, _++_}
 use mathlib.Core.Bool.{true}
 use lib.ListN.{length, getD, length-replicate}
 use Rattle.refusals.specs.declared.Refusal.the-variants.{TableTooShort}

@@ -100,8 +100,8 @@ module _ (N : ℕ) (dom : ℕ → ℕ) where
         → BackOf (ℕ → Op e) opLines l (l + O) T (opsSpelled O) (λ op. changed (λ o. opStored e N o (op o)) O 0 T)
     unfolding opLines ask
     all-ops-back O l T w a t k W h =
-        lines-back (Op e) (record { cost = 0; pre = λ v. 0; eff = λ v. 0; mark = (0, λ z. refl) }) (λ o. textLine "op=" (operatorFields o)) (λ o b. keyed "op=" (opSpelled e N b)) (opStored e N) KnowsIn
-        knows-stored
+        lines-back (Op e) (record { cost = 0; pre = λ v. 0; eff = λ v. 0; mark = (0, λ z. refl) }) (λ o. textLine "op=" (operatorFields o)) (λ o b. keyed "op=" (opSpelled e N b))
+        (opStored e N) KnowsIn knows-stored
         (λ o i U u. line-back (Op e) "op=" (operatorFields o) i U (opSpelled e N) (λ b. opStored e N o b U) (operator-back e N o i U (u .0 .vars) (u .1))) O 0 l T w t k W
         (ap (λ (x : ℕ). textLines (λ o. textLine "op=" (operatorFields o)) x 0 t l T k) (sym a) ∙ h)
 

@@ -1,5 +1,6 @@
 -- 18 IN A WHOLE TEXT: the lines before the operators and those of the operators before this one being clean, the text is refused with 18 at its line, whatever
--- stands after its last field, and where the text ends there; and with 3 at its line where a fact names no value.
+-- stands after its last field, and where the text ends there; and with 3 at its line where a fact names no value. In edition 2 its last field is the mark: where the
+-- effects end nothing is told, and 3 and 2 for the mark come before 18.
 -- The lines before it are told one after another; then its fields decide, whatever k would say. Assumes nothing.
 use Prim.Native.Nat.{ℕ, suc, _+_, _-_, _≤_, _<_}
 use native.Mathlib.Omega.{arith}

@@ -1,5 +1,5 @@
 -- What an accepted text leaves, place by place: the number that the text names in each of the task's own places, 0 in every other, and no lent table longer or
--- shorter. The tables of the task that the text spells are there, and zeros after them. In edition 1 quota and marks are among the others. Assumes nothing.
+-- shorter. The tables of the task that the text spells are there, and zeros after them. Assumes nothing.
 use Prim.Native.Nat.{ℕ, zero, suc, _-_, _≤_, _<_}
 use native.Mathlib.Omega.{arith}
 use mathlib.Core.Path.{_≡_, refl, sym, ap, _∙_, subst}
@@ -12,10 +12,9 @@ use Rattle.meaning.specs.Limits.{mostBytes}
 use Rattle.meaning.specs.Split.{Task, Valid}
 use Rattle.meaning.proofs.Facts.{by-order}
 use Rattle.tables.specs.declared.Counts.{Counts}
-use Rattle.tables.specs.Layout.{Tables, factsRoom, costsRoom, sharesRoom, domPlace, initPlace, goalPlace, prePlace, effPlace, classPlace, markPlace, sharePlace, markAt}
-use Rattle.tables.specs.Editions.{hasQuota, readIn}
+use Rattle.tables.specs.Layout.{Tables, factsRoom, costsRoom, sharesRoom, domPlace, initPlace, goalPlace, prePlace, effPlace, classPlace, markPlace, sharePlace}
+use Rattle.tables.specs.Editions.{readIn}
 use Rattle.tables.specs.Task.{tables, taskOf}
-use Rattle.tables.proofs.Editions.{has-none}
 use Rattle.scan.specs.declared.Found.the-variants.{Clean}
 use Rattle.scan.specs.Scan.{taskFault}
 use Rattle.grammar.specs.declared.Reading.the-variants.{Accepted, Refused}
@@ -23,7 +22,6 @@ use Rattle.grammar.specs.Fields.{Outcome, leaves, filled, admitted}
 use Rattle.grammar.specs.Grammar.{Verdict, accepted, refused, outcome, verdict, readText}
 use Rattle.grammar.specs.Spelling.{spelled, tablesOf}
 use Rattle.grammar.proofs.Editions.{ByEdition, tables-by-edition}
-use Rattle.grammar.proofs.Runs.{clash}
 use Rattle.grammar.proofs.Admission.{not-accepted, facts-short, costs-short, shares-short, accepted-outcome}
 use Rattle.grammar.proofs.SpellTables.{zeros, long-row}
 use Rattle.grammar.proofs.SpellOwn.{long-facts-of, long-shares-of}
@@ -141,40 +139,6 @@ pub accepted-short : (x f c s : List ℕ) (n : Counts) → readText x f c s .ans
 accepted-short x f c s n h =
     let t = accepted-task-of x f c s n h in
     subst (λ (y : List ℕ). length y ≤ 10588) (sym (t .1)) (spelled-short (t .0) (t .2))
-
--- ---- EDITION 1 LEAVES 0: as quota, and in the place of every mark
-
--- its marks are none of the task's own places
-first-not-own : (τ : Task) → Valid τ → hasQuota (τ .edition) ≡ false → (o : ℕ) → NotOwn τ (markPlace o)
-first-not-own τ k h o =
-    let few = k .vars .1 in
-    let ops = k .ops in
-    let maps = k .maps .1 in
-    record {
-      dom = λ v l e. omega arith;
-      init = λ v l e. omega arith;
-      goal = λ v l e. omega arith;
-      pre = λ i v b l e. omega arith;
-      eff = λ i v b l e. omega arith;
-      class = λ m v x b l g e. let most = k .values v l in omega arith;
-      mark = λ i l s e. clash s h;
-    }
-
-pub first-read-zero : (x f c s : List ℕ) (n : Counts) → readText x f c s .answer ≡ Accepted n → n .edition ≡ 1
-    → (n .quota ≡ 0) × ((o : ℕ) → markAt (readText x f c s .facts) o ≡ 0)
-unfolding tablesOf
-first-read-zero x f c s n h e =
-    let t = accepted-task-of x f c s n h in
-    let τ = t .0 in
-    let N = accepted-named x f c s n h τ (t .1) (t .3) in
-    let same : tablesOf τ .counts ≡ n = counts-of (sym (N .answer) ∙ h) in
-    let first : hasQuota (τ .edition) ≡ false = ap (λ (u : Counts). hasQuota (u .edition)) same ∙ ap hasQuota e in (
-      ap (λ (u : Counts). u .quota) (sym same) ∙ has-none (τ .edition) (τ .quota) first,
-      λ o. N .facts-beyond (markPlace o) (first-not-own τ (t .2) first o),
-    )
-  where
-    counts-of : {a b : Counts} → Accepted a ≡ Accepted b → a ≡ b
-    counts-of p = cc
 
 -- ---- WHAT STOOD IN THE LENT TABLES DOESN'T MATTER: tables of the same lengths get the same answer, and the same numbers where it is accepted
 

@@ -33,7 +33,7 @@ use Rattle.tables.proofs.Editions.{has-read, has-none, lines-second, lines-firs
 
 -- ---- ranges as the grammar and as the scan have them
 
-within-range : (v least most : ℕ) → fits v least (suc most) ≡ scanWithin least most v
+pub within-range : (v least most : ℕ) → fits v least (suc most) ≡ scanWithin least most v
 unfolding fits
 within-range v least most = go (leb least v)
   where

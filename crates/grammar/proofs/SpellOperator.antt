@@ -1,10 +1,10 @@
--- An operator's fields on what is spelled, whatever part of the grammar comes after them: the rules of its cost, its preconditions and its effects, one after
--- another, and the numbers in their places. And what is asked at its end: its rows held 0 before, so that they hold its facts now, and the tables have it idle
+-- An operator's fields on what is spelled, whatever part of the grammar comes after them: the rules of its cost, its preconditions, its effects and its mark, one
+-- after another, and the numbers in their places. And what is asked at its end: its rows held 0 before, so that they hold its facts now, and the tables have it idle
 -- exactly if the task does. Assumes nothing.
 use Prim.Native.Nat.{ℕ, _+_, _≤_, _<_}
 use native.Mathlib.Omega.{arith}
 use mathlib.Core.Path.{_≡_, refl, ap, ap₂, _∙_}
-use mathlib.Core.List.{List, [], _∷_, _++_, append-assoc}
+use mathlib.Core.List.{List, [], _∷_, _++_}
 use mathlib.Core.Bool.{true, not}
 use lib.Dec.{leb}
 use lib.ListN.{length}

@@ -20,11 +20,11 @@ use Rattle.scan.specs.Inside.Parts.{headFault}
 use Rattle.scan.specs.Scan.{unless, _then_, each, factsFault, operatorFault, mapFault, sharesFault, splitFault, taskFault, roomy, tablesFault, within as scanWithin}
 use Rattle.scan.proofs.Rules.{within-says, few-vars, few-values, few-ops}
 use Rattle.scan.proofs.Walks.{then-then, rule-held}
-use Rattle.grammar.specs.Grammar.{Verdict, accepted, Rest, Part, _▸_, ask, textLine, operatorFields, opLines, mapsLine, mapClasses, mapLines, amounts}
+use Rattle.grammar.specs.Grammar.{Verdict, accepted, Rest, Part, _▸_, ask, textLine, quotaLine, opsLine, operatorFields, opLines, mapsLine, mapClasses, mapLines, amounts}
 use Rattle.grammar.specs.Grammar.{shareLines, taskLines, settled, theEnd, noTask, verdict}
 use Rattle.grammar.specs.Spelling.{digits, numbers, someFacts, keyed, stacked, opText, mapText, shareText, spelled, textOf, changed, rowPut, opRows, mapRows, headRows, tablesOf, canon}
 use Rattle.grammar.proofs.Editions.{ByEdition, tables-by-edition}
-use Rattle.grammar.proofs.SpellParts.{judged, next, ToldLine, lines-told}
+use Rattle.grammar.proofs.SpellParts.{judged, judged-by, next, ToldLine, lines-told}
 use Rattle.grammar.proofs.SpellFacts.{on, on-changed, knows-row, knows-facts, knows-changed}
 use Rattle.grammar.proofs.SpellTables.{long-changed, writes-row, zeros}
 use Rattle.grammar.proofs.SpellOwn.{Small, long-head, long-op, spares-head, costs-own, shares-own}
@@ -140,14 +140,16 @@ module _ (τ : Task) where
       (λ m U. Unit {0}) (τ .maps) line (λ m. omega arith) (λ m U l u. tt) (λ m U u l v. share-told τ m U u) rest T tt k
       ∙ ap (λ (U : Tables). judged (each (sharesFault τ) (τ .maps) 0) (k rest (line (τ .maps)) U)) (shares-changed shareRow (τ .maps) 0 T)
 
-  -- the lines before the operators, and what follows them
-  abbrev pub headText : List ℕ → List ℕ
-  headText rest =
+  -- the lines before the quota, and what follows them; the same before the operators
+  abbrev pub frontText : List ℕ → List ℕ
+  frontText rest =
       keyed "edition=" (digits (τ .edition))
       ++ (keyed "vars=" (digits (τ .sas .vars))
       ++ (keyed "dom=" (numbers (τ .sas .dom) (τ .sas .vars))
-      ++ (keyed "init=" (numbers (τ .sas .init) (τ .sas .vars))
-      ++ (keyed "goal=" (someFacts (τ .sas .goal) (τ .sas .vars) 0) ++ (quotaText τ ++ (keyed "ops=" (digits (τ .sas .ops)) ++ rest))))))
+      ++ (keyed "init=" (numbers (τ .sas .init) (τ .sas .vars)) ++ (keyed "goal=" (someFacts (τ .sas .goal) (τ .sas .vars) 0) ++ rest))))
+
+  abbrev pub headText : List ℕ → List ℕ
+  headText rest = frontText (quotaText τ ++ (keyed "ops=" (digits (τ .sas .ops)) ++ rest))
 
   abbrev pub linesText : List ℕ
   linesText = headText (opsText ++ (keyed "maps=" (digits (τ .maps)) ++ (mapsText ++ (sharesText ++ []))))
@@ -163,6 +165,33 @@ module _ (τ : Task) where
 
 pub at-most : (least most x : ℕ) (r : Refusal) → unless (scanWithin least most x) r ≡ Clean → x ≤ most
 at-most least most x r q = within-says least most x (rule-held (scanWithin least most x) r q) .1
+
+-- what the scan says of each line before the operators
+module _ (τ : Task) where
+  abbrev editionRule : Found
+  editionRule = unless (scanWithin 1 mostEdition (τ .edition)) (OutOfRange lineOfEdition)
+
+  abbrev varsRule : Found
+  varsRule = unless (scanWithin 1 mostVars (τ .sas .vars)) (OutOfRange lineOfVars)
+
+  abbrev domRules : Found
+  domRules = each (λ v. unless (scanWithin 1 mostValues (τ .sas .dom v)) (OutOfRange lineOfDom)) (τ .sas .vars) 0
+
+  abbrev initRules : Found
+  initRules = each (λ v. unless (ltb (τ .sas .init v) (τ .sas .dom v)) (OutOfRange lineOfInit)) (τ .sas .vars) 0
+
+  abbrev goalRules : Found
+  goalRules = factsFault τ (τ .sas .goal) lineOfGoal
+
+  abbrev quotaRule : Found
+  quotaRule = unless (leb (τ .quota) mostQuota) (OutOfRange lineOfQuota)
+
+  abbrev opsRule : Found
+  opsRule = unless (leb (τ .sas .ops) mostOps) (OutOfRange (lineOfOps (τ .edition)))
+
+  -- up to the goal
+  abbrev pub frontFault : Found
+  frontFault = editionRule then varsRule then domRules then initRules then goalRules
 
 -- from tables of this length, in which no fact stands yet
 module _ (τ : Task) (f c h : List ℕ) (lf : length f ≡ factsRoom) (none : (p : ℕ) → getD f p 0 ≡ 0) (lc : length c ≡ costsRoom) (lh : length h ≡ sharesRoom) where
@@ -182,7 +211,7 @@ module _ (τ : Task) (f c h : List ℕ) (lf : length f ≡ factsRoom) (none : (p
   unfolding theEnd
   end-told l s =
       settled-judged (each (splitFault (taskOf allDone)) (τ .sas .ops) 0) allDone
-      ∙ ap (λ (f : Found). judged f (accepted allDone)) (each-same (splitFault (taskOf allDone)) (splitFault τ) (τ .sas .ops) 0 (λ o a b. split-same o s (omega arith)))
+      ∙ judged-by (accepted allDone) (each-same (splitFault (taskOf allDone)) (splitFault τ) (τ .sas .ops) 0 (λ o a b. split-same o s (omega arith)))
 
   -- what is known once dom=, init= and goal= are read, whatever the other counts are
   module _ (o m q : ℕ) (a : τ .sas .vars ≤ mostVars) where
@@ -221,37 +250,44 @@ module _ (τ : Task) (f c h : List ℕ) (lf : length f ≡ factsRoom) (none : (p
 
   -- ---- line by line: what the scan says of it, and if that is clean what follows
 
-  -- from the operators on
+  -- from the quota on, and from the operators on
+  abbrev pub fromQuota : List ℕ → Verdict
+  fromQuota rest =
+      (quotaLine ▸ opsLine ▸ opLines ▸ mapsLine ▸ mapLines ▸ shareLines) rest lineOfQuota (made (τ .sas .vars) 0 0 (τ .edition) 0 headDone c h) theEnd
+
   abbrev pub fromOps : List ℕ → Verdict
   fromOps rest = (opLines ▸ mapsLine ▸ mapLines ▸ shareLines) rest (lineOfOp (τ .edition) 0) (sofar τ (τ .sas .ops) 0 headDone c h) theEnd
 
+  -- the lines before it, whatever is judged then
+  pub front-judged : (rest : List ℕ) (F : Found) (A : Verdict) → (frontFault τ ≡ Clean → fromQuota rest ≡ judged F A)
+      → taskLines (frontText τ rest) lineOfEdition (made 0 0 0 0 0 f c h) theEnd ≡ judged (frontFault τ then F) A
+  unfolding taskLines headRows _▸_
+  front-judged rest F A ok =
+      let e = τ .edition in
+      let N = τ .sas .vars in
+      let all : editionRule τ then varsRule τ then domRules τ then initRules τ then goalRules τ then F ≡ frontFault τ then F = simp then-then in
+      next (editionRule τ) _ _ (edition-told _ lineOfEdition (made 0 0 0 0 0 f c h) e _)
+      (λ t. next (varsRule τ) _ _ (vars-told _ lineOfVars (made 0 0 0 e 0 f c h) N _)
+      (λ q. let a = at-most 1 mostVars N (OutOfRange lineOfVars) q in
+      next (domRules τ) _ _ (dom-told τ _ lineOfDom (made N 0 0 e 0 f c h) refl _)
+      (λ d. next (initRules τ) _ _ (init-told τ _ lineOfInit _ (known-doms 0 0 0 a) _)
+      (λ i. next (goalRules τ) F A (goal-told τ _ lineOfGoal _ (known-init 0 0 0 a) _) (λ g. ok (rw (t, q, d, i, g) refl))))))
+      ∙ judged-by A all
+
   module _ (by : ByEdition τ) where
-    -- the lines before them, whatever is judged then
+    -- the lines before the operators
     pub head-judged : (rest : List ℕ) (F : Found) (A : Verdict) → (headFault τ ≡ Clean → fromOps rest ≡ judged F A)
         → taskLines (headText τ rest) lineOfEdition (made 0 0 0 0 0 f c h) theEnd ≡ judged (headFault τ then F) A
-    unfolding taskLines headFault headRows _▸_
+    unfolding headFault _▸_
     head-judged rest F A ok =
         let e = τ .edition in
-        let N = τ .sas .vars in
-        let O = τ .sas .ops in
-        let edition = unless (scanWithin 1 mostEdition e) (OutOfRange lineOfEdition) in
-        let vars = unless (scanWithin 1 mostVars N) (OutOfRange lineOfVars) in
-        let doms = each (λ u. unless (scanWithin 1 mostValues (τ .sas .dom u)) (OutOfRange lineOfDom)) N 0 in
-        let inits = each (λ u. unless (ltb (τ .sas .init u) (τ .sas .dom u)) (OutOfRange lineOfInit)) N 0 in
-        let goals = factsFault τ (τ .sas .goal) lineOfGoal in
-        let quota = unless (leb (τ .quota) mostQuota) (OutOfRange lineOfQuota) in
-        let ops = unless (leb O mostOps) (OutOfRange (lineOfOps e)) in
         let toOps : lineOfOps e + 1 ≡ lineOfOp e 0 = omega arith in
-        let all : edition then vars then doms then inits then goals then quota then ops then F ≡ headFault τ then F = simp then-then in
-        next edition _ _ (edition-told _ lineOfEdition (made 0 0 0 0 0 f c h) e _)
-        (λ t. next vars _ _ (vars-told _ lineOfVars (made 0 0 0 e 0 f c h) N _)
-        (λ q. let a = at-most 1 mostVars N (OutOfRange lineOfVars) q in
-        next doms _ _ (dom-told τ _ lineOfDom (made N 0 0 e 0 f c h) refl _)
-        (λ d. next inits _ _ (init-told τ _ lineOfInit _ (known-doms 0 0 0 a) _)
-        (λ i. next goals _ _ (goal-told τ _ lineOfGoal _ (known-init 0 0 0 a) _)
-        (λ g. next quota _ _ (quota-told τ by _ lineOfQuota (made N 0 0 e 0 headDone c h) refl refl _)
-        (λ x. next ops F A (ops-told _ (lineOfOps e) (sofar τ 0 0 headDone c h) O _) (λ p. rw toOps (ok (rw (t, q, d, i, g, x, p) refl)))))))))
-        ∙ ap (λ (x : Found). judged x A) all
+        let head : frontFault τ then quotaRule τ then opsRule τ ≡ headFault τ = simp then-then in
+        let all : frontFault τ then quotaRule τ then opsRule τ then F ≡ headFault τ then F = simp then-then in
+        front-judged _ (quotaRule τ then opsRule τ then F) A
+        (λ front. next (quotaRule τ) _ _ (quota-told τ by _ lineOfQuota (made (τ .sas .vars) 0 0 e 0 headDone c h) refl refl _)
+        (λ q. next (opsRule τ) F A (ops-told _ (lineOfOps e) (sofar τ 0 0 headDone c h) (τ .sas .ops) _) (λ o. rw toOps (ok (sym head ∙ rw (front, q, o) refl)))))
+        ∙ judged-by A all
 
     lines-judged : taskLines (linesText τ) lineOfEdition (made 0 0 0 0 0 f c h) theEnd ≡ judged (taskFault τ) (accepted allDone)
     unfolding taskFault headFault _▸_
@@ -274,7 +310,7 @@ module _ (τ : Task) (f c h : List ℕ) (lf : length f ≡ factsRoom) (none : (p
         (λ x. let s : Small τ = record { vars = a; doms = few-values τ head; ops = few-ops τ head; maps = at-most 1 mostMaps M (OutOfRange (lineOfMaps e O)) x } in
         rw toMaps (next maps _ _ (all-maps τ (opsDone τ headDone) (costsDone τ c) h _ _ s (ready-maps a))
         (λ y. rw toShares (next shares _ _ (all-shares τ (mapsDone τ (opsDone τ headDone)) (costsDone τ c) h [] theEnd) (λ z. end-told _ s)))))))
-        ∙ ap (λ (x : Found). judged x (accepted allDone)) all
+        ∙ judged-by (accepted allDone) all
 
 -- THE SCAN IS THE GRAMMAR, for a task as its edition has it
 pub spelled-judged : (τ : Task) → ByEdition τ → verdict (spelled τ) ≡ judged (taskFault τ) (accepted (tablesOf τ))
@@ -289,7 +325,7 @@ pub scan-is-grammar : (t : Tables) → verdict (textOf t) ≡ judged (taskFault 
 scan-is-grammar t = spelled-judged (taskOf t) (tables-by-edition t)
 
 pub clean-accepted : (t : Tables) → taskFault (taskOf t) ≡ Clean → verdict (textOf t) ≡ accepted (canon t)
-clean-accepted t p = scan-is-grammar t ∙ ap (λ (f : Found). judged f (accepted (canon t))) p
+clean-accepted t p = scan-is-grammar t ∙ judged-by (accepted (canon t)) p
 
 -- with room for a task the whole judgement of handed-in tables is that of the text
 pub tables-judged : (t : Tables) → roomy t ≡ true → verdict (textOf t) ≡ judged (tablesFault t) (accepted (canon t))

@@ -3,7 +3,6 @@
 use Prim.Native.Nat.{ℕ, _+_, _-_, _≤_, _<_}
 use native.Mathlib.Omega.{arith}
 use mathlib.Core.Path.{_≡_, refl, sym, ap, _∙_}
-use mathlib.Core.Bool.{Bool, true, false}
 use mathlib.Core.List.{List}
 use lib.Dec.{leb}
 use lib.ListN.{length, getD, take, drop, length-append, length-drop}
@@ -20,7 +19,7 @@ use Rattle.scan.proofs.Walks.{clean-first, clean-next, rule-held}
 use Rattle.scan.proofs.Validity.{clean-valid}
 use Rattle.grammar.specs.declared.Written.the-variants.{Length, Refused}
 use Rattle.grammar.specs.Spelling.{textOf}
-use Rattle.grammar.specs.Writing.{textRoom, Page, page, over, writeFault, onPage, writeText}
+use Rattle.grammar.specs.Writing.{textRoom, page, over, writeFault, onPage, writeText}
 use Rattle.grammar.proofs.SpellOwn.{Small}
 use Rattle.grammar.proofs.SpellAccepted.{clean-small}
 use Rattle.grammar.proofs.SpellShort.{spelled-short}
