@@ -7,8 +7,8 @@ use lib.ListN.{length}
 use Rattle.tables.specs.declared.Counts.{Counts}
 use Rattle.tables.specs.Layout.{factsRoom, sharesRoom, domAt, initAt, goalAt, classAt, shareAt}
 
--- two contents of the facts and the shares both have room or neither, and agree at the own places of a task of n operators; the operators' rows and marks may differ. Edition and quota
--- are handed over with the counts
+-- two contents of the facts and the shares both have room or neither, and agree at the own places of a task of n operators; the operators' rows and marks may
+-- differ. Edition and quota are handed over with the counts
 pub record OwnBeside (c : Counts) (n : ℕ) (f g s z : List ℕ) : Type 0 where
   pub facts-room : leb factsRoom (length f) ≡ leb factsRoom (length g)
   pub shares-room : leb sharesRoom (length s) ≡ leb sharesRoom (length z)

@@ -1,4 +1,5 @@
-// The entry over a lent row of records, run: case A with its operators in a row, and what is answered for some lists of operators.
+// The entry over a lent row of records, run: case A with its operators in a row, and what is answered for some lists of operators; then the same in edition 2,
+// at a quota that is too small, and at one that is just reached.
 use io::print_decimal;
 use io::write_all;
 use lent_rows::judge_first;
@@ -54,41 +55,61 @@ fn shares_of_a() -> [u32; 512] {
     shares
 }
 
-// Case A's operators as a row; the records after them aren't lent.
+// Case A's operators as a row; the records after them aren't lent. Operators 1 and 2 store a test, which edition 1 doesn't read.
 fn row_of_a() -> [OpRecord; 80] {
     let first = OpRecord {
         cost: 1,
         pre: [1, 0, 0, 0, 0, 0, 0, 0],
         eff: [2, 0, 0, 0, 0, 0, 0, 0],
+        mark: 0,
     };
     let mut rows = [first; 80];
     rows[1] = OpRecord {
         cost: 1,
         pre: [0, 1, 1, 0, 0, 0, 0, 0],
         eff: [0, 2, 2, 0, 0, 0, 0, 0],
+        mark: 1,
     };
     rows[2] = OpRecord {
         cost: 1,
         pre: [0, 2, 0, 0, 0, 0, 0, 0],
         eff: [0, 3, 0, 0, 0, 0, 0, 0],
+        mark: 1,
     };
     rows[3] = OpRecord {
         cost: 1,
         pre: [0, 0, 2, 0, 0, 0, 0, 0],
         eff: [0, 0, 3, 0, 0, 0, 0, 0],
+        mark: 0,
     };
     rows
 }
 
-// What is answered for a list of operators from the initial state; the count of operators isn't read.
-fn say_list<'a>(facts: &'a [u8], shares: &'a [u32], ops: &'a [u32]) {
+// What is answered for a list of operators from the initial state, by the counts of case A in an edition, with a quota; the count of operators isn't read.
+fn say_in<'a>(edition: u32, quota: u32, facts: &'a [u8], shares: &'a [u32], ops: &'a [u32]) {
     let c = Counts {
         vars: 3,
         ops: 0,
         maps: 3,
+        edition: edition,
+        quota: quota,
     };
     let start = [0u8; 3];
     say_judged(judge_first(c, facts, shares, row_of_a(), 4, &start, ops));
+}
+
+// The same in edition 1.
+fn say_list<'a>(facts: &'a [u8], shares: &'a [u32], ops: &'a [u32]) {
+    say_in(1, 0, facts, shares, ops);
+}
+
+// A list with two storing steps in edition 2: beyond its quota, and at it.
+fn say_quotas() {
+    let facts = facts_of_a();
+    let shares = shares_of_a();
+    let whole = [0u32, 1, 2, 3];
+    say_in(2, 1, &facts, &shares, &whole);
+    say_in(2, 2, &facts, &shares, &whole);
 }
 
 fn main() {
@@ -106,4 +127,5 @@ fn main() {
     // facts that lack a place
     let short = [0u8; 1623];
     say_list(&short, &shares, &whole);
+    say_quotas();
 }

@@ -1,5 +1,5 @@
--- The first moment a goal holds: what the walk up to it finds is the shortest opening part that passes, and so the cheapest. It keeps the quota; where the
--- quota is gone beyond before, the list is out. Assumes nothing.
+-- The first moment a goal holds: what the walk up to it finds is the shortest opening part that passes, and so the cheapest, and it keeps the quota; a list that
+-- stores beyond the quota before that moment is out. Assumes nothing.
 use Prim.Native.Nat.{ℕ, zero, suc, _+_, _≤_, _<_}
 use mathlib.Core.Path.{_≡_, refl, sym, _∙_, subst}
 use mathlib.Core.Bool.{true, false, false≢true}
