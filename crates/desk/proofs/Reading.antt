@@ -12,6 +12,7 @@ use Rattle.grammar.specs.Fields.{Outcome}
 use Rattle.grammar.specs.Grammar.{readText}
 use Rattle.grammar.specs.Spelling.{spelled}
 use Rattle.grammar.proofs.Admission.{refused-leaves}
+use Rattle.grammar.proofs.Editions.{ByEdition}
 use Rattle.grammar.proofs.SpellLeft.{Named, accepted-named, accepted-task-of, accepted-short}
 
 module _ (task facts costs shares : List ℕ) (x : Outcome) (h : x ≡ readText task facts costs shares) where
@@ -24,13 +25,13 @@ module _ (task facts costs shares : List ℕ) (x : Outcome) (h : x ≡ readText 
     abbrev answers : readText task facts costs shares .answer ≡ Accepted n
     answers = ap (λ (o : Outcome). o .answer) (sym h) ∙ e
 
-    -- the text spells a valid task, and is short
-    pub read-spells : (τ : Task) × (task ≡ spelled τ) × Valid τ
+    -- the text spells a valid task, whose quota and marks are 0 in edition 1, and is short
+    pub read-spells : (τ : Task) × (task ≡ spelled τ) × Valid τ × ByEdition τ
     read-spells = accepted-task-of task facts costs shares n answers
 
     pub read-short : length task ≤ 10588
     read-short = accepted-short task facts costs shares n answers
 
     -- whichever task it spells: place by place
-    pub read-named : (τ : Task) → task ≡ spelled τ → Named τ facts costs shares x
-    read-named τ p = subst (Named τ facts costs shares) (sym h) (accepted-named task facts costs shares n answers τ p)
+    pub read-named : (τ : Task) → task ≡ spelled τ → ByEdition τ → Named τ facts costs shares x
+    read-named τ p b = subst (Named τ facts costs shares) (sym h) (accepted-named task facts costs shares n answers τ p b)
