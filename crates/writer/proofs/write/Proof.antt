@@ -9,7 +9,6 @@ use Rattle.tables.specs.Layout.{Tables}
 use Rattle.scan.specs.declared.Found.the-variants.{Clean}
 use Rattle.scan.specs.Scan.{tablesFault}
 use Rattle.grammar.specs.declared.Written.the-variants.{Length}
-use Rattle.grammar.specs.Fields.{edition}
 use Rattle.grammar.specs.Spelling.{textOf}
 use Rattle.grammar.specs.Writing.{textRoom, page, over}
 use Rattle.grammar.proofs.Writing.{tables-small, text-short, short-buffer, fault-told, tables-written}
@@ -19,10 +18,10 @@ use Rattle.writer.proofs.write.Statement.{statement}
 use Rattle.writer.proofs.write.Tie as tie
 
 -- a clean task's text, once it is written: the place after it, and what stands in the buffer
-laid : (t : Tables) {b : List ℕ} {n : ℕ} {o : List ℕ} → Writes (pen 0 b) (textOf edition t) (pen n o) → textRoom ≤ length b → tablesFault t ≡ Clean
-    → (n ≡ length (textOf edition t)) × (o ≡ over (textOf edition t) b)
+laid : (t : Tables) {b : List ℕ} {n : ℕ} {o : List ℕ} → Writes (pen 0 b) (textOf t) (pen n o) → textRoom ≤ length b → tablesFault t ≡ Clean
+    → (n ≡ length (textOf t)) × (o ≡ over (textOf t) b)
 laid t {b = b} e h p =
-    let l = e .leaves ∙ pen-over b (textOf edition t) (omega (arith, text-short t p)) in
+    let l = e .leaves ∙ pen-over b (textOf t) (omega (arith, text-short t p)) in
     (ap (λ (q : Pen). q .at) l, ap (λ (q : Pen). q .bytes) l)
 
 returns-2 : tie.Need-returns-2
