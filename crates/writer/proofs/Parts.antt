@@ -3,8 +3,8 @@
 use Prim.Native.Nat.{ℕ, zero, suc, _+_, _-_, _*_, _/_, _%_, _≤_, _<_}
 use native.Mathlib.Omega.{arith}
 use mathlib.Core.Path.{_≡_, refl, sym, ap, _∙_}
-use mathlib.Core.Bool.{Bool, true, false, cond, not, _||_}
-use mathlib.Core.List.{List, [], _∷_, _++_, append-assoc, append-nil}
+use mathlib.Core.Bool.{Bool, true, false, not, _||_}
+use mathlib.Core.List.{List, [], _∷_, _++_}
 use lib.Dec.{eqb}
 use lib.ListN.{length, getD, drop}
 use lib.Seq.{drop-cons}
@@ -12,8 +12,9 @@ use borrow.Author.Tests.{eq-eqb, ne-eqb}
 use Rattle.meaning.specs.Limits.{quotaEdition}
 use Rattle.meaning.specs.Sas.{Facts}
 use Rattle.grammar.specs.Fields.{comma, dash}
-use Rattle.grammar.specs.Spelling.{digits, gap, joined, numbers, stacked, spelledIn, fact, anotherFact, moreFacts, firstFact, someFacts, shareText}
+use Rattle.grammar.specs.Spelling.{digits, gap, joined, numbers, stacked, fact, anotherFact, moreFacts, firstFact, someFacts, spelledIn, shareText}
 use Rattle.grammar.proofs.Decimal.{one-digit, digits-more}
+use Rattle.grammar.proofs.Editions.{second-spells, first-spells-nothing}
 use Rattle.writer.specs.Inside.Pen.{Pen, inked, Writes, factsLeft, commaIf, saidOf}
 use Rattle.writer.proofs.Pens.{nothing, whole, after, so, turn, done}
 
@@ -122,6 +123,13 @@ pub shares-some : (share : ℕ → ℕ) (n : ℕ) → (n ≡ 0 → ⊥) → numb
 unfolding shareText
 shares-some share zero h = absurd (h refl)
 shares-some share (suc n) h = refl
+
+-- what edition 2 alone has
+pub second-spelled : (e : ℕ) (x y : List ℕ) → e ≡ quotaEdition → x ≡ y → x ≡ spelledIn e y
+second-spelled e x y h q = q ∙ sym (second-spells e y (eq-eqb e quotaEdition h))
+
+pub first-spelled : (e : ℕ) (y : List ℕ) → (e ≡ quotaEdition → ⊥) → [] ≡ spelledIn e y
+first-spelled e y h = sym (first-spells-nothing e y (ne-eqb e quotaEdition h))
 
 -- ---- lines
 

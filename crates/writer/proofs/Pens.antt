@@ -4,9 +4,11 @@ use Prim.Native.Nat.{ℕ, _+_, _≤_, _<_}
 use native.Mathlib.Omega.{arith}
 use mathlib.Core.Path.{_≡_, refl, sym, ap, ap₂, _∙_}
 use mathlib.Core.List.{List, [], _∷_, _++_, append-assoc, append-nil}
-use lib.ListN.{length, set, length-append}
+use lib.Dec.{ltb}
+use lib.ListN.{length, set, length-append, length-set}
 use lib.Seq.{set-at}
 use borrow.Author.Tests.{lt-ltb, le-ltb}
+use Rattle.meaning.proofs.Facts.{by-cases}
 use Rattle.grammar.specs.Writing.{over}
 use Rattle.writer.specs.Inside.Pen.{Pen, pen, stroke, inked, Writes}
 
@@ -37,6 +39,21 @@ after {p = p} {x = x} {y = y} e f = record { leaves = f .leaves ∙ ap (λ (s : 
 -- the same text, said otherwise
 pub so : {p q : Pen} {x y : List ℕ} → Writes p x q → x ≡ y → Writes p y q
 so {p = p} e f = record { leaves = e .leaves ∙ ap (inked p) f }
+
+-- ---- however much is written, the buffer stays as long as it was
+
+stroke-long : (p : Pen) (x : ℕ) → length (stroke p x .bytes) ≡ length (p .bytes)
+unfolding stroke
+stroke-long p x =
+    by-cases (ltb (p .at) (length (p .bytes))) (λ h. rw h (length-set (p .bytes) (p .at) x)) (λ h. rw h refl)
+
+inked-long : (p : Pen) (x : List ℕ) → length (inked p x .bytes) ≡ length (p .bytes)
+unfolding inked
+inked-long p [] = refl
+inked-long p (b ∷ x) = inked-long (stroke p b) x ∙ stroke-long p b
+
+pub kept-long : {p q : Pen} {x : List ℕ} → Writes p x q → length (q .bytes) ≡ length (p .bytes)
+kept-long {p = p} {x = x} e = ap (λ (q : Pen). length (q .bytes)) (e .leaves) ∙ inked-long p x
 
 -- ---- a loop: writing what is left leaves what the whole leaves
 

@@ -1,8 +1,7 @@
 -- `writer::put_task` meets its contract: its lines one after another. Assumes nothing.
-use mathlib.Core.Path.{_∙_}
 use borrow.Author.Needs.{needs}
 use Rattle.grammar.specs.Spelling.{keyed, opText, mapText, spelled}
-use Rattle.writer.proofs.Pens.{after}
+use Rattle.writer.proofs.Pens.{after, kept-long}
 use Rattle.writer.proofs.put_task.Statement.{statement}
 use Rattle.writer.proofs.put_task.Tie as tie
 
@@ -20,27 +19,17 @@ returns c =
     let vars = dom .before .before .before .before .before in
     let first = vars .before .before .before .before .before in
     let head = after (after (after (first .put-count .ensures) (vars .put-count2 .ensures)) (dom .put-values .ensures)) (init .put-values2 .ensures) in
-    let body = after (after (after (after head (goal .put-goal .ensures)) (quota .put-quota .ensures)) (number .put-count3 .ensures)) (ops .put-ops .ensures) in
+    let front = after (after head (goal .put-goal .ensures)) (quota .put-quota .ensures) in
+    let body = after (after front (number .put-count3 .ensures)) (ops .put-ops .ensures) in
     after (after (after body (count .put-count4 .ensures)) (maps .put-maps .ensures)) (c .before .before .put-split .ensures)
 
 same-length : tie.Need-same-length
-same-length c =
-    let maps = c .before .before .before .before .before .before in
-    let count = maps .before .before .before .before in
-    let ops = count .before .before .before .before .before in
-    let number = ops .before .before .before .before in
-    let quota = number .before .before .before .before .before in
-    let goal = quota .before .before .before .before in
-    let init = goal .before .before .before .before in
-    let dom = init .before .before .before .before .before in
-    let vars = dom .before .before .before .before .before in
-    let first = vars .before .before .before .before .before in
-    c .before .before .put-split .kept .0 ∙ maps .put-maps .kept .0 ∙ count .put-count4 .kept .0 ∙ ops .put-ops .kept .0 ∙ number .put-count3 .kept .0
-    ∙ quota .put-quota .kept .0 ∙ goal .put-goal .kept .0 ∙ init .put-values2 .kept .0 ∙ dom .put-values .kept .0 ∙ vars .put-count2 .kept .0 ∙ first .put-count .kept .0
+same-length c = kept-long (returns c)
 
 put-ops-requires : tie.Need-put-ops-requires
 put-ops-requires c κs =
-    let goal = c .before .before .before .before .before .before .before .before .before .before .before .before in
+    let quota = c .before .before .before .before .before .before .before .before in
+    let goal = quota .before .before .before .before in
     let dom = goal .before .before .before .before .before .before .before .before .before in
     let first = dom .before .before .before .before .before .before .before .before .before .before in
     first .before .before .before .before .before .before .before .pre .1
@@ -48,7 +37,8 @@ put-ops-requires c κs =
 put-maps-requires : tie.Need-put-maps-requires
 put-maps-requires c κs =
     let ops = c .before .before .before .before .before .before .before .before in
-    let goal = ops .before .before .before .before .before .before .before .before .before .before .before .before .before in
+    let quota = ops .before .before .before .before .before .before .before .before .before in
+    let goal = quota .before .before .before .before in
     let dom = goal .before .before .before .before .before .before .before .before .before in
     let p = dom .before .before .before .before .before .before .before .before .before .before .before .before .before .before .before .before .before .pre in
     (p .0, p .2)

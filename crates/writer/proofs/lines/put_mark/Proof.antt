@@ -1,7 +1,9 @@
--- `writer::lines::put_mark` meets its contract: a semicolon and the mark in edition 2, and else nothing. Assumes nothing.
-use borrow.Author.Needs.{needs}
-use mathlib.Core.Path.{ap, _∙_}
+-- `writer::lines::put_mark` meets its contract: by whether the edition has marks. Assumes nothing.
 use Prim.Native.Nat.{ℕ}
+use mathlib.Core.Path.{ap}
+use mathlib.Core.List.{_∷_}
+use borrow.Author.Needs.{needs}
+use Rattle.grammar.specs.Fields.{semicolon}
 use Rattle.grammar.specs.Spelling.{digits}
 use Rattle.writer.proofs.Pens.{nothing, after, so}
 use Rattle.writer.proofs.Parts.{second-spelled, first-spelled}
@@ -11,17 +13,14 @@ use Rattle.writer.proofs.lines.put_mark.Tie as tie
 returns : tie.Need-returns
 returns c =
     let number = c .before .before in
-    let sign = number .before .before .before .before .before in
-    so (after (sign .put .ensures) (so (number .put-number .ensures) (ap digits (number .before .mark-of .ensures)))) (second-spelled _ _ (sign .before .before .if1 .taken))
-
-same-length : tie.Need-same-length
-same-length c =
-    let number = c .before .before in
-    let sign = number .before .before .before .before .before in
-    number .put-number .kept .0 ∙ sign .put .kept .0
+    let mark = number .before .before .before .before .before in
+    let test = mark .before .before .if1 in
+    so (after (mark .put .ensures) (number .put-number .ensures))
+    (second-spelled _ _ _ (test .taken) (ap (λ (x : ℕ). semicolon ∷ digits x) (number .before .mark-of .ensures)))
 
 returns-2 : tie.Need-returns-2
 returns-2 c = so (nothing _) (first-spelled _ _ (c .if1 .left))
 
 pub put-mark-spec : {M : Type 1} → statement M
-put-mark-spec = tie.close (tie.spec (λ c κs. search needs) (λ c κs. search needs) (λ c κs. search needs) same-length returns returns-2)
+put-mark-spec =
+    tie.close (tie.spec (λ c κs. search needs) (λ c κs. search needs) (λ c κs. search needs) (λ c. search needs) returns returns-2)
