@@ -209,13 +209,3 @@ module _ (F : Facts) (n v : ℕ) where
 
   pub facts-none : {p q r : Pen} {y : List ℕ} → n ≤ v → Writes p (dash ∷ []) r → Writes p (factsLeft false F (n - v) v) (inked q y) → Writes q y r
   facts-none h e = done e (left-none h)
-
--- ---- what edition 2 alone spells
-
-pub second-spelled : (e : ℕ) (xs : List ℕ) → e ≡ quotaEdition → xs ≡ spelledIn e xs
-unfolding spelledIn
-second-spelled e xs h = sym (rw (eq-eqb e quotaEdition h) refl)
-
-pub first-spelled : (e : ℕ) (xs : List ℕ) → (e ≡ quotaEdition → ⊥) → [] ≡ spelledIn e xs
-unfolding spelledIn
-first-spelled e xs h = sym (rw (ne-eqb e quotaEdition h) refl)

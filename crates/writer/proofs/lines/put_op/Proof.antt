@@ -1,7 +1,7 @@
 -- `writer::lines::put_op` meets its contract: its parts one after another. Assumes nothing.
 use borrow.Author.Needs.{needs}
 use Prim.Native.Nat.{ℕ}
-use mathlib.Core.Path.{ap, _∙_}
+use mathlib.Core.Path.{ap}
 use mathlib.Core.List.{List}
 use Rattle.tables.specs.Layout.{rowAt}
 use Rattle.grammar.specs.Spelling.{digits, someFacts, keyed, opText}
