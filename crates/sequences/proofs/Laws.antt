@@ -39,13 +39,13 @@ module _ (T : Task) (n : ℕ) (s : State) (o : ℕ) where
 
   -- an operator that exists, may run and stores nothing beyond the quota, one that just reaches it too, is taken at its cost
   pub takes : o < T .sas .ops → MayRun (T .sas) o s → n + T .mark o ≤ T .quota → stepOf T n s o ≡ Ran (T .sas .cost o)
-  unfolding stepOf
-  takes l r q = rw (lt-ltb o (T .sas .ops) l, true-complies (T .sas) (T .sas .pre o) s r, stores-within T n o q)
+  unfolding stepOf mayStore
+  takes l r q = simp (lt-ltb o (T .sas .ops) l, true-complies (T .sas) (T .sas .pre o) s r, stores-within T n o q)
 
   -- and else it is 19
   pub beyond-last : o < T .sas .ops → MayRun (T .sas) o s → T .quota < n + T .mark o → stepOf T n s o ≡ Beyond
-  unfolding stepOf
-  beyond-last l r q = rw (lt-ltb o (T .sas .ops) l, true-complies (T .sas) (T .sas .pre o) s r, stores-beyond T n o q)
+  unfolding stepOf mayStore
+  beyond-last l r q = simp (lt-ltb o (T .sas .ops) l, true-complies (T .sas) (T .sas .pre o) s r, stores-beyond T n o q)
 
   -- a step that was taken
   pub record Taken (x : ℕ) : Type 0 where
