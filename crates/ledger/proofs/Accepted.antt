@@ -1,4 +1,4 @@
--- What an answer follows from, and what an accepted offer had. Assumes nothing.
+-- What an answer follows from; that only the rules of the next number accept an offer or refuse it with 19; and what an accepted offer had. Assumes nothing.
 use Prim.Native.Nat.{ℕ, _+_, _-_, _≤_, _<_}
 use mathlib.Core.Path.{_≡_, refl, ap, sym, _∙_}
 use mathlib.Core.Logic.{inl, inr}

@@ -1,8 +1,8 @@
 -- Each case of an answer, and of a test, from the facts that a way through the code has. Assumes nothing.
 use Prim.Native.Nat.{ℕ, _+_, _-_, _≤_, _<_}
-use mathlib.Core.Path.{_≡_, refl, subst}
+use mathlib.Core.Path.{_≡_, refl, sym, _∙_, subst}
 use mathlib.Core.List.{List}
-use mathlib.Core.Bool.{Bool, true, false}
+use mathlib.Core.Bool.{Bool, true, false, _&&_}
 use native.Mathlib.Omega.{arith}
 use lib.Dec.{ltb, eqb}
 use lib.ListN.{getD}
@@ -14,7 +14,7 @@ use Rattle.meaning.proofs.Facts.{and-left, and-right, by-cases, by-order}
 use Rattle.tables.specs.declared.Counts.{Counts}
 use Rattle.tables.specs.Layout.{Tables, domAt}
 use Rattle.tables.specs.Task.{taskOf}
-use Rattle.tables.specs.Steps.{mayRun}
+use Rattle.tables.specs.Steps.{mayRun, canStore}
 use Rattle.tables.proofs.Meant.{can-store-is}
 use Rattle.ledger.specs.declared.Run.{Run}
 use Rattle.ledger.specs.declared.replay.Standing.{Standing}
@@ -47,27 +47,32 @@ module _ (c : Counts) (facts s : List ℕ) (o : ℕ) where
 
 -- ---- it keeps the quota, and can be the next step
 
--- THE LAW OF THE QUOTA: the test is the task's, after as many stored tests as their column has
+-- THE LAW OF THE QUOTA: it is asked after as many stored tests as their column has ..
+pub within-stored : (c : Counts) (facts columns : List ℕ) (o : ℕ) → withinQuota c facts columns o ≡ canStore c facts (getD columns storedTests 0) o
+unfolding withinQuota canStore
+within-stored c facts columns o = refl
+
+-- .. so the test is the task's
 pub within-is : (t : Tables) (columns : List ℕ) (o : ℕ) → withinQuota (t .counts) (t .facts) columns o ≡ mayStore (taskOf t) (getD columns storedTests 0) o
-unfolding withinQuota
-within-is t columns o = can-store-is t (getD columns storedTests 0) o
+within-is t columns o = within-stored (t .counts) (t .facts) columns o ∙ can-store-is t (getD columns storedTests 0) o
 
 module _ (c : Counts) (facts : List ℕ) (x : Standing) (o : ℕ) where
-  pub follow-stuck : canRun c facts (x .now) o ≡ false → false ≡ canFollow c facts x o
+  -- THE LAW OF THE NEXT STEP: both are asked
+  pub follow-both : canFollow c facts x o ≡ (canRun c facts (x .now) o && withinQuota c facts (x .columns) o)
   unfolding canFollow
-  follow-stuck e = rw e refl
+  follow-both = by-cases (canRun c facts (x .now) o) (λ e. rw e refl) (λ e. rw e refl)
 
-  -- of what can run the quota decides
+  pub follow-stuck : canRun c facts (x .now) o ≡ false → false ≡ canFollow c facts x o
+  follow-stuck e = rw (follow-both, e) refl
+
   pub follow-quota : (b : Bool) → canRun c facts (x .now) o ≡ true → b ≡ withinQuota c facts (x .columns) o → b ≡ canFollow c facts x o
-  unfolding canFollow
-  follow-quota b e q = rw e q
+  follow-quota b e q = rw (follow-both, e) q
 
   pub follow-parts : canFollow c facts x o ≡ true → (canRun c facts (x .now) o ≡ true) × (withinQuota c facts (x .columns) o ≡ true)
-  unfolding canFollow
   follow-parts p =
       let can = canRun c facts (x .now) o in
       let within = withinQuota c facts (x .columns) o in
-      (and-left can within p, and-right can within p)
+      (and-left can within (sym follow-both ∙ p), and-right can within (sym follow-both ∙ p))
 
 -- ---- an old number, the next number
 

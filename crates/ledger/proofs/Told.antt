@@ -33,7 +33,7 @@ use Rattle.ledger.specs.declared.Answer.the-variants.{Accepted}
 use Rattle.ledger.specs.Ledger.{allColumns, atStart, onward, standing, fresh, advanced, canRun, withinQuota, canFollow, replayed, given, startIn, isRun, answered, offered}
 use Rattle.ledger.specs.History.{Offer, mayFollow, reallyRuns, Tells, Sized, storedIn, stepsIn}
 use Rattle.ledger.proofs.Gains.{zeros-at, booked-at}
-use Rattle.ledger.proofs.Answers.{within-is, follow-quota, follow-parts, next-go}
+use Rattle.ledger.proofs.Answers.{within-is, follow-both, follow-quota, follow-parts, next-go}
 use Rattle.ledger.proofs.Begun.{startOf, from-at, from-beyond, from-size, from-inside}
 use Rattle.ledger.proofs.Runs.{three, advanced-stands, fresh-sized, advanced-sized, alike-refl, unused-zeros, replayed-yes, replayed-no, follow-exists}
 use Rattle.ledger.proofs.Sequences.{end-append, runs-append, paid-same}
@@ -120,8 +120,8 @@ module _ (t : Tables) (s : List ℕ) (clean : tablesFault t ≡ Clean) (state : 
         ∙ ap (λ (n : ℕ). mayStore (taskOf t) n o) (tells-stored (taskOf t) valid (stateOf s) done q (told .tells))
 
     pub follow-is : (o : ℕ) → canFollow (t .counts) (t .facts) (standing q) o ≡ mayFollow (taskOf t) (stateOf s) done o
-    unfolding canFollow mayFollow
-    follow-is o = ap₂ _&&_ (can-is o) (quota-is o)
+    unfolding mayFollow
+    follow-is o = follow-both (t .counts) (t .facts) (standing q) o ∙ ap₂ _&&_ (can-is o) (quota-is o)
 
     -- ---- one step more
 

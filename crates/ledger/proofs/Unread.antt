@@ -29,7 +29,7 @@ use Rattle.ledger.specs.declared.Answer.the-variants.{Accepted, Repeated
 use Rattle.ledger.specs.Ledger.{allColumns, bookedAt, booked, atStart, onward, standing, fresh, advanced, canRun, withinQuota, canFollow, replayed, given, startAt, startsAt}
 use Rattle.ledger.specs.Ledger.{startIn, zeros, alike, isRun}
 use Rattle.ledger.specs.Ledger.{oldStep, nextStep, offerJudged, refusedOr, answered, moved, offered, started, begun}
-use Rattle.ledger.proofs.Answers.{within-is, next-full, next-not, next-beyond, next-go, next-cases}
+use Rattle.ledger.proofs.Answers.{within-is, follow-both, next-full, next-not, next-beyond, next-go, next-cases}
 use Rattle.ledger.proofs.Runs.{advanced-stands, can-exists, follow-exists}
 use Rattle.ledger.proofs.Accepted.{accepted-had}
 
@@ -61,9 +61,10 @@ module _ (t u : Tables) (E : SameTask (taskOf t) (taskOf u)) where
   within-alike columns o lo = within-is t columns o ∙ may-store-alike E (getD columns storedTests 0) o lo ∙ sym (within-is u columns o)
 
   follow-alike : (x : Standing) (o : ℕ) → canFollow (t .counts) (t .facts) x o ≡ canFollow (u .counts) (u .facts) x o
-  unfolding canFollow
   follow-alike x o =
-      and-alike _ _ _ _ (can-alike (x .now) o) (λ e. within-alike (x .columns) o (can-exists (t .counts) (t .facts) (x .now) o e))
+      follow-both (t .counts) (t .facts) x o
+      ∙ and-alike _ _ _ _ (can-alike (x .now) o) (λ e. within-alike (x .columns) o (can-exists (t .counts) (t .facts) (x .now) o e))
+      ∙ sym (follow-both (u .counts) (u .facts) x o)
 
   stepped-alike : (s : List ℕ) (o : ℕ) → o < t .counts .ops → stepped (t .counts) (t .facts) s o ≡ stepped (u .counts) (u .facts) s o
   unfolding stepped

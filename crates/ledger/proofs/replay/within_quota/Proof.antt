@@ -1,12 +1,12 @@
--- `replay::within_quota` meets its contract: it is the task's test, at the column of the stored tests. Assumes nothing.
+-- `replay::within_quota` meets its contract: it is the test of a stored test, at their column. Assumes nothing.
 use borrow.Author.Needs.{needs}
-use Rattle.ledger.specs.Ledger.{withinQuota}
+use mathlib.Core.Path.{_∙_, sym}
+use Rattle.ledger.proofs.Answers.{within-stored}
 use Rattle.ledger.proofs.replay.within_quota.Statement.{statement}
 use Rattle.ledger.proofs.replay.within_quota.Tie as tie
 
 returns : tie.Need-returns
-unfolding withinQuota
-returns c = c .can-store .ensures
+returns c = c .can-store .ensures ∙ sym (within-stored _ _ _ _)
 
 pub within-quota-spec : {M : Type 1} → statement M
 within-quota-spec = tie.close (tie.spec
