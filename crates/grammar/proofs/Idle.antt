@@ -29,7 +29,7 @@ use Rattle.scan.proofs.Walks.{one-rule}
 use Rattle.grammar.specs.Fields.{dash, semicolon}
 use Rattle.grammar.specs.Grammar.{refused, Rest, Part, _▸_, nothing, demand, lit, formed, numeral, markField, operatorFields}
 use Rattle.grammar.specs.Spelling.{opText}
-use Rattle.grammar.proofs.Editions.{ByEdition, first-reads-nothing}
+use Rattle.grammar.proofs.Editions.{ByEdition, first-reads-nothing, second-reads}
 use Rattle.grammar.proofs.Runs.{clash}
 use Rattle.grammar.proofs.SpellParts.{judged-by, asked-told, lit-told}
 use Rattle.grammar.proofs.SpellFacts.{Over}
@@ -137,6 +137,16 @@ module _ (τ : Task) (o : ℕ) (T : Tables) (l : ℕ) (u : List ℕ) (k : Rest) 
           ∙ judged-by _ (eff-clean τ o l cost pre eff)
           ∙ lit-told (semicolon ∷ []) u l (effChange τ o T) _
           ∙ number-off 0 (mostMark + 1) _ u l (effChange τ o T) _ e
+
+    -- after a dash for its effects too, where no list goes on
+    pub no-mark-after-dash : hasQuota (τ .edition) ≡ true → Lacks semicolon u → operatorFields o (preText τ o ++ semicolon ∷ dash ∷ u) l T k ≡ refused (OffForm l)
+    unfolding operatorFields markField _▸_ nothing
+    no-mark-after-dash h n =
+        pre-told τ o l T (w .known) (semicolon ∷ dash ∷ u) (semicolon-ends (dash ∷ u)) _
+        ∙ judged-by _ (pre-clean τ o l cost pre)
+        ∙ dash-told (effPlace o) u l (preChange τ o T) _
+        ∙ second-reads (markPart o) u l (preChange τ o T) _ (ap hasQuota (w .edition) ∙ h)
+        ∙ lit-off n [] l (preChange τ o T) _
 
     -- AN IDLE OPERATOR, where its last field doesn't go on
     pub idle-first : ByEdition τ → τ .mark o ≤ mostMark → Idle (τ .sas) o → Ended τ o u → operatorFields o (opText τ o ++ u) l T k ≡ refused (IdleOperator l)

@@ -31,7 +31,7 @@ use Rattle.grammar.proofs.SpellParts.{lit-told, lines-before}
 use Rattle.grammar.proofs.SpellFacts.{Over}
 use Rattle.grammar.proofs.SpellOperator.{opChange, preText, effText, Ended, over-ended, stop-ended, Fresh}
 use Rattle.grammar.proofs.SpellTask.{FreshFrom, fresh-next, opPart, opLine, op-line-told, headText, fresh-ops, head-judged}
-use Rattle.grammar.proofs.Idle.{Lacks, mark-before-idle, no-mark-before-idle, unformed-before-idle, idle-first, idle-after-dash, range-before-idle}
+use Rattle.grammar.proofs.Idle.{Lacks, mark-before-idle, no-mark-before-idle, unformed-before-idle, no-mark-after-dash, idle-first, idle-after-dash, range-before-idle}
 
 -- the text up to operator o's fields, and then x: the lines before the operators, those of the operators before it, and its keyword
 abbrev pub upTo : Task → ℕ → List ℕ → List ℕ
@@ -85,14 +85,17 @@ module _ (τ : Task) (by : ByEdition τ) (o : ℕ) (head : headFault τ ≡ Clea
       idle-text m i e = idle-ended m i (over-ended τ o e)
 
       -- EDITION 1: after a dash for its effects, whatever stands there
-      pub dash-text : hasQuota (τ .edition) ≡ false
-          → verdict (upTo τ o (preText τ o ++ semicolon ∷ dash ∷ u)) ≡ refused (IdleOperator line)
+      pub dash-text : hasQuota (τ .edition) ≡ false → verdict (upTo τ o (preText τ o ++ semicolon ∷ dash ∷ u)) ≡ refused (IdleOperator line)
       dash-text h = fields-decide _ (IdleOperator line) (λ T w k. idle-after-dash τ o T line u k w cost pre h)
 
       -- EDITION 2: after the digits of its mark whatever is no digit
       module _ (second : hasQuota (τ .edition) ≡ true) where
         pub idle-text-second : τ .mark o ≤ mostMark → Idle (τ .sas) o → Stop u → verdict (upTo τ o (opText τ o ++ u)) ≡ refused (IdleOperator line)
         idle-text-second m i s = idle-ended m i (stop-ended τ o second s)
+
+        -- after a dash for its effects nothing is told yet
+        pub dash-text-second : Lacks semicolon u → verdict (upTo τ o (preText τ o ++ semicolon ∷ dash ∷ u)) ≡ refused (OffForm line)
+        dash-text-second n = fields-decide _ (OffForm line) (λ T w k. no-mark-after-dash τ o T line u k w cost pre second n)
 
         -- its mark is judged first, idle or not: 3 out of its range, and off the form, or where it is missing, 2; so nothing is told where its effects end
         module _ (eff : FactsOk τ (τ .sas .eff o)) where
