@@ -1,12 +1,13 @@
 -- Laws of a lent row of counts, and of what a reading hands back: each outcome from the facts that a way through the code has. Assumes nothing.
 use Prim.Native.Nat.{ℕ, _≤_, _<_}
-use mathlib.Core.Path.{_≡_, refl}
+use mathlib.Core.Path.{_≡_, refl, ap₂}
 use mathlib.Core.List.{List, []}
 use lib.ListN.{length, set}
 use borrow.Author.Tests.{lt-ltb, le-ltb}
 use Rattle.refusals.specs.declared.Refusal.{Refusal}
 use Rattle.refusals.specs.declared.Refusal.the-variants.{TableTooShort}
 use Rattle.tables.specs.declared.Counts.{Counts}
+use Rattle.tables.specs.Task.{tables}
 use Rattle.grammar.specs.declared.Reading.{Reading}
 use Rattle.grammar.specs.declared.Reading.the-variants as reading
 use Rattle.grammar.specs.Fields.{leaves}
@@ -14,7 +15,7 @@ use Rattle.grammar.specs.Grammar.{readText}
 use Rattle.scan.specs.declared.Found.the-variants.{Fault}
 use Rattle.scan.specs.Scan.{roomy, tablesFault}
 use Rattle.words.specs.Words.{word, done, refusedWord}
-use Rattle.desk_c.specs.Handing.{countsRow, countsPut, factsBeside, rowTables, readLeft, readHanded}
+use Rattle.desk_c.specs.Handing.{countsRow, countsIn, countsPut, factsBeside, rowTables, readLeft, readHanded}
 
 module _ (text counts f c s : List ℕ) (w : ℕ) where
   pub read-short : length counts < countsRow → w ≡ refusedWord TableTooShort → readLeft w counts f c s ≡ readHanded text counts f c s
@@ -32,6 +33,11 @@ module _ (text counts f c s : List ℕ) (w : ℕ) where
     read-refused r p e = rw (le-ltb (length counts) countsRow long, ← left, p, e) refl
 
 -- ---- a lent row of counts
+
+-- the task that is lent by it
+pub row-tables : (row facts costs shares : List ℕ) {n : Counts} {f : List ℕ} → n ≡ countsIn row → f ≡ factsBeside row facts
+    → tables n f costs shares ≡ rowTables row facts costs shares
+row-tables row facts costs shares p q = ap₂ (λ (c : Counts) (g : List ℕ). tables c g costs shares) p q
 
 -- the facts beside it
 pub beside-short : (row facts : List ℕ) → length row < countsRow → factsBeside row facts ≡ []
