@@ -1,8 +1,8 @@
 -- Laws of a lent row of counts, and of what a reading hands back: each outcome from the facts that a way through the code has. Assumes nothing.
 use Prim.Native.Nat.{ℕ, _≤_, _<_}
-use mathlib.Core.Path.{_≡_, refl, ap₂}
+use mathlib.Core.Path.{_≡_, refl, ap₂, _∙_}
 use mathlib.Core.List.{List, []}
-use lib.ListN.{length, set}
+use lib.ListN.{length, set, length-set}
 use borrow.Author.Tests.{lt-ltb, le-ltb}
 use Rattle.refusals.specs.declared.Refusal.{Refusal}
 use Rattle.refusals.specs.declared.Refusal.the-variants.{TableTooShort}
@@ -23,16 +23,28 @@ module _ (text counts f c s : List ℕ) (w : ℕ) where
   read-short h e = rw (lt-ltb (length counts) countsRow h, e) refl
 
   module _ (long : countsRow ≤ length counts) (a : Reading) (f′ c′ s′ : List ℕ) (left : leaves a f′ c′ s′ ≡ readText text f c s) where
-    pub read-accepted : (n : Counts) → a ≡ reading.Accepted n → w ≡ word done 0
-        → readLeft w (countsPut n counts) f′ c′ s′ ≡ readHanded text counts f c s
+    pub read-accepted : (n : Counts) → a ≡ reading.Accepted n → {row : List ℕ} → row ≡ countsPut n counts → w ≡ word done 0
+        → readLeft w row f′ c′ s′ ≡ readHanded text counts f c s
     unfolding readHanded
-    read-accepted n p e = rw (le-ltb (length counts) countsRow long, ← left, p, e) refl
+    read-accepted n p q e = rw (le-ltb (length counts) countsRow long, ← left, p, e, q) refl
 
     pub read-refused : (r : Refusal) → a ≡ reading.Refused r → w ≡ refusedWord r → readLeft w counts f′ c′ s′ ≡ readHanded text counts f c s
     unfolding readHanded
     read-refused r p e = rw (le-ltb (length counts) countsRow long, ← left, p, e) refl
 
 -- ---- a lent row of counts
+
+-- it stays as long as it was, however many of its first places were written
+pub written-long : (row : List ℕ) (a b c d : ℕ)
+    → (length (set row 0 a) ≡ length row)
+    × (length (set (set row 0 a) 1 b) ≡ length row)
+    × (length (set (set (set row 0 a) 1 b) 2 c) ≡ length row)
+    × (length (set (set (set (set row 0 a) 1 b) 2 c) 3 d) ≡ length row)
+written-long row a b c d =
+    let one = length-set row 0 a in
+    let two = length-set (set row 0 a) 1 b ∙ one in
+    let three = length-set (set (set row 0 a) 1 b) 2 c ∙ two in
+    (one, two, three, length-set (set (set (set row 0 a) 1 b) 2 c) 3 d ∙ three)
 
 -- the task that is lent by it
 pub row-tables : (row facts costs shares : List ℕ) {n : Counts} {f : List ℕ} → n ≡ countsIn row → f ≡ factsBeside row facts

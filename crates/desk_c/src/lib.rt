@@ -3,12 +3,14 @@
 // only `desk_opening` never refuses, and answers the empty part then. The answer is one word (crates/words/specs/Words.antt).
 // Beside each entry stands the theorem that no second outcome could meet its contract (proofs/Unique.antt). include/desk.h tells C the same.
 ghost use mathlib.Core.Path.{_≡_};
+ghost use Prim.Native.Nat.{_≤_};
+ghost use lib.ListN.{length};
 ghost use Rattle.scan.specs.Scan.{tablesFault};
 ghost use Rattle.sequences.specs.Judging.{judgedOf};
 ghost use Rattle.sequences.specs.Choosing.{cheaperOf, chosenOf};
 ghost use Rattle.words.specs.Words.{foundWord, judgedWord, cheaperWord, openingWord};
 ghost use Rattle.lent_runs.specs.Left.{runLeft, beginHanded, offerHanded};
-ghost use Rattle.desk_c.specs.Handing.{countsIn, factsBeside, lentTask, readLeft, readHanded, writeLeft, writeHanded, DistancesHanded, DistanceHanded, BoundHanded};
+ghost use Rattle.desk_c.specs.Handing.{countsRow, countsIn, countsPut, factsBeside, lentTask, readLeft, readHanded, writeLeft, writeHanded, DistancesHanded, DistanceHanded, BoundHanded};
 ghost use Rattle.tables.specs.Task.{was, left};
 use grammar::Reading;
 use lent_runs::hand_back;
@@ -47,6 +49,18 @@ fn counts_in(row: &[u32]) -> Counts
     }
 }
 
+// Puts counts into a lent row.
+fn put_counts(row: &mut [u32], c: Counts)
+    requires { ⌜ countsRow ≤ length (now row) ⌝ }
+    ensures { λ _. ⌜ left row ≡ countsPut c (was row) ⌝ }
+{
+    row[0] = c.vars;
+    row[1] = c.ops;
+    row[2] = c.maps;
+    row[3] = c.edition;
+    row[4] = c.quota;
+}
+
 // The facts beside a lent row of counts: none where the row is too short, so that it is refused as a table that is too short.
 fn facts_beside<'a>(row: &[u32], facts: &'a [u8]) -> &'a [u8]
     ensures { λ r. ⌜ now r ≡ factsBeside (was row) (was facts) ⌝ }
@@ -75,11 +89,7 @@ pub extern "C" fn desk_read(
     let r = desk::read(task, facts, costs, shares);
     match r {
         Reading::Accepted(c) => {
-            counts[0] = c.vars;
-            counts[1] = c.ops;
-            counts[2] = c.maps;
-            counts[3] = c.edition;
-            counts[4] = c.quota;
+            put_counts(counts, c);
             word(DONE, 0)
         }
         Reading::Refused(f) => refused_word(f),
