@@ -78,7 +78,9 @@ module _ (t : Tables) (rows : List OpRecord) (h : Spells t rows) where
       }
 
   counts-same : counted (t .counts) n ≡ t .counts
-  counts-same = ap (λ (x : ℕ). record { vars = t .counts .vars; ops = x; maps = t .counts .maps; edition = t .counts .edition; quota = t .counts .quota }) (sym (most-within moreOps n (omega (arith, h .few))))
+  counts-same =
+      let c = t .counts in
+      ap (λ (x : ℕ). record { vars = c .vars; ops = x; maps = c .maps; edition = c .edition; quota = c .quota }) (sym (most-within moreOps n (omega (arith, h .few))))
 
   pub records-agree : (s ops : List ℕ) → judgedOf (recordsTables (t .counts) (t .facts) (t .shares) rows) s ops ≡ judgedOf t s ops
   unfolding recordsTables

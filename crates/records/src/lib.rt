@@ -20,7 +20,8 @@ pub struct OpRecord {
     pub mark: u8,
 }
 
-// JUDGING a lent list of operators where the operators stand in a lent row of records: the row's length is their number, and the count of operators, and of the facts the operators' rows and marks, aren't read.
+// JUDGING a lent list of operators where the operators stand in a lent row of records: the row's length is their number; the count of operators, and of the facts
+// the operators' rows and marks, aren't read.
 pub fn judge_records<'a, 'r>(
     c: Counts,
     facts: &'a [u8],

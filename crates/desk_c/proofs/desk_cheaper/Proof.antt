@@ -13,7 +13,8 @@ returns c =
     let made = c .before in
     let beside = made .before in
     let a = beside .before .before .before .before .before .before .before .before .before .args in
-    c .cheaper-word .ensures ∙ ap cheaperWord (made .cheaper .ensures ∙ ap (λ (t : Tables). cheaperOf t (a .state .now) (a .a .now) (a .b .now)) (row-tables _ _ _ _ (beside .before .counts-in .ensures) (beside .facts-beside .ensures)))
+    let same = row-tables _ _ _ _ (beside .before .counts-in .ensures) (beside .facts-beside .ensures) in
+    c .cheaper-word .ensures ∙ ap cheaperWord (made .cheaper .ensures ∙ ap (λ (t : Tables). cheaperOf t (a .state .now) (a .a .now) (a .b .now)) same)
 
 pub desk-cheaper-spec : {M : Type 1} → statement M
 desk-cheaper-spec = tie.close (tie.spec (λ c κs. search needs) (λ c κs. search needs) (λ c κs. search needs) (λ c κs. search needs) returns)

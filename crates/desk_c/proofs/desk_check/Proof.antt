@@ -12,7 +12,8 @@ returns : tie.Need-returns
 returns c =
     let made = c .before in
     let beside = made .before in
-    c .found-word .ensures ∙ ap foundWord (made .check .ensures ∙ ap (λ (t : Tables). tablesFault t) (row-tables _ _ _ _ (beside .before .counts-in .ensures) (beside .facts-beside .ensures)))
+    let same = row-tables _ _ _ _ (beside .before .counts-in .ensures) (beside .facts-beside .ensures) in
+    c .found-word .ensures ∙ ap foundWord (made .check .ensures ∙ ap (λ (t : Tables). tablesFault t) same)
 
 pub desk-check-spec : {M : Type 1} → statement M
 desk-check-spec = tie.close (tie.spec (λ c κs. search needs) (λ c κs. search needs) (λ c κs. search needs) (λ c κs. search needs) returns)

@@ -13,7 +13,8 @@ returns c =
     let beside = made .before .before in
     let a = beside .before .before .before .before .before .before .before .args in
     let same = row-tables _ _ _ _ (beside .before .counts-in .ensures) (beside .facts-beside .ensures) in
-    (made .distances .result, subst (λ (t : Tables). DistancesGiven t (a .map) (a .out .now) (made .distances .result) (made .distances .last .1 .1 .1 .1 .1 .0)) same (made .distances .ensures), c .distances-word .ensures)
+    let told = made .distances in
+    (told .result, subst (λ (t : Tables). DistancesGiven t (a .map) (a .out .now) (told .result) (told .last .1 .1 .1 .1 .1 .0)) same (told .ensures), c .distances-word .ensures)
 
 pub desk-distances-spec : {M : Type 1} → statement M
 desk-distances-spec =

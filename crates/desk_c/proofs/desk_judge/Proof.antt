@@ -13,7 +13,8 @@ returns c =
     let made = c .before in
     let beside = made .before in
     let a = beside .before .before .before .before .before .before .before .before .args in
-    c .judged-word .ensures ∙ ap judgedWord (made .judge .ensures ∙ ap (λ (t : Tables). judgedOf t (a .state .now) (a .list .now)) (row-tables _ _ _ _ (beside .before .counts-in .ensures) (beside .facts-beside .ensures)))
+    let same = row-tables _ _ _ _ (beside .before .counts-in .ensures) (beside .facts-beside .ensures) in
+    c .judged-word .ensures ∙ ap judgedWord (made .judge .ensures ∙ ap (λ (t : Tables). judgedOf t (a .state .now) (a .list .now)) same)
 
 pub desk-judge-spec : {M : Type 1} → statement M
 desk-judge-spec = tie.close (tie.spec (λ c κs. search needs) (λ c κs. search needs) (λ c κs. search needs) (λ c κs. search needs) returns)

@@ -14,8 +14,9 @@ returns c =
     let made = c .before in
     let beside = made .before in
     let a = beside .before .before .before .before .before .before .before .before .before .args in
+    let same = row-tables _ _ _ _ (beside .before .counts-in .ensures) (beside .facts-beside .ensures) in
     c .opening-word .ensures
-    ∙ ap openingWord (made .choice-of .ensures ∙ ap (λ (t : Tables). chosenOf t (a .state .now) (a .a .now) (a .b .now)) (row-tables _ _ _ _ (beside .before .counts-in .ensures) (beside .facts-beside .ensures)))
+    ∙ ap openingWord (made .choice-of .ensures ∙ ap (λ (t : Tables). chosenOf t (a .state .now) (a .a .now) (a .b .now)) same)
 
 pub desk-opening-spec : {M : Type 1} → statement M
 desk-opening-spec =
