@@ -1,9 +1,14 @@
 -- Table places beyond a task's own counts aren't read, entry by entry: tables of the same counts that both have room or neither, and agree at the task's own
 -- places, get the same word and leave the same lent bytes; so do states that agree at the variables. From the desk's entries. Assumes nothing.
 use mathlib.Core.Path.{_≡_, ap}
-use mathlib.Core.List.{List}
-use Prim.Native.Nat.{ℕ}
+use mathlib.Core.Bool.{cond}
+use mathlib.Core.List.{List, []}
+use Prim.Native.Nat.{ℕ, _<_}
+use native.Mathlib.Omega.{arith}
+use lib.Dec.{ltb}
+use lib.ListN.{length, getD}
 use Rattle.tables.specs.Layout.{Tables}
+use Rattle.tables.specs.Task.{tables}
 use Rattle.scan.specs.Scan.{tablesFault}
 use Rattle.scan.specs.Own.{OwnSame, OwnState}
 use Rattle.scan.proofs.Unread.{own-alike}
@@ -15,7 +20,19 @@ use Rattle.desk.proofs.Own as desk
 use Rattle.words.specs.Words.{foundWord, judgedWord, cheaperWord, openingWord}
 use Rattle.lent_runs.specs.Lent.{runIn}
 use Rattle.lent_runs.specs.Left.{unlessShort, beginHanded, offerHanded}
-use Rattle.desk_c.specs.Handing.{writeTold, writeHanded, DistancesHanded, DistanceHanded, BoundHanded}
+use Rattle.desk_c.specs.Handing.{countsRow, factsBeside, rowTables, writeTold, writeHanded, DistancesHanded, DistanceHanded, BoundHanded}
+
+-- of a lent row of counts the first places are read, as many as it needs, and whether it has them: such rows lend the same task
+pub row-own : (row other facts costs shares : List ℕ) → ltb (length row) countsRow ≡ ltb (length other) countsRow
+    → ((i : ℕ) → i < countsRow → getD row i 0 ≡ getD other i 0) → rowTables row facts costs shares ≡ rowTables other facts costs shares
+unfolding factsBeside
+row-own row other facts costs shares room same =
+    let vars = same 0 (omega arith) in
+    let ops = same 1 (omega arith) in
+    let maps = same 2 (omega arith) in
+    let edition = same 3 (omega arith) in
+    let quota = same 4 (omega arith) in
+    λ i. tables (record { vars = vars i; ops = ops i; maps = maps i; edition = edition i; quota = quota i }) (cond (room i) [] facts) costs shares
 
 module _ (t u : Tables) (O : OwnSame t u) where
   pub check-own : foundWord (tablesFault t) ≡ foundWord (tablesFault u)
