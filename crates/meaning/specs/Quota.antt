@@ -10,11 +10,12 @@ use Rattle.meaning.specs.Split.{Task}
 abbrev pub stored : Task → List ℕ → ℕ
 stored T os = paid (T .mark) os
 
--- THE SEQUENCE KEEPS THE QUOTA: it stores no more tests. `keeps-exactly` (proofs/Quota.antt) shows that this is so exactly if no step of it stores beyond the quota
+-- THE SEQUENCE KEEPS THE QUOTA: it stores no more tests than that. `keeps-exactly` (proofs/Quota.antt) shows that this is so exactly if no step of it stores
+-- beyond the quota
 abbrev pub KeepsQuota : Task → List ℕ → Type 0
 KeepsQuota T os = stored T os ≤ T .quota
 
--- after n stored tests operator o doesn't store beyond the quota. What doesn't store at the quota may: only a storing step is refused there
+-- after n stored tests operator o doesn't store beyond the quota: one that stores nothing never does, and one that stores a test does if n is the quota
 unfoldable pub mayStore : Task → ℕ → ℕ → Bool
 mayStore T n o = leb (n + T .mark o) (T .quota)
 
