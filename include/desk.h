@@ -111,7 +111,7 @@ desk_word desk_read(const uint8_t *text, size_t text_len, uint32_t *counts, size
                     size_t facts_len, uint32_t *costs, size_t costs_len, uint32_t *shares, size_t shares_len);
 
 /* WRITES the text of the lent tables, in their edition, into buffer (DESK_TEXT bytes at least, whatever the task; no
- * task's text has more than DESK_TEXT bytes). DESK_DONE with the text's length: the text stands in buffer from its
+ * task's text has more than 10,588, in edition 1 10,449). DESK_DONE with the text's length: the text stands in buffer from its
  * first byte on, with no byte 0 behind it; the bytes after it are as they were.
  * Each accepted task has one text. Reading what was written gives the same counts and tables, but for what isn't read
  * here and is 0 then: places beyond the task's own, and in edition 1 the quota and the marks. Writing what was read

@@ -24,7 +24,7 @@ pub const MARKS: usize = 1560;
 /// The highest quota.
 pub const QUOTA: u32 = 1024;
 
-/// The bytes of a buffer for a task's text, whatever the task; no task's text has more than that.
+/// The bytes of a buffer for a task's text, whatever the task; no task's text has more than 10,588.
 pub const TEXT: usize = 16384;
 
 /// The places of a table of distances.
