@@ -2,8 +2,8 @@
 // No entry asks anything of its caller: whatever is handed in, there is an answer.
 // Beside each entry stands the theorem that no second outcome could meet its contract (proofs/Unique.antt).
 //
-// The lent tables of a task: `c` counts its variables, operators and maps; `facts` has at least 1,624 bytes, `costs` 64 words and `shares` 512 words,
-// laid out as crates/tables/specs/Layout.antt says. A lent state has a byte for each variable. A list of operators holds their numbers.
+// The lent tables of a task: `c` counts its variables, operators and maps, and has its edition and, in edition 2, its quota of stored tests; `facts` has at
+// least 1,624 bytes, `costs` 64 words and `shares` 512 words, laid out as crates/tables/specs/Layout.antt says. A lent state has a byte for each variable. A list of operators holds their numbers.
 // A refusal is one of the paper's list: `refusals::number` and `refusals::place` tell its number and its place.
 ghost use mathlib.Core.Path.{_≡_};
 ghost use Rattle.tables.specs.Task.{lent, was, left};
@@ -95,7 +95,7 @@ pub fn bound(c: Counts, facts: &[u8], costs: &[u32], shares: &[u32], state: &[u8
     views::bound(c, facts, costs, shares, state)
 }
 
-// JUDGES a sequence of operators from a state: passed with its cost, or the first refusal.
+// JUDGES a sequence of operators from a state: passed with its cost, or the first refusal. It counts its own storing steps from 0, against the quota.
 // `judge-unique`.
 pub fn judge(
     c: Counts,
@@ -150,7 +150,8 @@ pub fn begin(c: Counts, facts: &[u8], costs: &[u32], shares: &[u32], start: &[u8
     Run::begin(c, facts, costs, shares, start)
 }
 
-// OFFERS a step to a run: its number and its operator. The run comes back advanced if the step is accepted, and else as it was; a repeat changes nothing.
+// OFFERS a step to a run: its number and its operator. The run comes back advanced if the step is accepted, and else as it was; a repeat changes nothing. The
+// stored tests that it tells are the storing steps really run, at most the quota (`TellsStored`, crates/ledger/specs/History.antt).
 // `offer-unique`.
 pub fn offer(
     run: Run,
