@@ -13,7 +13,7 @@ use Rattle.scan.specs.Scan.{unless, _then_, tablesFault}
 use Rattle.scan.proofs.Walks.{clean-next}
 use Rattle.scan.proofs.Unread.{ReadAlike, unless-same, state-own}
 use Rattle.scan.proofs.Validity.{clean-valid}
-use Rattle.scan.proofs.First.{SameButMarks, first-alike, first-own}
+use Rattle.scan.proofs.Unstored.{SameButMarks, first-alike, first-own}
 use Rattle.grammar.specs.Spelling.{textOf}
 use Rattle.grammar.specs.Writing.{textRoom, onPage, writeFault, writeText}
 use Rattle.grammar.proofs.Unread.{own-text}

@@ -6,4 +6,4 @@ pub mod Decides
 pub mod Validity
 pub mod Unread
 pub mod Numbers
-pub mod First
+pub mod Unstored
