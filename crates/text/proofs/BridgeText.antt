@@ -35,7 +35,7 @@ use Rattle.text.specs.Inside.Area.{areaRoom, wordIn, threes, costsByte, 
 use Rattle.text.specs.Inside.Control.{mk, start, stopped, St, fieldEdition, fieldDom, fieldMaps, fieldEnd}
 use Rattle.text.specs.Inside.Fields.{keyByte}
 use Rattle.text.specs.Inside.Steps.{inKey, live, byteRead, feed, ended}
-use Rattle.text.specs.Inside.End.{lastFault, written, leftBehind, machineEnd, machineRead, readAll}
+use Rattle.text.specs.Inside.End.{lastFault, written, leftBehind, settledAs, machineEnd, machineRead, readAll}
 use Rattle.text.proofs.BridgeReading.{tablesOf, judged, told, reading, Bytes, none, byte, off-form, moves, kw}
 use Rattle.text.proofs.BridgeArea.{over-of}
 use Rattle.text.proofs.BridgeRows.{Fits, Known}
@@ -122,7 +122,7 @@ verdict-is text a =
 
 -- ---- what is left behind
 machine-end-is : (s : St) (f c h : List ℕ) → machineEnd s f c h ≡ outcome (told s) f c h
-unfolding machineEnd told judged outcome settled written tablesOf
+unfolding machineEnd settledAs told judged outcome settled written tablesOf
 machine-end-is s f c h = split (ended s) (lastFault (ended s))
   where
     split : (e : St) (d : Found) → leftBehind d e f c h ≡ outcome (settled d (tablesOf (e .ctrl .counts) (e .area))) f c h

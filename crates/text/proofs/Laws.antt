@@ -1,15 +1,15 @@
 -- Small laws that the proofs of the reader share. Assumes nothing.
 use Prim.Native.Nat.{ℕ, zero, suc, _<_, _≤_, _+_, _*_}
-use native.Mathlib.Nat.{le-of-suc-le-suc, mul-le-mul-right}
+use native.Mathlib.Nat.{le-of-suc-le-suc, le-of-eq, mul-le-mul-right, sub-self}
 use native.Mathlib.Omega.{arith}
 use native.Mathlib.Numerals.{add-one}
 use mathlib.Core.Path.{_≡_, refl}
 use lib.Dec.{ltb, eqb}
 use borrow.Author.Tests.{ne-eqb, eqb-true, ltb-true, ltb-false}
 use mathlib.Core.Bool.{Bool, true, false, cond}
-use mathlib.Core.List.{List, [], _∷_}
+use mathlib.Core.List.{List, [], _∷_, append-nil}
 use lib.ListN.{length, getD, take, drop, List·getD-eq-default}
-use lib.Seq.{drop-cons}
+use lib.Seq.{drop-cons, take-all}
 use Rattle.meaning.specs.Views.{every}
 use Rattle.meaning.proofs.Facts.{every-true}
 use Rattle.refusals.specs.declared.Refusal.{Refusal}
@@ -18,11 +18,10 @@ use Rattle.scan.specs.declared.Found.{Found}
 use Rattle.scan.specs.declared.Found.the-variants.{Clean, Fault}
 use Rattle.grammar.specs.declared.Reading.the-variants.{Accepted, Refused}
 use Rattle.grammar.specs.Fields.{leaves, filled}
-use Rattle.text.specs.declared.Ctrl.{Ctrl}
 use Rattle.text.specs.Inside.Area.{threes, costsByte, sharesByte}
-use Rattle.text.specs.Inside.Control.{St, mk}
-use Rattle.text.specs.Inside.Steps.{byteRead, feed, ended}
-use Rattle.text.specs.Inside.End.{lastFault, written, machineEnd}
+use Rattle.text.specs.Inside.Control.{St}
+use Rattle.text.specs.Inside.Steps.{byteRead, feed}
+use Rattle.text.specs.Inside.End.{lastFault, written, settledAs}
 
 -- within a list the default is not read
 pub getD-any : (l : List ℕ) (i d e : ℕ) → i < length l → getD l i d ≡ getD l i e
@@ -62,13 +61,18 @@ table-else fs l h f n = split (ltb f (length l)) refl
         (rw (none-among fs f n) at (every-true (λ (f : ℕ). cond (among fs f) true (eqb (getD l f 0) 0)) (length l) h f (ltb-true f (length l) q)))
     split false q = List·getD-eq-default l 0 (ltb-false f (length l) q)
 
--- what a text leaves behind whose end left the control c and the area w: nothing on a refusal, else the tables
-module _ (s : St) (c : Ctrl) (w facts costs shares : List ℕ) (o : Found) (read : mk c w ≡ ended s) (told : o ≡ lastFault (mk c w)) where
-  pub end-refused : (r : Refusal) → o ≡ Fault r → leaves (Refused r) facts costs shares ≡ machineEnd s facts costs shares
-  unfolding machineEnd
-  end-refused r e = rw (← read, ← told, e)
+-- what a reading that is over leaves behind: nothing on a refusal, else the tables
+module _ (s : St) (facts costs shares : List ℕ) (o : Found) (told : o ≡ lastFault s) where
+  pub settled-refused : (r : Refusal) → o ≡ Fault r → leaves (Refused r) facts costs shares ≡ settledAs s facts costs shares
+  unfolding settledAs
+  settled-refused r e = rw (← told, e)
 
-  pub end-accepted : (f k h : List ℕ) → o ≡ Clean → f ≡ filled factsRoom (take factsRoom w) facts → k ≡ filled costsRoom (threes costsRoom costsByte w) costs
-      → h ≡ filled sharesRoom (threes sharesRoom sharesByte w) shares → leaves (Accepted (c .counts)) f k h ≡ machineEnd s facts costs shares
-  unfolding machineEnd written
-  end-accepted f k h e a b d = rw (← read, ← told, e, a, b, d)
+  pub settled-accepted : (f k h : List ℕ) → o ≡ Clean → f ≡ filled factsRoom (take factsRoom (s .area)) facts → k ≡ filled costsRoom (threes costsRoom costsByte (s .area)) costs
+      → h ≡ filled sharesRoom (threes sharesRoom sharesByte (s .area)) shares → leaves (Accepted (s .ctrl .counts)) f k h ≡ settledAs s facts costs shares
+  unfolding settledAs written
+  settled-accepted f k h e a b d = rw (← told, e, a, b, d)
+
+-- a copy of all of it
+pub filled-whole : (w : List ℕ) (n : ℕ) (out : List ℕ) → length w ≡ n → length out ≡ n → filled n (take n w) out ≡ w
+unfolding filled
+filled-whole w n out p q = rw (take-all n w (le-of-eq p), q, sub-self n) (append-nil w)

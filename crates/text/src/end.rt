@@ -6,15 +6,16 @@ ghost use Rattle.meaning.specs.Limits.{mostMaps};
 ghost use Rattle.tables.specs.Layout.{factsRoom, costsRoom, sharesRoom};
 ghost use Rattle.meaning.specs.Split.{sum};
 ghost use Rattle.grammar.specs.Fields.{leaves};
-ghost use Rattle.text.specs.Inside.Area.{shareIn};
+ghost use Rattle.text.specs.Inside.Area.{areaRoom, shareIn};
 ghost use Rattle.text.specs.Inside.Control.{mk};
-ghost use Rattle.text.specs.Inside.End.{over, refusalOf, lastFault, machineEnd};
+ghost use Rattle.text.specs.Inside.End.{over, refusalOf, lastFault, settledAs, machineEnd};
 ghost use Rattle.tables.specs.Task.{was, left};
 use crate::Ctrl;
 use crate::Halt;
 use crate::area::word_at;
 use crate::fill::fill_bytes;
 use crate::fill::fill_words;
+use crate::names::AREA_ROOM;
 use crate::names::COSTS_BYTE;
 use crate::names::SHARES_BYTE;
 use crate::places::cost_byte;
@@ -94,18 +95,11 @@ pub fn last_fault(c: Ctrl, w: &[u8]) -> Found
     over_fault(c, w)
 }
 
-// The end of the text: the answer, and the lent tables on acceptance only.
-pub fn finish(
-    c: Ctrl,
-    w: &mut [u8],
-    facts: &mut [u8],
-    costs: &mut [u32],
-    shares: &mut [u32],
-) -> Reading
+// What a reading that is over leaves behind: the answer, and the lent tables on acceptance only.
+pub fn settle(e: Ctrl, w: &[u8], facts: &mut [u8], costs: &mut [u32], shares: &mut [u32]) -> Reading
     requires { ⌜ (factsRoom ≤ length (now w)) × (factsRoom ≤ length (now facts)) × (costsRoom ≤ length (now costs)) × (sharesRoom ≤ length (now shares)) ⌝ }
-    ensures { λ r. ⌜ leaves r (left facts) (left costs) (left shares) ≡ machineEnd (mk c (was w)) (was facts) (was costs) (was shares) ⌝ }
+    ensures { λ r. ⌜ leaves r (left facts) (left costs) (left shares) ≡ settledAs (mk e (was w)) (was facts) (was costs) (was shares) ⌝ }
 {
-    let e = end_text(c, w);
     let found = last_fault(e, w);
     if let Found::Fault(r) = found {
         return Reading::Refused(r);
@@ -115,4 +109,16 @@ pub fn finish(
     fill_words(w, SHARES_ROOM, SHARES_BYTE, shares);
     let n = e.counts;
     Reading::Accepted(n)
+}
+
+// The end of the text. It is read in a copy of the area, so that the area itself stays as it was; and `settle` is called from one place, where the copy's length is
+// known, so that it is inlined.
+pub fn finish(c: Ctrl, w: &[u8], facts: &mut [u8], costs: &mut [u32], shares: &mut [u32]) -> Reading
+    requires { ⌜ (length (now w) ≡ areaRoom) × (factsRoom ≤ length (now facts)) × (costsRoom ≤ length (now costs)) × (sharesRoom ≤ length (now shares)) ⌝ }
+    ensures { λ r. ⌜ leaves r (left facts) (left costs) (left shares) ≡ machineEnd (mk c (was w)) (was facts) (was costs) (was shares) ⌝ }
+{
+    let mut cut = [0u8; AREA_ROOM];
+    fill_bytes(w, AREA_ROOM, &mut cut);
+    let e = end_text(c, &mut cut);
+    settle(e, &cut, facts, costs, shares)
 }

@@ -24,7 +24,7 @@ pub fn run_machine(text: &[u8], facts: &mut [u8], costs: &mut [u32], shares: &mu
 {
     let mut w = [0u8; AREA_ROOM];
     let c = feed_piece(start_of_text(), text, &mut w);
-    finish(c, &mut w, facts, costs, shares)
+    finish(c, &w, facts, costs, shares)
 }
 
 // What the machine answers: 8 for a short table, then 1 for a long text, then the text's own answer.

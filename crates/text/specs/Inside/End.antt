@@ -69,8 +69,11 @@ abbrev pub leftBehind : Found → St → List ℕ → List ℕ → List ℕ → 
 leftBehind Clean s f c h = written s f c h
 leftBehind (Fault r) s f c h = leaves (Refused r) f c h
 
+unfoldable pub settledAs : St → List ℕ → List ℕ → List ℕ → Outcome
+settledAs s f c h = leftBehind (lastFault s) s f c h
+
 unfoldable pub machineEnd : St → List ℕ → List ℕ → List ℕ → Outcome
-machineEnd s f c h = leftBehind (lastFault (ended s)) (ended s) f c h
+machineEnd s f c h = settledAs (ended s) f c h
 
 -- a whole text by the machine: what it leaves behind, where it is admitted
 unfoldable pub machineRead : List ℕ → List ℕ → List ℕ → List ℕ → Outcome

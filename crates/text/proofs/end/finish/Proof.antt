@@ -1,30 +1,33 @@
--- `text::end::finish` meets its contract: the end of the text is read, and then there is a fault, or the tables are filled. Assumes nothing.
+-- `text::end::finish` meets its contract: the end is read in a copy of the area. Assumes nothing.
 use borrow.Author.Needs.{needs}
-use Rattle.text.proofs.Laws.{end-refused, end-accepted}
+use Prim.Native.Nat.{ℕ}
+use mathlib.Core.List.{List}
+use mathlib.Core.Path.{_∙_, refl, ap}
+use native.Mathlib.Omega.{arith}
+use Rattle.text.specs.Inside.Control.{St, mk}
+use Rattle.text.specs.Inside.Steps.{ended}
+use Rattle.text.specs.Inside.End.{machineEnd, settledAs}
+use Rattle.text.proofs.Laws.{filled-whole}
 use Rattle.text.proofs.end.finish.Statement.{statement}
 use Rattle.text.proofs.end.finish.Tie as tie
 
 returns : tie.Need-returns
+unfolding machineEnd
 returns c =
-    let x = c .before .before .before in
-    end-refused _ _ _ _ _ _ _ (x .before .before .before .before .end-text .ensures) (x .last-fault .ensures) _ (c .before .found .given .1)
-
-returns-2 : tie.Need-returns-2
-returns-2 c =
-    let shares = c .before .before .before in
-    let costs = shares .before .before .before .before .before in
-    let facts = costs .before .before .before .before .before in
-    let x = facts .before .before .before in
-    let y = x .before .before in
-    end-accepted _ _ _ _ _ _ _ (y .before .before .before .before .end-text .ensures) (y .last-fault .ensures)
-    _ _ _ (x .enum-told .given .1) (facts .fill-bytes .ensures) (costs .fill-words .ensures) (shares .fill-words2 .ensures)
+    let x = c .before .before .before .before .before .before in
+    let read = x .before .before .before .before .before .before in
+    let copied = read .before .before .before in
+    let lent = copied .before .before .before .before .before .before in
+    let a = lent .args in
+    x .settle .ensures
+    ∙ ap (λ (s : St). settledAs s (a .facts .now) (a .costs .now) (a .shares .now))
+    (read .end-text .ensures ∙ ap (λ (w : List ℕ). ended (mk (a .c) w)) (copied .fill-bytes .ensures ∙ filled-whole _ _ _ (lent .pre .0) refl))
 
 pub finish-spec : {M : Type 1} → statement M
 finish-spec =
     tie.close
     (tie.spec
-    (λ c κs. search needs) (λ c κs. search needs) (λ c. search needs) (λ c. search needs)
-    returns
-    (λ c. search needs) (λ c κs. search needs) (λ c κs. search needs) (λ c κs. search needs)
-    (λ c. search needs) (λ c. search needs) (λ c. search needs) (λ c. search needs)
-    returns-2)
+    (λ c. search needs) (λ c κs. search needs) (λ c. search needs) (λ c κs. search needs) (λ c. search needs)
+    (λ c κs. let lent = c .before .before .before .before .before .before .before .before .before .before .before .before .before .before .pre in (omega arith, lent .1, lent .2, lent .3))
+    (λ c. search needs) (λ c. search needs) (λ c. search needs)
+    returns)

@@ -13,7 +13,7 @@ use Rattle.text.proofs.whole.run_machine.Tie as tie
 returns : tie.Need-returns
 unfolding machineRead
 returns c =
-    let x = c .before .before .before .before .before .before .before in
+    let x = c .before .before .before .before .before .before in
     let y = x .before .before .before .before .before .before in
     let a = y .before .before .before .before .before .before .before .args in
     x .finish .ensures
