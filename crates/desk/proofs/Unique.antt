@@ -10,6 +10,8 @@ use Rattle.scan.specs.Scan.{tablesFault}
 use Rattle.grammar.specs.Fields.{Outcome}
 use Rattle.grammar.specs.Grammar.{readText}
 use Rattle.grammar.specs.Writing.{Page, writeText}
+use Rattle.pieces.specs.declared.SoFar.{SoFar}
+use Rattle.pieces.specs.Pieces.{PieceLeft, EndLeft, begunText, pieceTaken, textEnded}
 use Rattle.views.specs.declared.DistanceAnswer.{DistanceAnswer}
 use Rattle.views.specs.declared.BoundAnswer.{BoundAnswer}
 use Rattle.views.specs.Entries.{DistancesGiven, DistanceGiven, BoundGiven}
@@ -28,6 +30,17 @@ use Rattle.ledger.specs.Ledger.{begun, offered}
 pub read-unique : (task facts costs shares : List ℕ) (x y : Outcome)
     → x ≡ readText task facts costs shares → y ≡ readText task facts costs shares → x ≡ y
 read-unique task facts costs shares x y p q = p ∙ sym q
+
+-- of a text in pieces: the text so far; with the answer and every byte of the lent area after a piece, and with the answer and the three lent tables after the end
+pub begin-text-unique : (x y : SoFar) → x ≡ begunText → y ≡ begunText → x ≡ y
+begin-text-unique x y p q = p ∙ sym q
+
+pub take-piece-unique : (text : SoFar) (area piece : List ℕ) (x y : PieceLeft) → x ≡ pieceTaken text area piece → y ≡ pieceTaken text area piece → x ≡ y
+take-piece-unique text area piece x y p q = p ∙ sym q
+
+pub end-text-unique : (text : SoFar) (area facts costs shares : List ℕ) (x y : EndLeft)
+    → x ≡ textEnded text area facts costs shares → y ≡ textEnded text area facts costs shares → x ≡ y
+end-text-unique text area facts costs shares x y p q = p ∙ sym q
 
 -- the answer and the lent buffer after a writing
 pub write-unique : (t : Tables) (buffer : List ℕ) (x y : Page) → x ≡ writeText t buffer → y ≡ writeText t buffer → x ≡ y

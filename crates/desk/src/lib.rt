@@ -11,6 +11,7 @@ ghost use Rattle.scan.specs.Scan.{tablesFault};
 ghost use Rattle.grammar.specs.Fields.{leaves};
 ghost use Rattle.grammar.specs.Grammar.{readText};
 ghost use Rattle.grammar.specs.Writing.{page, writeText};
+ghost use Rattle.pieces.specs.Pieces.{begunText, pieceLeft, pieceTaken, endLeft, textEnded};
 ghost use Rattle.views.specs.Entries.{DistancesGiven, DistanceGiven, BoundGiven};
 ghost use Rattle.sequences.specs.Judging.{judgedOf};
 ghost use Rattle.sequences.specs.Choosing.{cheaperOf};
@@ -21,6 +22,9 @@ use grammar::Written;
 use ledger::Offered;
 use ledger::Run;
 use meaning::OpNo;
+use pieces::Ended;
+use pieces::SoFar;
+use pieces::Taken;
 use scan::Found;
 use sequences::choosing::Cheaper;
 use sequences::judging::Judged;
@@ -36,6 +40,38 @@ pub fn read(task: &[u8], facts: &mut [u8], costs: &mut [u32], shares: &mut [u32]
     ensures { λ r. ⌜ leaves r (left facts) (left costs) (left shares) ≡ readText (was task) (was facts) (was costs) (was shares) ⌝ }
 {
     text::read(task, facts, costs, shares)
+}
+
+// BEGINS A TEXT that comes in pieces: the text so far, without a byte.
+// `begin-text-unique`.
+pub fn begin_text() -> SoFar
+    ensures { λ r. ⌜ r ≡ begunText ⌝ }
+{
+    pieces::begin_text()
+}
+
+// TAKES A PIECE of a text, of any length: the text so far, and whether the piece was taken or why not. What has been read stands in a lent work area of at least
+// 8,192 bytes, which are nobody's answer; before the first byte they may hold anything. Refused: nothing changes.
+// `take-piece-unique`.
+pub fn take_piece(text: SoFar, area: &mut [u8], piece: &[u8]) -> Taken
+    ensures { λ r. ⌜ pieceLeft (r .text) (r .found) (left area) ≡ pieceTaken text (was area) (was piece) ⌝ }
+{
+    pieces::take_piece(text, area, piece)
+}
+
+// ENDS A TEXT that came in pieces, and answers as `read` does. However it was cut, the answer and the tables are those of the whole text (`in-pieces`).
+// Nothing is written to the area; the tables are written on acceptance only. A second end is refused, and so is a piece after it: 2 at place 0.
+// `end-text-unique`.
+pub fn end_text(
+    text: SoFar,
+    area: &[u8],
+    facts: &mut [u8],
+    costs: &mut [u32],
+    shares: &mut [u32],
+) -> Ended
+    ensures { λ r. ⌜ endLeft (r .text) (r .reading) (left facts) (left costs) (left shares) ≡ textEnded text (was area) (was facts) (was costs) (was shares) ⌝ }
+{
+    pieces::end_text(text, area, facts, costs, shares)
 }
 
 // WRITES the text of handed-in tables into a lent buffer of at least 16,384 bytes: how many bytes it has, or why there is none.
