@@ -14,8 +14,8 @@ use Rattle.grammar.specs.Fields.{leaves}
 use Rattle.grammar.specs.Grammar.{readText}
 use Rattle.scan.specs.declared.Found.the-variants.{Fault}
 use Rattle.scan.specs.Scan.{roomy, tablesFault}
-use Rattle.words.specs.Words.{word, done, refusedWord}
-use Rattle.desk_c.specs.Handing.{countsRow, countsIn, countsPut, factsBeside, rowTables, readLeft, readHanded}
+use Rattle.words.specs.Words.{word, done, refusedWord, readingWord}
+use Rattle.desk_c.specs.Handing.{countsRow, countsIn, countsPut, countsAfter, factsBeside, rowTables, readLeft, readHanded}
 
 module _ (text counts f c s : List ℕ) (w : ℕ) where
   pub read-short : length counts < countsRow → w ≡ refusedWord TableTooShort → readLeft w counts f c s ≡ readHanded text counts f c s
@@ -31,6 +31,15 @@ module _ (text counts f c s : List ℕ) (w : ℕ) where
     pub read-refused : (r : Refusal) → a ≡ reading.Refused r → w ≡ refusedWord r → readLeft w counts f′ c′ s′ ≡ readHanded text counts f c s
     unfolding readHanded
     read-refused r p e = rw (le-ltb (length counts) countsRow long, ← left, p, e) refl
+
+-- a reading that is handed back: the word, and the counts
+module _ (r : Reading) (w : ℕ) (counts : List ℕ) where
+  pub reading-accepted : (n : Counts) → r ≡ reading.Accepted n → {row : List ℕ} → row ≡ countsPut n counts → w ≡ word done 0
+      → (w ≡ readingWord r) × (row ≡ countsAfter r counts)
+  reading-accepted n p q e = rw p (e, q)
+
+  pub reading-refused : (f : Refusal) → r ≡ reading.Refused f → w ≡ refusedWord f → (w ≡ readingWord r) × (counts ≡ countsAfter r counts)
+  reading-refused f p e = rw p (e, refl)
 
 -- ---- a lent row of counts
 

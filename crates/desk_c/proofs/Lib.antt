@@ -1,4 +1,6 @@
 pub mod Handed
+pub mod Texts
+pub mod Pieces
 pub mod Unique
 pub mod Own
 pub mod Reading

@@ -11,6 +11,7 @@ use Rattle.sequences.specs.Choosing.{cheaperOf, chosenOf}
 use Rattle.words.specs.Words.{foundWord, distancesWord, distanceWord, boundWord, judgedWord, cheaperWord, openingWord}
 use Rattle.lent_runs.specs.Left.{RunLeft, beginHanded, offerHanded}
 use Rattle.desk_c.specs.Handing.{ReadLeft, readHanded, WriteLeft, writeHanded, DistancesHanded, DistanceHanded, BoundHanded}
+use Rattle.desk_c.specs.Pieces.{BeginAfter, beginTextHanded, PieceAfter, takePieceHanded, EndAfter, endTextHanded}
 
 pub check-unique : (t : Tables) (w v : ℕ) → w ≡ foundWord (tablesFault t) → v ≡ foundWord (tablesFault t) → w ≡ v
 check-unique t w v p q = p ∙ sym q
@@ -55,6 +56,18 @@ pub read-unique : (task counts facts costs shares : List ℕ) (x y : ReadLeft) �
     → y ≡ readHanded task counts facts costs shares
     → x ≡ y
 read-unique task counts facts costs shares x y p q = p ∙ sym q
+
+-- of a text in pieces: the word and every lent place
+pub begin-text-unique : (text : List ℕ) (x y : BeginAfter) → x ≡ beginTextHanded text → y ≡ beginTextHanded text → x ≡ y
+begin-text-unique text x y p q = p ∙ sym q
+
+pub take-piece-unique : (text area piece : List ℕ) (x y : PieceAfter) → x ≡ takePieceHanded text area piece → y ≡ takePieceHanded text area piece → x ≡ y
+take-piece-unique text area piece x y p q = p ∙ sym q
+
+pub end-text-unique : (text area counts facts costs shares : List ℕ) (x y : EndAfter) → x ≡ endTextHanded text area counts facts costs shares
+    → y ≡ endTextHanded text area counts facts costs shares
+    → x ≡ y
+end-text-unique text area counts facts costs shares x y p q = p ∙ sym q
 
 -- the word, and the lent buffer after a writing
 pub write-unique : (t : Tables) (buffer : List ℕ) (x y : WriteLeft) → x ≡ writeHanded t buffer → y ≡ writeHanded t buffer → x ≡ y

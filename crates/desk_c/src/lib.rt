@@ -8,16 +8,24 @@ ghost use lib.ListN.{length};
 ghost use Rattle.scan.specs.Scan.{tablesFault};
 ghost use Rattle.sequences.specs.Judging.{judgedOf};
 ghost use Rattle.sequences.specs.Choosing.{cheaperOf, chosenOf};
-ghost use Rattle.words.specs.Words.{foundWord, judgedWord, cheaperWord, openingWord};
+ghost use Rattle.words.specs.Words.{foundWord, readingWord, judgedWord, cheaperWord, openingWord};
 ghost use Rattle.lent_runs.specs.Left.{runLeft, beginHanded, offerHanded};
-ghost use Rattle.desk_c.specs.Handing.{countsRow, countsIn, countsPut, factsBeside, lentTask, readLeft, readHanded, writeLeft, writeHanded, DistancesHanded, DistanceHanded, BoundHanded};
+ghost use Rattle.desk_c.specs.Handing.{countsRow, countsIn, countsPut, countsAfter, factsBeside, lentTask};
+ghost use Rattle.desk_c.specs.Handing.{readLeft, readHanded, writeLeft, writeHanded, DistancesHanded, DistanceHanded, BoundHanded};
+ghost use Rattle.lent_texts.specs.Lent.{textWords};
+ghost use Rattle.desk_c.specs.Pieces.{beginAfter, beginTextHanded, pieceAfter, takePieceHanded, endedBy, endAfter, endTextHanded};
 ghost use Rattle.tables.specs.Task.{was, left};
 use grammar::Reading;
 use lent_runs::hand_back;
 use lent_runs::run_in;
 use lent_runs::run_short;
+use lent_texts::put_ended;
+use lent_texts::put_text;
+use lent_texts::text_in;
+use lent_texts::text_short;
 use meaning::OpNo;
 use refusals::Refusal;
+use scan::Found;
 use sequences::choosing::choice_of;
 use tables::Counts;
 use tables::readers::word_at;
@@ -94,6 +102,92 @@ pub extern "C" fn desk_read(
         }
         Reading::Refused(f) => refused_word(f),
     }
+}
+
+// Hands back a reading: its counts go into the lent row if it was accepted.
+fn hand_reading(r: Reading, counts: &mut [u32]) -> u64
+    requires { ⌜ countsRow ≤ length (now counts) ⌝ }
+    ensures { λ w. ⌜ (w ≡ readingWord r) × (left counts ≡ countsAfter r (was counts)) ⌝ }
+{
+    match r {
+        Reading::Accepted(c) => {
+            put_counts(counts, c);
+            word(DONE, 0)
+        }
+        Reading::Refused(f) => refused_word(f),
+    }
+}
+
+// Ends the text in lent words if it has ended now and had not before.
+fn hand_ended(before: bool, ended: bool, text: &mut [u32])
+    requires { ⌜ textWords ≤ length (now text) ⌝ }
+    ensures { λ _. ⌜ left text ≡ endedBy before ended (was text) ⌝ }
+{
+    if before {
+        return;
+    }
+    if ended {
+        put_ended(text);
+    }
+}
+
+// BEGINS A TEXT that comes in pieces, in at least 20 lent words.
+// `begin-text-unique`.
+#[no_mangle]
+pub extern "C" fn desk_begin_text(text: &mut [u32]) -> u64
+    ensures { λ w. ⌜ beginAfter w (left text) ≡ beginTextHanded (was text) ⌝ }
+{
+    if text_short(text) {
+        return refused_word(Refusal::TableTooShort);
+    }
+    put_text(desk::begin_text(), text);
+    word(DONE, 0)
+}
+
+// TAKES A PIECE of the text in lent words, by a lent work area of at least 8,192 bytes.
+// `take-piece-unique`.
+#[no_mangle]
+pub extern "C" fn desk_take_piece(text: &mut [u32], area: &mut [u8], piece: &[u8]) -> u64
+    ensures { λ w. ⌜ pieceAfter w (left text) (left area) ≡ takePieceHanded (was text) (was area) (was piece) ⌝ }
+{
+    if text_short(text) {
+        return refused_word(Refusal::TableTooShort);
+    }
+    let t = desk::take_piece(text_in(text), area, piece);
+    let found = t.found;
+    let on = t.text;
+    if let Found::Clean = found {
+        put_text(on, text);
+    }
+    found_word(found)
+}
+
+// ENDS THE TEXT in lent words, and answers as `desk_read` does.
+// `end-text-unique`.
+#[no_mangle]
+pub extern "C" fn desk_end_text(
+    text: &mut [u32],
+    area: &[u8],
+    counts: &mut [u32],
+    facts: &mut [u8],
+    costs: &mut [u32],
+    shares: &mut [u32],
+) -> u64
+    ensures { λ w. ⌜ endAfter (readLeft w (left counts) (left facts) (left costs) (left shares)) (left text) ≡ endTextHanded (was text) (was area) (was counts) (was facts) (was costs) (was shares) ⌝ }
+{
+    if text_short(text) {
+        return refused_word(Refusal::TableTooShort);
+    }
+    if counts.len() < COUNTS_ROW {
+        return refused_word(Refusal::TableTooShort);
+    }
+    let s = text_in(text);
+    let before = s.ended;
+    let e = desk::end_text(s, area, facts, costs, shares);
+    let on = e.text;
+    let r = e.reading;
+    hand_ended(before, on.ended, text);
+    hand_reading(r, counts)
 }
 
 // WRITES the text of handed-in tables into a lent buffer of at least 16,384 bytes; the word tells how many bytes it has.
