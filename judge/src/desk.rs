@@ -14,6 +14,8 @@ use std::fmt;
 #[derive(Clone, Debug, PartialEq, Eq)]
 pub enum Answer {
     Read(Counts),
+    Begun,
+    Taken,
     Length(usize),
     Clean,
     Rounds(usize),
@@ -34,6 +36,8 @@ impl fmt::Display for Answer {
     fn fmt(&self, f: &mut fmt::Formatter) -> fmt::Result {
         match self {
             Answer::Read(counts) => write!(f, "accepted {}", counts),
+            Answer::Begun => write!(f, "begun"),
+            Answer::Taken => write!(f, "taken"),
             Answer::Length(length) => write!(f, "length {}", length),
             Answer::Clean => write!(f, "clean"),
             Answer::Rounds(rounds) => write!(f, "rounds {}", rounds),
@@ -89,6 +93,50 @@ pub fn read(text: &[u8], facts: &mut [u8], costs: &mut [u32], shares: &mut [u32]
         let task = read_text(text)?;
         write_tables(&task, facts, costs, shares);
         Ok(Answer::Read(counts_of(&task)))
+    }))
+}
+
+/// A text that comes in pieces: what has come of it, and whether it has ended.
+pub struct SoFar {
+    text: Vec<u8>,
+    ended: bool,
+}
+
+pub fn begin_text() -> (SoFar, Answer) {
+    (SoFar { text: Vec::new(), ended: false }, Answer::Begun)
+}
+
+fn room_for_pieces(area: usize) -> Result<(), Fault> {
+    if area < AREA_ROOM {
+        return refuse(8, 0);
+    }
+    Ok(())
+}
+
+/// After its end a text takes nothing more.
+fn still_open(so_far: &SoFar) -> Result<(), Fault> {
+    if so_far.ended {
+        return refuse(2, 0);
+    }
+    Ok(())
+}
+
+/// Of the area the length alone counts here: the bytes that have come are gathered.
+pub fn take_piece(so_far: &mut SoFar, area: &mut [u8], piece: &[u8]) -> Answer {
+    told(room_for_pieces(area.len()).and_then(|()| {
+        still_open(so_far)?;
+        so_far.text.extend_from_slice(piece);
+        Ok(Answer::Taken)
+    }))
+}
+
+/// A short area or table isn't the end; after that, whatever the text is, it has ended.
+pub fn end_text(so_far: &mut SoFar, area: &[u8], facts: &mut [u8], costs: &mut [u32], shares: &mut [u32]) -> Answer {
+    told(room_for_pieces(area.len()).and_then(|()| {
+        room_for_tables(facts.len(), costs.len(), shares.len())?;
+        still_open(so_far)?;
+        so_far.ended = true;
+        Ok(read(&so_far.text, facts, costs, shares))
     }))
 }
 

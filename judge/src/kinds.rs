@@ -6,6 +6,7 @@ use crate::edges::run_of;
 use crate::idle;
 use crate::limits::*;
 use crate::moments;
+use crate::pieces;
 use crate::quota;
 use crate::random::*;
 use crate::rng::Rng;
@@ -47,8 +48,8 @@ const KINDS: [Kind; 24] = [
 ];
 
 /// The kinds over a row of records, over sums of which some terms are none, over runs watched at every moment, over lists and
-/// runs of any length, over an idle operator, over writing, and over edition 2.
-const LATER_KINDS: [Kind; 13] = [
+/// runs of any length, over an idle operator, over writing, over edition 2, and over texts in pieces.
+const LATER_KINDS: [Kind; 15] = [
     rows::row_of_a_task,
     rows::damaged_row,
     sums::mixed,
@@ -62,6 +63,8 @@ const LATER_KINDS: [Kind; 13] = [
     quota::run_to_the_quota,
     quota::unread_in_edition_1,
     quota::damaged_additions,
+    pieces::with_slips,
+    pieces::cut_by_chance,
 ];
 
 /// The i-th vector by chance: the kinds take turns.

@@ -36,6 +36,8 @@ pub const SHARES_ROOM: usize = OPS * MAPS;
 pub const OUT_ROOM: usize = STATES;
 /// The buffer has room for the longest text that may be read, whatever the task.
 pub const BUFFER_ROOM: usize = TEXT;
+/// The work area of a text that comes in pieces.
+pub const AREA_ROOM: usize = 8_192;
 
 /// Up to so many concrete states a view is built by looking at each of them.
 pub const ENUMERATED: usize = 20_000;

@@ -6,11 +6,13 @@ mod damages;
 mod desk;
 mod edges;
 mod edits;
+mod feed;
 mod idle;
 mod idle_texts;
 mod kinds;
 mod limits;
 mod moments;
+mod pieces;
 mod quota;
 mod quota_tables;
 mod quota_texts;
@@ -33,6 +35,8 @@ mod tests;
 mod tests_idle;
 #[cfg(test)]
 mod tests_moments;
+#[cfg(test)]
+mod tests_pieces;
 #[cfg(test)]
 mod tests_quota;
 #[cfg(test)]
@@ -62,7 +66,7 @@ fn input() -> Vec<u8> {
 }
 
 /// The cases by name, then vectors by chance, as many as are asked for; then the small texts, the rows of records, the sums, the watched
-/// runs, the lists and runs of many steps, the idle operators, those over writing, and those over edition 2 last.
+/// runs, the lists and runs of many steps, the idle operators, those over writing, those over edition 2, and those over texts in pieces last.
 fn vectors(seed: u64, count: usize) -> Vec<u8> {
     let mut vectors = cases::bench();
     vectors.extend(edges::edges());
@@ -80,6 +84,7 @@ fn vectors(seed: u64, count: usize) -> Vec<u8> {
     vectors.extend(idle::idle(seed));
     vectors.extend(writing::writing(seed));
     vectors.extend(quota::quotas(seed));
+    vectors.extend(pieces::pieces(seed));
     builder::script_of(&vectors)
 }
 

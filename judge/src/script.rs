@@ -1,6 +1,7 @@
 //! The script of the vectors: what the program holds, and what it prints for each line (docs/VECTORS.md).
 
 use crate::desk::{self, Answer};
+use crate::feed::{read_in_pieces, Feed, AREA_PLACES};
 use crate::limits::*;
 use crate::row::Record;
 use crate::run::Run;
@@ -31,6 +32,7 @@ pub const NOW: u32 = 10;
 pub const COLUMN: u32 = 11;
 pub const RECORDS: u32 = 13;
 pub const BUFFER: u32 = 14;
+pub const AREA: u32 = 17;
 pub const MARK: u32 = 18;
 
 /// The places of a record: its cost, and a place a variable for its preconditions and for its effects.
@@ -42,7 +44,7 @@ pub const ROW_ROOM: usize = 80;
 const NO_ARRAY: (&str, usize, usize, u32) = ("", 0, 0, 0);
 
 /// The arrays by number: name, places, places lent after a reset, greatest value. Of a record only the cost goes so far; the
-/// others of its places are bytes. The marks are lent with the records.
+/// others of its places are bytes. The marks are lent with the records. The area has no places here: its bytes are nobody's answer.
 pub const ARRAYS: [(&str, usize, usize, u32); 19] = [
     ("facts", 1_700, FACTS_ROOM, 255),
     ("costs", 80, COSTS_ROOM, u32::MAX),
@@ -61,7 +63,7 @@ pub const ARRAYS: [(&str, usize, usize, u32); 19] = [
     ("buffer", TEXT_ROOM, BUFFER_ROOM, 255),
     NO_ARRAY,
     NO_ARRAY,
-    NO_ARRAY,
+    ("", 0, AREA_ROOM, 0),
     ("mark", ROW_ROOM, 0, 255),
 ];
 
@@ -79,6 +81,7 @@ pub struct Bench {
     lent: Vec<usize>,
     text: Vec<u8>,
     counts: Counts,
+    feed: Feed,
     printed: Vec<u8>,
 }
 
@@ -117,8 +120,8 @@ pub fn expect(script: &[u8]) -> Vec<u8> {
 
 impl Bench {
     pub fn new() -> Bench {
-        let counts = Counts::of_edition_1(0, 0, 0);
-        let mut bench = Bench { arrays: Vec::new(), lent: Vec::new(), text: Vec::new(), counts, printed: Vec::new() };
+        let (counts, feed) = (Counts::of_edition_1(0, 0, 0), Feed::new());
+        let mut bench = Bench { arrays: Vec::new(), lent: Vec::new(), text: Vec::new(), counts, feed, printed: Vec::new() };
         bench.reset();
         bench
     }
@@ -128,6 +131,7 @@ impl Bench {
         self.lent = ARRAYS.iter().map(|(_, _, lent, _)| *lent).collect();
         self.text = Vec::new();
         self.counts = Counts::of_edition_1(0, 0, 0);
+        self.feed = Feed::new();
     }
 
     fn print(&mut self, line: &str) {
@@ -156,7 +160,7 @@ impl Bench {
     /// The raw bytes of a text, and the byte after them.
     fn load<'a>(&mut self, length: usize, after: &'a [u8]) -> &'a [u8] {
         let text = &after[..length.min(after.len())];
-        self.text = text[..text.len().min(TEXT_ROOM)].to_vec();
+        self.set_text(text[..text.len().min(TEXT_ROOM)].to_vec());
         &after[after.len().min(length + 1)..]
     }
 
@@ -188,6 +192,7 @@ impl Bench {
         let most = match k as u32 {
             FACTS..=SECOND | BUFFER => ARRAYS[k].1,
             RECORDS => ROW_ROOM,
+            AREA => AREA_PLACES,
             _ => return,
         };
         if length <= most {
@@ -253,7 +258,13 @@ impl Bench {
 
     /// The text is the first bytes of the buffer, those that aren't lent included.
     fn take_copy(&mut self, length: usize) {
-        self.text = self.arrays[BUFFER as usize].iter().take(length).map(|byte| *byte as u8).collect();
+        self.set_text(self.arrays[BUFFER as usize].iter().take(length).map(|byte| *byte as u8).collect());
+    }
+
+    /// Another text, of which no piece was taken yet.
+    fn set_text(&mut self, text: Vec<u8>) {
+        self.text = text;
+        self.feed.rewind();
     }
 
     /// The text that is read next.
@@ -304,7 +315,11 @@ impl Bench {
         let (costs, shares) = (self.words(COSTS), self.words(SHARES));
         let lent = Lent { counts: self.counts, facts: &facts, costs, shares };
         Some(match (letter, numbers) {
-            (b'R', []) => self.read(),
+            (b'R', []) => self.read(|bench, facts, costs, shares| desk::read(&bench.text, facts, costs, shares)),
+            (b'S', []) => self.feed.begin(),
+            (b'I', [length]) => self.feed.take(&self.text, self.lent[AREA as usize], *length as usize),
+            (b'F', []) => self.read(|bench, facts, costs, shares| bench.feed.end(bench.lent[AREA as usize], facts, costs, shares)),
+            (b'V', [_, ..]) => self.read(|bench, facts, costs, shares| read_in_pieces(&bench.text, numbers, facts, costs, shares)),
             (b'T', []) => {
                 let mut buffer = self.bytes(BUFFER);
                 let answer = desk::write(lent, &mut buffer);
@@ -339,10 +354,10 @@ impl Bench {
         })
     }
 
-    /// An accepted text's counts become the bench's.
-    fn read(&mut self) -> Answer {
+    /// A reading into the lent tables. An accepted text's counts become the bench's.
+    fn read(&mut self, read: impl FnOnce(&mut Bench, &mut [u8], &mut [u32], &mut [u32]) -> Answer) -> Answer {
         let (mut facts, mut costs, mut shares) = (self.bytes(FACTS), self.words(COSTS).to_vec(), self.words(SHARES).to_vec());
-        let answer = desk::read(&self.text, &mut facts, &mut costs, &mut shares);
+        let answer = read(self, &mut facts, &mut costs, &mut shares);
         self.put_bytes(FACTS, &facts);
         self.put(COSTS, &costs);
         self.put(SHARES, &shares);

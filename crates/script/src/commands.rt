@@ -128,11 +128,13 @@ pub fn parsed(line: Line) -> Command {
 pub fn known(letter: u8, count: usize) -> bool {
     match letter {
         b'z' | b'q' | b'b' => count == 0,
-        b'R' | b'T' | b'K' | b'B' | b'M' | b'J' | b'W' | b'C' | b'P' | b'G' => count == 0,
-        b't' | b'u' | b'D' | b'A' => count == 1,
+        b'R' | b'T' | b'K' | b'B' | b'M' | b'J' | b'W' | b'C' | b'P' | b'G' | b'S' | b'F' => count
+            == 0,
+        b't' | b'u' | b'D' | b'A' | b'I' => count == 1,
         b'l' | b'e' | b'p' | b'O' => count == 2,
         b'n' => count == 3 || count == 5,
         b's' => 2 < count,
+        b'V' => 0 < count,
         _ => false,
     }
 }

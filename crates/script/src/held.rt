@@ -1,7 +1,5 @@
 // What the program holds: its arrays, one after another in one lent row of words. A call is lent copies of them; afterwards each copy is
-// compared with the row, so that what the call changed is printed and kept.
-use crate::lines::Line;
-use crate::lines::say_number;
+// compared with the row, so that what the call changed is printed and kept (changes.rt).
 
 // The arrays of the script.
 pub const FACTS: u32 = 0;
@@ -34,12 +32,20 @@ pub const BUFFER: u32 = 14;
 
 pub const MARK: u32 = 18;
 
-// The program's own: the lengths of the lent arrays, the counts, and the length of the text. The script has no arrays 12 and 15 to 17.
+// The area that a text in pieces is read in. It can be lent with a length, and nothing else: its bytes are nobody's answer.
+pub const AREA: u32 = 17;
+
+// The program's own: the lengths of the lent arrays, the counts, the length of the text, the text so far that came in pieces, and how many
+// bytes of the text were taken so. The script has no arrays 12, 15 and 16, and none above 18.
 pub const LENT: u32 = 12;
 
 pub const COUNTS: u32 = 15;
 
 pub const TEXT: u32 = 16;
+
+pub const SO_FAR: u32 = 19;
+
+pub const TAKEN: u32 = 20;
 
 // How many places the lent arrays have: each more than the largest task or the longest list takes, so that lengths beyond can be tried.
 pub const FACTS_PLACES: usize = 1700;
@@ -64,6 +70,11 @@ const RECORDS_PLACES: usize = ROW_RECORDS * RECORD;
 // The buffer that a text is written into: more than a text may have, and as many bytes as are kept of the text that is read.
 pub const BUFFER_PLACES: usize = 16500;
 
+// The area, more than a text in pieces takes, and the words of a text so far.
+pub const AREA_PLACES: usize = 8200;
+
+const SO_FAR_WORDS: usize = 20;
+
 // The places of a run's arrays: a state, the log and the columns.
 pub const RUN_STATE: usize = 8;
 
@@ -72,7 +83,7 @@ pub const LOG_PLACES: usize = 1024;
 pub const COLUMNS: usize = 10;
 
 // The lengths of the lent arrays, each at its array's number, and the counts.
-const LENT_PLACES: usize = 15;
+const LENT_PLACES: usize = 18;
 
 const COUNTS_PLACES: usize = 5;
 
@@ -111,10 +122,16 @@ const TEXT_AT: usize = COUNTS_AT + COUNTS_PLACES;
 
 const MARK_AT: usize = TEXT_AT + 1;
 
-// The places of all arrays.
-pub const PLACES: usize = MARK_AT + ROW_RECORDS;
+const AREA_AT: usize = MARK_AT + ROW_RECORDS;
 
-// The array is one of the script's: all but the program's own.
+const SO_FAR_AT: usize = AREA_AT + AREA_PLACES;
+
+const TAKEN_AT: usize = SO_FAR_AT + SO_FAR_WORDS;
+
+// The places of all arrays.
+pub const PLACES: usize = TAKEN_AT + 1;
+
+// The array is one whose places the script sets and shows: all but the area and the program's own.
 pub fn of_script(k: u32) -> bool {
     match k {
         LENT => false,
@@ -134,13 +151,15 @@ pub fn places(k: u32) -> usize {
         FIRST | SECOND => LIST_PLACES,
         START | NOW => RUN_STATE,
         LOG => LOG_PLACES,
-        LEN | TEXT => 1,
+        LEN | TEXT | TAKEN => 1,
         COLUMN => COLUMNS,
         RECORDS => RECORDS_PLACES,
         BUFFER => BUFFER_PLACES,
         LENT => LENT_PLACES,
         COUNTS => COUNTS_PLACES,
         MARK => ROW_RECORDS,
+        AREA => AREA_PLACES,
+        SO_FAR => SO_FAR_WORDS,
         _ => 0,
     }
 }
@@ -166,6 +185,9 @@ fn base(k: u32) -> usize {
         COUNTS => COUNTS_AT,
         TEXT => TEXT_AT,
         MARK => MARK_AT,
+        AREA => AREA_AT,
+        SO_FAR => SO_FAR_AT,
+        TAKEN => TAKEN_AT,
         _ => 0,
     }
 }
@@ -183,7 +205,7 @@ pub fn of_bytes(k: u32, i: usize) -> bool {
 pub fn most_lent(k: u32) -> usize {
     match k {
         RECORDS => ROW_RECORDS,
-        FACTS | COSTS | SHARES | OUT | STATE | FIRST | SECOND | BUFFER => places(k),
+        FACTS | COSTS | SHARES | OUT | STATE | FIRST | SECOND | BUFFER | AREA => places(k),
         _ => 0,
     }
 }
@@ -229,7 +251,7 @@ fn low(x: u32) -> u8 {
 }
 
 // A byte as a word.
-fn wide(b: u8) -> u32 {
+pub fn wide(b: u8) -> u32 {
     b as u32
 }
 
@@ -276,106 +298,11 @@ pub fn put_bytes(held: &mut [u32], k: u32, from: &[u8]) {
     }
 }
 
-// Compares a copy of an array of bytes with what is held: prints what has changed, and keeps it.
-pub fn save_bytes(held: &mut [u32], k: u32, from: &[u8]) {
-    let mut tally = Tally::none();
+// The same of words.
+pub fn put_words(held: &mut [u32], k: u32, from: &[u32]) {
     let mut i = 0;
     while i < from.len() {
-        tally = tally.kept(held, k, i, wide(from[i]));
+        put(held, k, i, from[i]);
         i += 1;
-    }
-    tally.say_more(k)
-}
-
-// Compares a copy of an array of words with what is held: prints what has changed, and keeps it.
-pub fn save_words(held: &mut [u32], k: u32, from: &[u32]) {
-    let mut tally = Tally::none();
-    let mut i = 0;
-    while i < from.len() {
-        tally = tally.kept(held, k, i, from[i]);
-        i += 1;
-    }
-    tally.say_more(k)
-}
-
-// The name of an array.
-pub fn named(k: u32) -> Line {
-    let line = Line::empty();
-    match k {
-        FACTS => line.word(b"facts"),
-        COSTS => line.word(b"costs"),
-        SHARES => line.word(b"shares"),
-        OUT => line.word(b"out"),
-        STATE => line.word(b"state"),
-        FIRST => line.word(b"first"),
-        SECOND => line.word(b"second"),
-        START => line.word(b"start"),
-        LOG => line.word(b"log"),
-        LEN => line.word(b"len"),
-        NOW => line.word(b"now"),
-        COLUMN => line.word(b"column"),
-        BUFFER => line.word(b"buffer"),
-        MARK => line.word(b"mark"),
-        _ => line.word(b"records"),
-    }
-}
-
-// A place with its value. The one place of `len` goes without its number.
-pub fn say_place(k: u32, i: usize, x: u32) {
-    if k == LEN {
-        say_number(b"len", x as u64)
-    } else {
-        named(k).number(i as u64).number(x as u64).say()
-    }
-}
-
-// How many changed places are printed one by one.
-const SHOWN: u64 = 64;
-
-// What the digest of the further ones is taken by.
-const PRIME: u64 = 1_000_003;
-
-// The changed places of an array: how many they are, and the digest of those that aren't printed.
-pub struct Tally {
-    pub seen: u64,
-    pub digest: u64,
-}
-
-// The digest with one place more.
-fn digested(digest: u64, i: u64, x: u32) -> u64 {
-    (31 * (digest % PRIME) + i % PRIME + x as u64) % PRIME
-}
-
-impl Tally {
-    fn none() -> Tally {
-        Tally { seen: 0, digest: 0 }
-    }
-
-    // A place of the copy: kept, and printed if it has changed.
-    fn kept(self, held: &mut [u32], k: u32, i: usize, x: u32) -> Tally {
-        if value(held, k, i) == x {
-            return self;
-        }
-        put(held, k, i, x);
-        self.changed(k, i, x)
-    }
-
-    // One changed place more.
-    fn changed(mut self, k: u32, i: usize, x: u32) -> Tally {
-        if self.seen < SHOWN {
-            say_place(k, i, x);
-        } else {
-            self.digest = digested(self.digest, i as u64, x);
-        }
-        self.seen = std::num::wrapping_add_u64(self.seen, 1);
-        self
-    }
-
-    // The line on the places that weren't printed, if there are any.
-    fn say_more(self, k: u32) {
-        if SHOWN < self.seen {
-            let line = named(k).word(b" more").number(self.seen - SHOWN);
-            line.number(self.digest).say()
-        }
     }
 }

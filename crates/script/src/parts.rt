@@ -31,3 +31,40 @@ pub fn least(a: usize, b: usize) -> usize
 {
     if a < b { a } else { b }
 }
+
+// The n bytes from a place on, or as many as there are.
+pub fn part_bytes(s: &[u8], from: usize, n: usize) -> &[u8] {
+    let at = least(from, s.len());
+    let len = least(n, s.len() - at);
+    &s[at..at + len]
+}
+
+// The bytes are the same.
+pub fn same_bytes(a: &[u8], b: &[u8]) -> bool {
+    if a.len() != b.len() {
+        return false;
+    }
+    let mut i = 0;
+    while i < a.len() {
+        if a[i] != b[i] {
+            return false;
+        }
+        i += 1;
+    }
+    true
+}
+
+// The words are the same.
+pub fn same_words(a: &[u32], b: &[u32]) -> bool {
+    if a.len() != b.len() {
+        return false;
+    }
+    let mut i = 0;
+    while i < a.len() {
+        if a[i] != b[i] {
+            return false;
+        }
+        i += 1;
+    }
+    true
+}

@@ -1,5 +1,7 @@
 // The commands that set and show what the program holds.
+use crate::changes::say_place;
 use crate::commands::Command;
+use crate::held::AREA;
 use crate::held::BUFFER;
 use crate::held::COSTS;
 use crate::held::COUNTS;
@@ -13,12 +15,11 @@ use crate::held::of_bytes;
 use crate::held::of_script;
 use crate::held::places;
 use crate::held::put;
-use crate::held::say_place;
 use crate::held::value;
 use crate::lines::Line;
 use tables::Counts;
 
-// What calls are lent before the first line: the room for the largest task, for the distances of a map, for a state, and for a text.
+// What calls are lent before the first line: the room for the largest task, for the distances of a map, for a state, for a text, and for one in pieces.
 const FACTS_LENT: u32 = 1624;
 
 const COSTS_LENT: u32 = 64;
@@ -30,6 +31,11 @@ const OUT_LENT: u32 = 4096;
 const STATE_LENT: u32 = 8;
 
 const BUFFER_LENT: u32 = 16384;
+
+const AREA_LENT: u32 = 8192;
+
+// What the area holds before the first line: it may hold anything, and no reading leaves this in every place.
+const RUBBISH: u32 = 255;
 
 // The edition of counts that don't tell theirs.
 const FIRST_EDITION: u32 = 1;
@@ -46,15 +52,32 @@ fn clear(held: &mut [u32]) {
     }
 }
 
-// All as it is before the first line.
-pub fn reset(held: &mut [u32]) {
-    clear(held);
+// A value at every place of an array.
+fn fill(held: &mut [u32], k: u32, x: u32) {
+    let n = places(k);
+    let mut i = 0;
+    while i < n {
+        put(held, k, i, x);
+        i += 1;
+    }
+}
+
+// The lengths as they are before the first line.
+fn lend(held: &mut [u32]) {
     put(held, LENT, FACTS as usize, FACTS_LENT);
     put(held, LENT, COSTS as usize, COSTS_LENT);
     put(held, LENT, SHARES as usize, SHARES_LENT);
     put(held, LENT, OUT as usize, OUT_LENT);
     put(held, LENT, STATE as usize, STATE_LENT);
     put(held, LENT, BUFFER as usize, BUFFER_LENT);
+    put(held, LENT, AREA as usize, AREA_LENT);
+}
+
+// All as it is before the first line, but the text so far.
+pub fn reset(held: &mut [u32]) {
+    clear(held);
+    fill(held, AREA, RUBBISH);
+    lend(held);
     put(held, COUNTS, 3, FIRST_EDITION);
 }
 
@@ -88,7 +111,7 @@ fn set_some(held: &mut [u32], command: Command) {
     }
 }
 
-// A value at every place.
+// A value at every place that can hold it.
 fn set_all(held: &mut [u32], k: u32, x: u32) {
     let n = places(k);
     let mut i = 0;
@@ -177,7 +200,6 @@ pub fn set_or_show(held: &mut [u32], command: Command) {
     let b = command.value(1);
     let letter = command.letter;
     match letter {
-        b'z' => reset(held),
         b'n' => set_counts(held, counts_told(command)),
         b'l' => set_lent(held, a, b),
         b's' => set_some(held, command),

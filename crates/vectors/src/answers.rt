@@ -33,6 +33,13 @@ pub fn say_found(found: Found) {
     }
 }
 
+pub fn say_taken(found: Found) {
+    match found {
+        Found::Clean => say(b"taken"),
+        Found::Fault(r) => say_refused(r),
+    }
+}
+
 pub fn say_distances(answer: DistancesAnswer) {
     match answer {
         DistancesAnswer::Rounds(i) => say_number(b"rounds", i as u64),

@@ -10,9 +10,13 @@ use crate::answers::say_judged;
 use crate::answers::say_offered;
 use crate::answers::say_opening;
 use crate::answers::say_refused;
+use crate::answers::say_taken;
 use crate::answers::say_written;
 use crate::runs::keep_run;
 use crate::runs::run_held;
+use cut_texts::from_lines::begin_held;
+use cut_texts::from_lines::take_held;
+use cut_texts::read_by;
 use desk::begin;
 use desk::bound;
 use desk::cheaper;
@@ -22,10 +26,11 @@ use desk::distances;
 use desk::judge;
 use desk::offer;
 use desk::opening;
-use desk::read;
 use desk::write;
 use grammar::Reading;
 use meaning::OpNo;
+use script::changes::save_bytes;
+use script::changes::save_words;
 use script::commands::Command;
 use script::held::BUFFER;
 use script::held::BUFFER_PLACES;
@@ -48,9 +53,8 @@ use script::held::TEXT;
 use script::held::lent;
 use script::held::load_bytes;
 use script::held::load_words;
-use script::held::save_bytes;
-use script::held::save_words;
 use script::held::value;
+use script::lines::say;
 use script::parts::front_bytes;
 use script::parts::front_words;
 use script::parts::least;
@@ -58,7 +62,7 @@ use script::setting::counts_held;
 use script::setting::say_counts;
 use script::setting::set_counts;
 
-// The answer of `read`; the counts of an accepted text are kept.
+// The answer of a reading; the counts of an accepted text are kept.
 fn keep_reading(held: &mut [u32], answer: Reading) {
     match answer {
         Reading::Accepted(c) => {
@@ -69,8 +73,15 @@ fn keep_reading(held: &mut [u32], answer: Reading) {
     }
 }
 
-// `R`: reads the text into the tables.
-pub fn call_read(held: &mut [u32], text: &[u8]) {
+// Something is said only where the text in pieces gets another answer.
+fn say_alike(alike: bool) {
+    if !alike {
+        say(b"in pieces otherwise")
+    }
+}
+
+// `R`, `F` and `V`: reads a text into the tables.
+pub fn call_read(held: &mut [u32], text: &[u8], command: Command) {
     let mut facts = [0u8; FACTS_PLACES];
     let mut costs = [0u32; COSTS_PLACES];
     let mut shares = [0u32; SHARES_PLACES];
@@ -81,11 +92,31 @@ pub fn call_read(held: &mut [u32], text: &[u8]) {
     let f = least(lent(held, FACTS), FACTS_PLACES);
     let c = least(lent(held, COSTS), COSTS_PLACES);
     let s = least(lent(held, SHARES), SHARES_PLACES);
-    let answer = read(task, &mut facts[..f], &mut costs[..c], &mut shares[..s]);
+    let told = read_by(
+        held,
+        task,
+        command,
+        &mut facts[..f],
+        &mut costs[..c],
+        &mut shares[..s],
+    );
+    let answer = told.reading;
     keep_reading(held, answer);
+    say_alike(told.alike);
     save_bytes(held, FACTS, &facts);
     save_words(held, COSTS, &costs);
     save_words(held, SHARES, &shares);
+}
+
+// `S`: begins a text that comes in pieces.
+pub fn call_begin_text(held: &mut [u32]) {
+    begin_held(held);
+    say(b"begun")
+}
+
+// `I`: takes a piece of it.
+pub fn call_take_piece(held: &mut [u32], text: &[u8], n: u32) {
+    say_taken(take_held(held, text, n))
 }
 
 // `T`: writes the text of the tables into the buffer.
@@ -182,7 +213,7 @@ fn call_over(
     }
 }
 
-// Every call but `R`: the tables and the state are lent as they are held.
+// Every call but those that read a text: the tables and the state are lent as they are held.
 pub fn call(held: &mut [u32], command: Command) {
     let mut facts = [0u8; FACTS_PLACES];
     let mut costs = [0u32; COSTS_PLACES];

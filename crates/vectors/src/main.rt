@@ -7,12 +7,15 @@ mod runs;
 mod texts;
 
 use crate::calls::call;
+use crate::calls::call_begin_text;
 use crate::calls::call_read;
+use crate::calls::call_take_piece;
 use crate::rows::call_row;
 use crate::texts::TEXT_BYTES;
 use crate::texts::copy_text;
 use crate::texts::take_copy;
 use crate::texts::take_text;
+use cut_texts::from_lines::start_anew;
 use script::commands::Command;
 use script::commands::known;
 use script::commands::parsed;
@@ -23,7 +26,6 @@ use script::input::next_line;
 use script::lines::Line;
 use script::lines::MOST;
 use script::lines::say;
-use script::setting::reset;
 use script::setting::set_or_show;
 
 // The bytes of the input that are read at a time.
@@ -35,9 +37,12 @@ fn obey(held: &mut [u32], text: &mut [u8], command: Command) {
     match letter {
         b'b' => copy_text(held, text),
         b'u' => take_copy(held, text, command.value(0)),
-        b'R' => call_read(held, text),
+        b'R' | b'F' | b'V' => call_read(held, text, command),
+        b'S' => call_begin_text(held),
+        b'I' => call_take_piece(held, text, command.value(0)),
         b'W' => call_row(held),
-        b'z' | b'n' | b'l' | b's' | b'e' | b'p' | b'q' => set_or_show(held, command),
+        b'z' => start_anew(held),
+        b'n' | b'l' | b's' | b'e' | b'p' | b'q' => set_or_show(held, command),
         _ => call(held, command),
     }
 }
@@ -99,6 +104,6 @@ fn main() {
     let mut held = [0u32; PLACES];
     let mut text = [0u8; TEXT_BYTES];
     let mut buf = [0u8; READ_BYTES];
-    reset(&mut held);
+    start_anew(&mut held);
     carry_out_all(&mut held, &mut text, &mut buf)
 }

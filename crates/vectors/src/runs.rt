@@ -1,5 +1,7 @@
 // The run that is held, taken out of its five arrays and put back into them.
 use ledger::Run;
+use script::changes::save_bytes;
+use script::changes::save_words;
 use script::held::COLUMN;
 use script::held::COLUMNS;
 use script::held::LEN;
@@ -10,8 +12,6 @@ use script::held::RUN_STATE;
 use script::held::START;
 use script::held::load_bytes;
 use script::held::load_words;
-use script::held::save_bytes;
-use script::held::save_words;
 use script::held::value;
 
 // The run of the five arrays.

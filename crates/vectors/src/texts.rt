@@ -1,6 +1,7 @@
 // The text that `R` reads: taken from the script or from the buffer, and copied into the buffer.
 use script::held::BUFFER;
 use script::held::BUFFER_PLACES;
+use script::held::TAKEN;
 use script::held::TEXT;
 use script::held::load_bytes;
 use script::held::put;
@@ -14,10 +15,11 @@ use script::parts::least;
 // The most bytes of a text that are kept: as many as the buffer has places.
 pub const TEXT_BYTES: usize = BUFFER_PLACES;
 
-// The text is so many bytes long, or as long as it can be.
+// A new text is so many bytes long, or as long as it can be. Pieces are taken from its beginning on.
 fn set_length(held: &mut [u32], n: usize) {
     let len = least(n, TEXT_BYTES);
-    put(held, TEXT, 0, len as u32)
+    put(held, TEXT, 0, len as u32);
+    put(held, TAKEN, 0, 0)
 }
 
 // `t`: the bytes that follow are the text.

@@ -7,26 +7,26 @@ use Rattle.vectors.proofs.calls.call_read.Tie as tie
 
 slice-aggregate-save-bytes : tie.Need-slice-aggregate-save-bytes
 slice-aggregate-save-bytes c =
-    let called = c .before .before .before .before .before .before .before .before .before in
-    let measured = called .before .before .before .before .before .before .before .before .before .before in
+    let called = c .before .before .before .before .before .before .before .before .before .before .before .before in
+    let measured = called .before .before .before .before .before .before .before .before .before .before .before in
     let copied = measured .before .before .before .before .before .before .before .before .before .before .before .before .before .before .before in
-    let kept = length-front (copied .load-bytes .last .1 .1 .0) (called .read .last .1 .0) (measured .least .result) (called .read .kept .1 .0) in
+    let kept = length-front (copied .load-bytes .last .1 .1 .0) (called .read-by .last .1 .1 .1 .0) (measured .least .result) (called .read-by .kept .1 .1 .1 .0) in
     sym (kept ∙ copied .load-bytes .kept .1 .1 .0)
 
 slice-aggregate-save-words : tie.Need-slice-aggregate-save-words
 slice-aggregate-save-words c =
-    let called = c .before .before .before .before .before .before .before .before .before .before .before .before .before .before in
-    let measured = called .before .before .before .before .before .before .before in
+    let called = c .before .before .before .before .before .before .before .before .before .before .before .before .before .before .before .before .before in
+    let measured = called .before .before .before .before .before .before .before .before in
     let copied = measured .before .before .before .before .before .before .before .before .before .before .before .before .before .before in
-    let kept = length-front (copied .load-words .last .1 .1 .0) (called .read .last .1 .1 .0) (measured .least2 .result) (called .read .kept .1 .1 .0) in
+    let kept = length-front (copied .load-words .last .1 .1 .0) (called .read-by .last .1 .1 .1 .1 .0) (measured .least2 .result) (called .read-by .kept .1 .1 .1 .1 .0) in
     sym (kept ∙ copied .load-words .kept .1 .1 .0)
 
 slice-aggregate-save-words-2 : tie.Need-slice-aggregate-save-words-2
 slice-aggregate-save-words-2 c =
-    let called = c .before .before .before .before .before .before .before .before .before .before .before .before .before .before .before .before .before .before .before in
-    let measured = called .before .before .before .before in
+    let called = c .before .before .before .before .before .before .before .before .before .before .before .before .before .before .before .before .before .before .before .before .before .before in
+    let measured = called .before .before .before .before .before in
     let copied = measured .before .before .before .before .before .before .before .before .before .before .before .before .before in
-    let kept = length-front (copied .load-words2 .last .1 .1 .0) (called .read .last .1 .1 .1 .0) (measured .least3 .result) (called .read .kept .1 .1 .1 .0) in
+    let kept = length-front (copied .load-words2 .last .1 .1 .0) (called .read-by .last .1 .1 .1 .1 .1 .0) (measured .least3 .result) (called .read-by .kept .1 .1 .1 .1 .1 .0) in
     sym (kept ∙ copied .load-words2 .kept .1 .1 .0)
 
 pub call-read-spec : {M : Type 1} → statement M
@@ -54,6 +54,7 @@ call-read-spec =
     (λ c. sym (length-take-le _ _ (search needs)))
     (λ c. search needs)
     (λ c. sym (length-take-le _ _ (search needs)))
+    (λ c κs. search needs)
     (λ c κs. search needs)
     (λ c κs. search needs)
     slice-aggregate-save-bytes
