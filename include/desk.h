@@ -1,11 +1,11 @@
 /* desk.h: the sequence desk for C.
  *
- * PROVED are the eleven functions that are declared here without a body, desk_read to desk_offer: whatever is handed
- * in, each answers as its contract says, and a refusal alters nothing that was lent (crates/desk_c/src/lib.rt has the
- * contracts, docs/PROMISES.md the map of what is shown). NOT PROVED is what is C: that they are declared here as they
- * are exported, and the eight helpers with a body: desk_kind, desk_number and desk_is_refusal, which take an answer
- * apart, and desk_run_steps, desk_run_op, desk_run_paid, desk_run_unshared and desk_run_stored, which look into a run.
- * bindings/test tries them.
+ * PROVED are the fourteen functions that are declared here without a body, desk_read to desk_offer: whatever is handed
+ * in, each answers as its contract says, and a refusal alters nothing that was lent, but that desk_end_text notes in
+ * its words that the text has ended (crates/desk_c/src/lib.rt has the contracts, docs/PROMISES.md the map of what is
+ * shown). NOT PROVED is what is C: that they are declared here as they are exported, and the eight helpers with a body:
+ * desk_kind, desk_number and desk_is_refusal, which take an answer apart, and desk_run_steps, desk_run_op,
+ * desk_run_paid, desk_run_unshared and desk_run_stored, which look into a run. bindings/test tries them.
  *
  * Link with libdesk_c.a, which `rt staticlib desk_c` writes to target/staticlib/; it is for x86-64 Linux. The
  * functions keep nothing between calls, allocate nothing and may be called from any thread.
@@ -13,9 +13,9 @@
  * What is lent is a pointer and a length, counted in places (bytes or words) and not in bytes. The length is what is
  * trusted, so it must not be more than what the pointer has; with a length of 0 the pointer is not looked at. No two
  * lent parts may overlap, unless both are only read. A part that is longer than needed is fine; what is beyond is
- * neither read nor written, except by desk_read, which sets what is beyond in the three tables to 0. A part that is
- * shorter than needed is refusal 8 at place 0, and nothing else happens; desk_opening alone never refuses, and
- * answers the empty part then.
+ * neither read nor written, except by desk_read and desk_end_text, which set what is beyond in the three tables to 0. A
+ * part that is shorter than needed is refusal 8 at place 0, and nothing else happens; desk_opening alone never refuses,
+ * and answers the empty part then.
  *
  * A TASK is lent as a row of counts (DESK_COUNTS words at least: the numbers of variables, operators and maps, the
  * edition, the quota) and three tables: facts (DESK_FACTS bytes at least), costs (DESK_COSTS words at least) and shares
@@ -23,6 +23,14 @@
  * crates/tables/specs/Layout.antt says where each number stands. Each function judges them afresh, so nobody has to
  * have checked them; a row that breaks a rule is among what is called faulty tables below. Variables, values, operators
  * and maps count from 0, lines and steps from 1.
+ *
+ * A TEXT IN PIECES comes a piece at a time, of any lengths, 0 too: desk_begin_text, then desk_take_piece for each piece
+ * in its order, then desk_end_text, which fills counts and tables, or refuses, as desk_read does for the pieces put
+ * together, however the text was cut. The text is not kept: what has been read of it stands in its words
+ * (DESK_TEXT_WORDS at least) and in a work area (DESK_AREA bytes at least), which are lent to each call. The area is
+ * nobody's answer: it may hold anything before the text's first byte is taken, and need not be kept after the end. In
+ * between, words and area are to be handed on as they were left; each text has its own. Changed ones get an answer too,
+ * but which is not said here: docs/PROMISES.md.
  *
  * In edition 2 an operator STORES A TEST if its mark is 1. The marks stand in the facts, operator 0's at DESK_MARKS and
  * the others' behind it. The quota is how many tests a list of steps, or a run, may store; each counts its own from 0.
@@ -54,6 +62,8 @@ extern "C" {
 #define DESK_COSTS 64
 #define DESK_SHARES 512
 #define DESK_TEXT 16384
+#define DESK_TEXT_WORDS 20
+#define DESK_AREA 8192
 #define DESK_DISTANCES 4096
 #define DESK_RUN_BYTES 16
 #define DESK_RUN_WORDS (DESK_STEPS + 1 + DESK_MAPS + 2)
@@ -109,6 +119,26 @@ static inline int desk_is_refusal(desk_word w) { return desk_kind(w) >= 1 && des
  * lent is altered. */
 desk_word desk_read(const uint8_t *text, size_t text_len, uint32_t *counts, size_t counts_len, uint8_t *facts,
                     size_t facts_len, uint32_t *costs, size_t costs_len, uint32_t *shares, size_t shares_len);
+
+/* BEGINS a text in pieces. DESK_DONE: the words say that no byte has been taken, whatever they said before.
+ * Refusals: 8 (words too short). Then they are as they were. */
+desk_word desk_begin_text(uint32_t *text, size_t text_len);
+
+/* TAKES A PIECE, the next bytes of a text that was begun. DESK_DONE: words and area say what has been read so far, and
+ * the piece need not be kept. A fault in the text is told at the end, and not here.
+ * Refusals: 8 (words or area too short), then 2 at place 0 (the text has ended). Nothing lent is altered. */
+desk_word desk_take_piece(uint32_t *text, size_t text_len, uint8_t *area, size_t area_len, const uint8_t *piece,
+                          size_t piece_len);
+
+/* ENDS a text in pieces, and answers as desk_read does for all that was taken. DESK_DONE: counts and tables are as
+ * desk_read leaves them. The area is only read.
+ * Refusals: 8 (words, area, counts or a table too short), which isn't the end: the text may go on, or be ended again;
+ * then 2 at place 0 (the text has ended before); then 1 (above 16,384 bytes in all), before any fault in the text; then
+ * 2 to 7 and 18 at their line, as desk_read has them. Counts and tables are as they were.
+ * DESK_DONE, 1 and the text's own fault are the end: the first of the words is 1 then. No other word is altered. */
+desk_word desk_end_text(uint32_t *text, size_t text_len, const uint8_t *area, size_t area_len, uint32_t *counts,
+                        size_t counts_len, uint8_t *facts, size_t facts_len, uint32_t *costs, size_t costs_len,
+                        uint32_t *shares, size_t shares_len);
 
 /* WRITES the text of the lent tables, in their edition, into buffer (DESK_TEXT bytes at least, whatever the task; no
  * task's text has more than 10,588, in edition 1 10,449). DESK_DONE with the text's length: the text stands in buffer from its

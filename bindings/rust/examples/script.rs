@@ -2,12 +2,18 @@
 //!
 //!     script < SCRIPT
 //!
-//! The lines are read by the judge's own reader of scripts; the entries behind it are the library's, with exactly the lengths that the script lends.
+//! The lines are read by the judge's own reader of scripts; the entries behind it are the library's, with exactly the lengths that the script lends. Each text that is
+//! read is besides read in pieces, and `in pieces otherwise` is printed where that differs; the judge never prints it.
+#[path = "../../../judge/src/feed.rs"]
+mod feed;
 #[path = "../src/ffi.rs"]
 mod ffi;
 #[path = "../../../judge/src/limits.rs"]
 #[allow(dead_code)]
 mod limits;
+#[path = "../../../judge/src/rng.rs"]
+#[allow(dead_code)]
+mod rng;
 #[path = "../../../judge/src/row.rs"]
 #[allow(dead_code)]
 mod row;
@@ -87,10 +93,71 @@ mod run {
     }
 }
 
+/// A text that is read through the library into lent tables: the word, the counts, and every place of the tables.
+mod reading {
+    use crate::ffi;
+    use crate::rng::Rng;
+
+    #[derive(Clone, PartialEq)]
+    pub struct Reading {
+        pub word: u64,
+        pub row: [u32; 5],
+        pub facts: Vec<u8>,
+        pub costs: Vec<u32>,
+        pub shares: Vec<u32>,
+    }
+
+    impl Reading {
+        pub fn before(facts: &[u8], costs: &[u32], shares: &[u32]) -> Reading {
+            Reading { word: 0, row: [0; 5], facts: facts.to_vec(), costs: costs.to_vec(), shares: shares.to_vec() }
+        }
+
+        pub fn whole(mut self, text: &[u8]) -> Reading {
+            self.word = ffi::read(text, &mut self.row, &mut self.facts, &mut self.costs, &mut self.shares);
+            self
+        }
+
+        /// In an area that holds something before; a piece that is refused is no reading.
+        fn in_pieces(mut self, pieces: &[&[u8]]) -> Option<Reading> {
+            let (mut words, mut area) = ([u32::MAX; 20], [u8::MAX; 8192]);
+            let begun = ffi::begin_text(&mut words) == 0;
+            if !begun || pieces.iter().any(|piece| ffi::take_piece(&mut words, &mut area, piece) != 0) {
+                return None;
+            }
+            self.word = ffi::end_text(&mut words, &area, &mut self.row, &mut self.facts, &mut self.costs, &mut self.shares);
+            Some(self)
+        }
+
+        /// The same in pieces, singly and cut by chance, from what was before.
+        pub fn is_that_of_pieces(&self, before: &Reading, text: &[u8]) -> bool {
+            [singly(text), by_chance(text)].iter().all(|pieces| before.clone().in_pieces(pieces).as_ref() == Some(self))
+        }
+    }
+
+    /// Single bytes, with an empty piece before each.
+    fn singly(text: &[u8]) -> Vec<&[u8]> {
+        text.chunks(1).flat_map(|byte| [&byte[..0], byte]).collect()
+    }
+
+    /// Pieces of 0 to 39 bytes; the text's length and its first bytes tell where it is cut.
+    fn by_chance(text: &[u8]) -> Vec<&[u8]> {
+        let begin = |seed: u64, byte: &u8| seed.wrapping_mul(31).wrapping_add(u64::from(*byte));
+        let mut rng = Rng::new(text.iter().take(64).fold(text.len() as u64, begin));
+        let (mut pieces, mut rest) = (Vec::new(), text);
+        while !rest.is_empty() {
+            let (piece, after) = rest.split_at(rng.below(40).min(rest.len()));
+            pieces.push(piece);
+            rest = after;
+        }
+        pieces
+    }
+}
+
 /// The entries, each with the line that the script prints for its answer.
 mod desk {
     use crate::ffi;
     use crate::limits::{MAPS, STEPS, VARS};
+    use crate::reading::Reading;
     use crate::row::{laid, Record};
     use crate::run::Run;
     use crate::tables::{Counts, Lent};
@@ -131,14 +198,43 @@ mod desk {
         ask(ffi::Lent { counts: &[vars, ops, maps, edition, quota], facts: lent.facts, costs: lent.costs, shares: lent.shares })
     }
 
-    pub fn read(text: &[u8], facts: &mut [u8], costs: &mut [u32], shares: &mut [u32]) -> Answer {
-        let mut row = [0; 5];
-        let word = ffi::read(text, &mut row, facts, costs, shares);
-        let [vars, ops, maps, edition, quota] = row;
+    /// The answer of a reading, by its word and the row of counts that it left.
+    fn as_read(word: u64, [vars, ops, maps, edition, quota]: [u32; 5]) -> Answer {
         match word {
             0 => Answer::Read(Counts { vars, ops, maps, edition, quota }),
             _ => told(word, "", false),
         }
+    }
+
+    pub fn read(text: &[u8], facts: &mut [u8], costs: &mut [u32], shares: &mut [u32]) -> Answer {
+        let before = Reading::before(facts, costs, shares);
+        let whole = before.clone().whole(text);
+        facts.copy_from_slice(&whole.facts);
+        costs.copy_from_slice(&whole.costs);
+        shares.copy_from_slice(&whole.shares);
+        match as_read(whole.word, whole.row) {
+            answer if whole.is_that_of_pieces(&before, text) => answer,
+            answer => Answer::Told(format!("{answer}\nin pieces otherwise")),
+        }
+    }
+
+    /// A text in pieces: its words, as the library is lent them.
+    pub struct SoFar([u32; 20]);
+
+    pub fn begin_text() -> (SoFar, Answer) {
+        let mut words = [u32::MAX; 20];
+        let word = ffi::begin_text(&mut words);
+        (SoFar(words), told(word, "begun", false))
+    }
+
+    pub fn take_piece(so_far: &mut SoFar, area: &mut [u8], piece: &[u8]) -> Answer {
+        told(ffi::take_piece(&mut so_far.0, area, piece), "taken", false)
+    }
+
+    pub fn end_text(so_far: &mut SoFar, area: &[u8], facts: &mut [u8], costs: &mut [u32], shares: &mut [u32]) -> Answer {
+        let mut row = [0; 5];
+        let word = ffi::end_text(&mut so_far.0, area, &mut row, facts, costs, shares);
+        as_read(word, row)
     }
 
     pub fn write(lent: Lent<'_>, buffer: &mut [u8]) -> Answer {

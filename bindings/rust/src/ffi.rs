@@ -41,6 +41,22 @@ extern "C" {
         shares: *mut u32,
         shares_len: usize,
     ) -> u64;
+    fn desk_begin_text(text: *mut u32, text_len: usize) -> u64;
+    fn desk_take_piece(text: *mut u32, text_len: usize, area: *mut u8, area_len: usize, piece: *const u8, piece_len: usize) -> u64;
+    fn desk_end_text(
+        text: *mut u32,
+        text_len: usize,
+        area: *const u8,
+        area_len: usize,
+        counts: *mut u32,
+        counts_len: usize,
+        facts: *mut u8,
+        facts_len: usize,
+        costs: *mut u32,
+        costs_len: usize,
+        shares: *mut u32,
+        shares_len: usize,
+    ) -> u64;
 }
 
 /// A task's row of counts and its tables, lent for reading.
@@ -79,6 +95,34 @@ pub fn read(text: &[u8], counts: &mut [u32], facts: &mut [u8], costs: &mut [u32]
         desk_read(
             text.as_ptr(),
             text.len(),
+            counts.as_mut_ptr(),
+            counts.len(),
+            facts.as_mut_ptr(),
+            facts.len(),
+            costs.as_mut_ptr(),
+            costs.len(),
+            shares.as_mut_ptr(),
+            shares.len(),
+        )
+    }
+}
+
+pub fn begin_text(text: &mut [u32]) -> u64 {
+    // As for `call!`, and below too.
+    unsafe { desk_begin_text(text.as_mut_ptr(), text.len()) }
+}
+
+pub fn take_piece(text: &mut [u32], area: &mut [u8], piece: &[u8]) -> u64 {
+    unsafe { desk_take_piece(text.as_mut_ptr(), text.len(), area.as_mut_ptr(), area.len(), piece.as_ptr(), piece.len()) }
+}
+
+pub fn end_text(text: &mut [u32], area: &[u8], counts: &mut [u32], facts: &mut [u8], costs: &mut [u32], shares: &mut [u32]) -> u64 {
+    unsafe {
+        desk_end_text(
+            text.as_mut_ptr(),
+            text.len(),
+            area.as_ptr(),
+            area.len(),
             counts.as_mut_ptr(),
             counts.len(),
             facts.as_mut_ptr(),

@@ -1,13 +1,15 @@
-//! The sequence desk for Rust: a task read from its text and written back, the least bench seconds any sequence still needs, sequences judged, and a run with its ledger
+//! The sequence desk for Rust: a task read from its text, whole or in pieces, and written back, the least bench seconds any sequence still needs, sequences judged, and a run with its ledger
 //! and its stored tests.
 //!
 //! Everything here goes to the proved desk (`libdesk_c.a`, x86-64 Linux) and comes back as it answered; this crate only gives the numbers types that can't be mixed up.
 //! A [`Refusal`] carries the desk's number and place, and then nothing was altered. What the desk's answers mean, and what is proved of them, is in the repository's
 //! docs/PROMISES.md; what to do about a refusal at the bench is in docs/REFUSALS.md.
 mod ffi;
+mod reading;
 mod refusal;
 mod run;
 
+pub use reading::{Reading, AREA, TEXT_WORDS};
 pub use refusal::{Place, Refusal};
 pub use run::{Answer, Run, RUN_BYTES, RUN_WORDS};
 use std::fmt;
@@ -164,7 +166,7 @@ impl State {
 }
 
 impl Task {
-    /// Reads a task's text.
+    /// Reads a task's text. One that comes in pieces is read by a [`Reading`].
     pub fn read(text: &[u8]) -> Result<Task, Refusal> {
         let mut facts = [0; FACTS];
         let mut costs = [0; COSTS];

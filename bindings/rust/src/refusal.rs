@@ -1,7 +1,7 @@
 //! A refusal: its number on the desk's list, its place, and what it means.
 use std::{error, fmt};
 
-/// Why the desk said no. Nothing that was lent was altered.
+/// Why the desk said no. Nothing that was lent was altered, but that a text in pieces may have ended with it.
 #[derive(Clone, Copy, Debug, PartialEq, Eq, Hash)]
 pub struct Refusal {
     number: u8,
@@ -41,7 +41,7 @@ impl Refusal {
     /// The place, and what it counts.
     pub fn place(self) -> Place {
         match self.number {
-            3 if self.place == 0 => Place::Nowhere,
+            2 | 3 if self.place == 0 => Place::Nowhere,
             2..=7 | 18 => Place::Line(self.place),
             9 => Place::Variable(self.place),
             10 | 12..=15 | 19 => Place::Step(self.place),
@@ -54,6 +54,7 @@ impl Refusal {
     pub fn meaning(self) -> &'static str {
         match self.number {
             1 => "the text is above 16,384 bytes",
+            2 if self.place == 0 => "the text has ended",
             2 => "the text is off the form",
             3 if self.place == 0 => "the task has no such map",
             3 => "a number is outside its range",

@@ -1,5 +1,5 @@
-//! Every function of the library, lent a row of counts or a table that is too short: 8 at place 0, and nothing is written. The crate makes no such task, so that the
-//! exported functions are asked themselves.
+//! Every function of the library, lent a row of counts, a table, or the words or the area of a text in pieces that are too short: 8 at place 0, and nothing is written.
+//! The crate lends none of these too short, so that the exported functions are asked themselves.
 #[path = "../src/ffi.rs"]
 mod ffi;
 
@@ -11,6 +11,9 @@ const TEXT: usize = 16384;
 const DISTANCES: usize = 4096;
 const RUN_BYTES: usize = 16;
 const RUN_WORDS: usize = 1035;
+
+/// The places that a text in pieces needs: of its words, its area, and then as above.
+const NEEDED_AT_THE_END: [usize; 6] = [20, 8192, 5, 1624, 64, 512];
 
 /// The word of 8 at place 0, and that of the first list's empty part.
 const SHORT: u64 = 8;
@@ -91,4 +94,72 @@ fn a_text_is_read_into_a_row_that_is_long_enough() {
     assert_eq!(row, [1, 0, 1, 2, 1024, 7]);
     assert_eq!(read(&mut row), 0);
     assert_eq!(row, [1, 0, 1, 2, 1024, 7]);
+}
+
+const SMALL: &[u8] = b"edition=1\nvars=1\ndom=1\ninit=0\ngoal=-\nops=0\nmaps=1\nmap=0\nshare=-\n";
+
+/// A text in pieces and what its end fills, with a place more than is needed of each.
+#[derive(Clone, Debug, PartialEq)]
+struct InPieces {
+    words: [u32; 21],
+    area: [u8; 8193],
+    counts: [u32; 6],
+    facts: [u8; 1625],
+    costs: [u32; 65],
+    shares: [u32; 513],
+}
+
+impl InPieces {
+    fn take(&mut self, piece: &[u8], [words, area, ..]: [usize; 6]) -> u64 {
+        ffi::take_piece(&mut self.words[..words], &mut self.area[..area], piece)
+    }
+
+    fn end(&mut self, [words, area, counts, facts, costs, shares]: [usize; 6]) -> u64 {
+        ffi::end_text(
+            &mut self.words[..words],
+            &self.area[..area],
+            &mut self.counts[..counts],
+            &mut self.facts[..facts],
+            &mut self.costs[..costs],
+            &mut self.shares[..shares],
+        )
+    }
+
+    /// Each part too short: 8 wherever it is lent, and nothing is written.
+    fn refuses_short_parts(&mut self) {
+        let was = self.clone();
+        for part in 0..NEEDED_AT_THE_END.len() {
+            for length in [0, 1, NEEDED_AT_THE_END[part] - 1] {
+                let mut lengths = NEEDED_AT_THE_END;
+                lengths[part] = length;
+                assert_eq!(self.end(lengths), SHORT);
+                if part < 2 {
+                    assert_eq!(self.take(SMALL, lengths), SHORT);
+                }
+                if part == 0 {
+                    assert_eq!(ffi::begin_text(&mut self.words[..length]), SHORT);
+                }
+            }
+        }
+        assert_eq!(*self, was);
+    }
+}
+
+#[test]
+fn a_text_in_pieces_goes_on_after_what_was_too_short_and_further_places_stay_but_those_of_tables() {
+    for lengths in [NEEDED_AT_THE_END, NEEDED_AT_THE_END.map(|places| places + 1)] {
+        let mut text = InPieces { words: [7; 21], area: [7; 8193], counts: [7; 6], facts: [7; 1625], costs: [7; 65], shares: [7; 513] };
+        assert_eq!(ffi::begin_text(&mut text.words[..lengths[0]]), 0);
+        text.refuses_short_parts();
+        for byte in SMALL.chunks(1) {
+            assert_eq!(text.take(byte, lengths), 0);
+            text.refuses_short_parts();
+        }
+        assert_eq!(text.end(lengths), 0);
+        let beyond = if lengths == NEEDED_AT_THE_END { 7 } else { 0 };
+        assert_eq!((text.words[20], text.area[8192], text.counts), (7, 7, [1, 0, 1, 1, 0, 7]));
+        assert_eq!((text.facts[1624], text.costs[64], text.shares[512]), (beyond, u32::from(beyond), u32::from(beyond)));
+        text.refuses_short_parts();
+        assert_eq!((text.take(b"", lengths), text.end(lengths)), (2, 2));
+    }
 }
