@@ -5,10 +5,11 @@
 //!     bench table                 the lines of all rounds, from standard input, as a table
 //!
 //! and `bench desk TASK-FILE ..`, or `plain` for `desk`, has a whole shift done by that side alone and times nothing, for a profiler; with `judging`, `distances`,
-//! `writing` or `reading` after it, that work.
+//! `writing`, `reading` or `pieces` after it, that work. Behind `pieces` may stand the bytes of a piece, which else has one.
 //! Ends with status 0, with 1 if the two differ or a task can't be measured, and with 2 if a file can't be read or the words are off.
 mod distances;
 mod judging;
+mod pieces;
 mod plain;
 mod same;
 mod shift;
@@ -52,6 +53,7 @@ fn measure(name: &str, desk: &Desk, text: &[u8]) -> Result<(), String> {
     judging::measure(name, desk, &plain)?;
     distances::measure(name, desk, &plain)?;
     text::measure(name, &desk.task, text);
+    pieces::measure(name, &desk.task, text);
     Ok(())
 }
 
@@ -60,11 +62,33 @@ fn many_times(mut work: impl FnMut()) {
     (0..STEPS).for_each(|_| work());
 }
 
-/// The work that a word names, done by one side; and what it was.
-fn work<S: Side>(side: &S, what: &str, task: &Task, text: &[u8]) -> Result<String, String> {
+/// What is asked for: `same`, `round` or a side; for a side alone the work, and the bytes of a piece; and the files.
+struct Asked<'a> {
+    what: &'a str,
+    work: &'a str,
+    size: usize,
+    files: &'a [&'a str],
+}
+
+fn asked<'a>(words: &'a [&'a str]) -> Option<Asked<'a>> {
+    let (what, work, size, files) = match words {
+        [side @ ("desk" | "plain"), "pieces", size, files @ ..] if size.parse().is_ok_and(|size: usize| size > 0) => {
+            (*side, "pieces", size.parse().ok()?, files)
+        }
+        [side @ ("desk" | "plain"), work @ ("judging" | "distances" | "writing" | "reading" | "pieces"), files @ ..] => {
+            (*side, *work, 1, files)
+        }
+        [what @ ("same" | "round" | "desk" | "plain"), files @ ..] => (*what, "shift", 1, files),
+        _ => return None,
+    };
+    (!files.is_empty()).then_some(Asked { what, work, size, files })
+}
+
+/// The work that is asked for, done by one side; and what it was.
+fn work<S: Side>(side: &S, asked: &Asked, task: &Task, text: &[u8]) -> Result<String, String> {
     let counts = task.counts();
     let text = Text::of(task, text);
-    Ok(match what {
+    Ok(match asked.work {
         "judging" => {
             let passing = Passing::of(side, counts)?;
             many_times(passing.judging(side));
@@ -78,6 +102,10 @@ fn work<S: Side>(side: &S, what: &str, task: &Task, text: &[u8]) -> Result<Strin
             many_times(text.reading::<S>());
             format!("read the task {STEPS} times")
         }
+        "pieces" => {
+            many_times(text.reading_in_pieces::<S::SoFar>(asked.size));
+            format!("read the task {STEPS} times in pieces of {}", asked.size)
+        }
         "distances" => {
             let largest = Largest::of(side, task)?;
             largest.distances(side)();
@@ -90,25 +118,20 @@ fn work<S: Side>(side: &S, what: &str, task: &Task, text: &[u8]) -> Result<Strin
 fn main() {
     let words: Vec<String> = env::args().skip(1).collect();
     let words: Vec<&str> = words.iter().map(String::as_str).collect();
-    let (what, word, files) = match &words[..] {
-        ["table", ..] => return timing::tell_table().unwrap_or_else(|why| end(2, why)),
-        [side @ ("desk" | "plain"), word @ ("judging" | "distances" | "writing" | "reading"), files @ ..] => (*side, *word, files),
-        [what @ ("same" | "round" | "desk" | "plain"), files @ ..] => (*what, "shift", files),
-        _ => ("", "", &[][..]),
-    };
-    if files.is_empty() {
-        end(
-            2,
-            "bench same|round TASK-FILE .., bench desk|plain [judging|distances|writing|reading] TASK-FILE .., or bench table".to_string(),
-        );
+    if let ["table", ..] = words[..] {
+        return timing::tell_tables().unwrap_or_else(|why| end(2, why));
     }
-    for (name, text, desk) in files.iter().map(|path| task(path)) {
-        let tell = |did| println!("{name}: {what} {did}");
-        let done = match what {
+    let Some(asked) = asked(&words) else {
+        let works = "[judging|distances|writing|reading|pieces [SIZE]]";
+        end(2, format!("bench same|round TASK-FILE .., bench desk|plain {works} TASK-FILE .., or bench table"))
+    };
+    for (name, text, desk) in asked.files.iter().map(|path| task(path)) {
+        let tell = |did| println!("{name}: {} {did}", asked.what);
+        let done = match asked.what {
             "same" => compare(&name, &desk, &text),
             "round" => measure(&name, &desk, &text),
-            "desk" => work(&desk, word, &desk.task, &text).map(tell),
-            _ => work(&Plain::of(&desk.task), word, &desk.task, &text).map(tell),
+            "desk" => work(&desk, &asked, &desk.task, &text).map(tell),
+            _ => work(&Plain::of(&desk.task), &asked, &desk.task, &text).map(tell),
         };
         done.unwrap_or_else(|why| end(1, format!("{name}: {why}")));
     }

@@ -1,14 +1,18 @@
-//! THE BASELINE: the same run and the same offers as a plain Rust program keeps them; judging a sequence, the distances of a map, and reading and writing a task's text
-//! are in the modules below. It was written from the paper for this comparison, and shares nothing with the desk but the layout of the lent tables.
+//! THE BASELINE: the same run and the same offers as a plain Rust program keeps them; judging a sequence, the distances of a map, writing a task's text and
+//! reading it, whole or in pieces, are in the modules below. It was written from the paper for this comparison, and shares nothing with the desk but the layout of the lent tables.
 //!
 //! An offer does what the desk's entry promises, in the same order: the tables are judged afresh, then the run that is handed in, then the offer. Nothing is kept
 //! between offers.
+mod gathering;
 mod judging;
+mod pieces;
 mod reading;
 mod views;
 mod writing;
 
+pub use gathering::Gathering;
 use mihaedop::{COSTS, COUNTS, FACTS, SHARES, STEPS};
+pub use pieces::Stepping;
 pub use reading::read;
 
 // The limits of the paper.

@@ -2,6 +2,8 @@
 //! judging, distances, stored tests and texts are in the modules below.
 mod distances;
 mod judging;
+mod pieces;
+mod short;
 mod stored;
 mod text;
 
@@ -11,6 +13,7 @@ use crate::shift::sequence;
 use crate::sides::{plainly_refused, refused, Desk, Parts, Plain, Side, Told};
 use crate::tables::{Tables, KINDS, PLACES};
 use mihaedop::{check, Task, COSTS, DISTANCES, FACTS, RUN_BYTES, RUN_WORDS, SHARES, STEPS, TEXT};
+use pieces::SoFar;
 
 /// How many tables by chance have some places altered at once.
 const BY_CHANCE: usize = 20_000;
@@ -22,6 +25,7 @@ const SWEPT: usize = 8_000_000;
 struct Both<'a> {
     desk: &'a Desk,
     plain: Plain<'a>,
+    so_far: SoFar,
     alike: usize,
 }
 
@@ -45,7 +49,7 @@ fn beside(was: u8) -> [u8; 6] {
 
 impl<'a> Both<'a> {
     fn of(desk: &'a Desk) -> Both<'a> {
-        Both { desk, plain: Plain::of(&desk.task), alike: 0 }
+        Both { desk, plain: Plain::of(&desk.task), so_far: SoFar::new(), alike: 0 }
     }
 
     /// Every operator, and some that don't exist.

@@ -1,6 +1,6 @@
 //! The two sides by one face: the desk, through the library for C, and the baseline. Both are asked by the same code.
 use crate::plain;
-use mihaedop::{Answer, Counts, Map, Operator, Refusal, Run, State, Step, Task, COUNTS, RUN_BYTES, RUN_WORDS, STEPS};
+use mihaedop::{Answer, Counts, Map, Operator, Reading, Refusal, Run, State, Step, Task, COUNTS, RUN_BYTES, RUN_WORDS, STEPS};
 
 /// What a side answers.
 #[derive(Clone, Copy, Debug, PartialEq, Eq)]
@@ -11,6 +11,7 @@ pub enum Told {
     Rounds(u32),
     Counts([u32; COUNTS]),
     Length(usize),
+    Taken,
     Refused { number: u8, place: u32 },
 }
 
@@ -22,6 +23,9 @@ pub trait Side {
 
     /// A sequence as this side is lent it.
     type List;
+
+    /// A text as this side takes it in pieces.
+    type SoFar: Pieces;
 
     /// A fresh run from the task's initial state.
     fn begin(&self) -> Self::Run;
@@ -44,6 +48,19 @@ pub trait Side {
 
     /// Writes the text of any tables into a buffer.
     fn write(counts: [u32; COUNTS], facts: &[u8], costs: &[u32], shares: &[u32], buffer: &mut [u8]) -> Told;
+}
+
+/// A text so far, as a side takes it in pieces; the same memory serves one text after another.
+pub trait Pieces {
+    fn new() -> Self;
+
+    /// Another text begins.
+    fn begin_again(&mut self);
+
+    fn take(&mut self, piece: &[u8]) -> Told;
+
+    /// The text has ended, and is read into tables.
+    fn end(&mut self, facts: &mut [u8], costs: &mut [u32], shares: &mut [u32]) -> Told;
 }
 
 /// The desk with a task that it has read.
@@ -85,6 +102,7 @@ pub fn plainly_refused(refusal: plain::Refusal) -> Told {
 impl Side for Desk {
     type Run = Run;
     type List = Vec<Operator>;
+    type SoFar = Reading;
 
     fn begin(&self) -> Run {
         self.task.begin(&self.start).expect("the initial state is a start")
@@ -131,6 +149,7 @@ impl Side for Desk {
 impl Side for Plain<'_> {
     type Run = plain::Run;
     type List = Vec<u32>;
+    type SoFar = plain::Stepping;
 
     fn begin(&self) -> plain::Run {
         plain::Run::begin(&self.task, self.start.values()).expect("the initial state is a start")
@@ -186,5 +205,59 @@ impl Side for Plain<'_> {
 
     fn write(counts: [u32; COUNTS], facts: &[u8], costs: &[u32], shares: &[u32], buffer: &mut [u8]) -> Told {
         plain::Task::of(counts, facts, costs, shares).write(buffer).map_or_else(plainly_refused, Told::Length)
+    }
+}
+
+impl Pieces for Reading {
+    fn new() -> Reading {
+        Reading::new()
+    }
+
+    fn begin_again(&mut self) {
+        Reading::begin_again(self);
+    }
+
+    fn take(&mut self, piece: &[u8]) -> Told {
+        Reading::take(self, piece).map_or_else(refused, |()| Told::Taken)
+    }
+
+    fn end(&mut self, facts: &mut [u8], costs: &mut [u32], shares: &mut [u32]) -> Told {
+        self.end_into(facts, costs, shares).map_or_else(refused, |counts| Told::Counts(counts.row()))
+    }
+}
+
+impl Pieces for plain::Stepping {
+    fn new() -> plain::Stepping {
+        plain::Stepping::new()
+    }
+
+    fn begin_again(&mut self) {
+        *self = plain::Stepping::new();
+    }
+
+    fn take(&mut self, piece: &[u8]) -> Told {
+        plain::Stepping::take(self, piece).map_or_else(plainly_refused, |()| Told::Taken)
+    }
+
+    fn end(&mut self, facts: &mut [u8], costs: &mut [u32], shares: &mut [u32]) -> Told {
+        plain::Stepping::end(self, facts, costs, shares).map_or_else(plainly_refused, Told::Counts)
+    }
+}
+
+impl Pieces for plain::Gathering {
+    fn new() -> plain::Gathering {
+        plain::Gathering::new()
+    }
+
+    fn begin_again(&mut self) {
+        plain::Gathering::begin_again(self);
+    }
+
+    fn take(&mut self, piece: &[u8]) -> Told {
+        plain::Gathering::take(self, piece).map_or_else(plainly_refused, |()| Told::Taken)
+    }
+
+    fn end(&mut self, facts: &mut [u8], costs: &mut [u32], shares: &mut [u32]) -> Told {
+        plain::Gathering::end(self, facts, costs, shares).map_or_else(plainly_refused, Told::Counts)
     }
 }

@@ -6,8 +6,8 @@ use mihaedop::{Task, TEXT};
 
 /// A task's tables, and its text.
 pub struct Text<'a> {
-    tables: Tables,
-    text: &'a [u8],
+    pub tables: Tables,
+    pub text: &'a [u8],
 }
 
 impl<'a> Text<'a> {

@@ -1,4 +1,4 @@
-//! Times two sides by turns, and tells many rounds as a table for docs/COSTS.md. Nothing fails because of a time.
+//! Times the sides by turns, and tells many rounds as tables for docs/COSTS.md. Nothing fails because of a time.
 //!
 //! A round is a process of its own: where its stack and its tables come to lie differs from process to process, and moves what copying memory takes.
 use std::time::{Duration, Instant};
@@ -45,13 +45,14 @@ impl<F: FnMut()> Timed<F> {
     }
 }
 
-/// Times the two by turns.
-pub fn timed(desk: impl FnMut(), plain: impl FnMut()) -> Times {
-    let (mut desk, mut plain) = (Timed::of(desk), Timed::of(plain));
-    let mut best = Times { desk: f64::INFINITY, plain: f64::INFINITY };
+/// The best turn of each side, where they take turns.
+fn best_turns<const N: usize>(mut sides: [&mut dyn FnMut() -> f64; N]) -> [f64; N] {
+    let mut best = [f64::INFINITY; N];
     let began = Instant::now();
     for turn in 1..=TURNS {
-        best = Times { desk: best.desk.min(desk.turn()), plain: best.plain.min(plain.turn()) };
+        for (best, side) in best.iter_mut().zip(&mut sides) {
+            *best = best.min(side());
+        }
         if turn >= LEAST_TURNS && began.elapsed() > TOO_LONG {
             break;
         }
@@ -59,55 +60,106 @@ pub fn timed(desk: impl FnMut(), plain: impl FnMut()) -> Times {
     best
 }
 
-/// Tells what a round found, as a line for `tell_table`.
+/// Times the two by turns.
+pub fn timed(desk: impl FnMut(), plain: impl FnMut()) -> Times {
+    let (mut desk, mut plain) = (Timed::of(desk), Timed::of(plain));
+    let [desk, plain] = best_turns([&mut || desk.turn(), &mut || plain.turn()]);
+    Times { desk, plain }
+}
+
+/// Times the desk and two baselines by turns: the nanoseconds of each.
+pub fn timed_with_two(desk: impl FnMut(), plain: impl FnMut(), other: impl FnMut()) -> [f64; 3] {
+    let (mut desk, mut plain, mut other) = (Timed::of(desk), Timed::of(plain), Timed::of(other));
+    best_turns([&mut || desk.turn(), &mut || plain.turn(), &mut || other.turn()])
+}
+
+/// Tells what a round found, as a line for `tell_tables`.
 pub fn tell(task: &str, measured: &str, times: Times) {
     println!("{task}\t{measured}\t{}\t{}", times.desk, times.plain);
 }
 
-/// A time with three digits and its unit.
-fn shown(nanoseconds: f64) -> String {
-    let (number, unit) = match nanoseconds {
-        n if n < 1e3 => (n, "ns"),
-        n if n < 1e6 => (n / 1e3, "µs"),
-        n => (n / 1e6, "ms"),
-    };
+/// The same of so many bytes that were read, by the desk and two baselines.
+pub fn tell_rates(task: &str, measured: &str, bytes: usize, [desk, plain, other]: [f64; 3]) {
+    println!("{task}\t{measured}\t{desk}\t{plain}\t{other}\t{bytes}");
+}
+
+/// A number with three digits, and its unit.
+fn with_unit(number: f64, unit: &str) -> String {
     let digits = [10.0, 100.0].iter().filter(|limit| number < **limit).count();
     format!("{number:.digits$} {unit}")
 }
 
-/// The times of a line of a round, and what was timed: task and measurement.
-fn taken_apart(line: &str) -> Option<(String, Times)> {
-    let (before, plain) = line.rsplit_once('\t')?;
-    let (measured, desk) = before.rsplit_once('\t')?;
-    Some((measured.replace('\t', " | "), Times { desk: desk.parse().ok()?, plain: plain.parse().ok()? }))
+/// A time with its unit.
+fn shown(nanoseconds: f64) -> String {
+    match nanoseconds {
+        n if n < 1e3 => with_unit(n, "ns"),
+        n if n < 1e6 => with_unit(n / 1e3, "µs"),
+        n => with_unit(n / 1e6, "ms"),
+    }
 }
 
-/// The middle one, with the least and the most.
-fn middle(values: impl Iterator<Item = f64>) -> (f64, f64, f64) {
-    let mut sorted: Vec<f64> = values.collect();
-    sorted.sort_by(f64::total_cmp);
-    (sorted[sorted.len() / 2], sorted[0], sorted[sorted.len() - 1])
+/// What was measured, and what each round found: the times of desk and plain Rust, or those of desk and both baselines and the number of bytes.
+struct Row {
+    measured: String,
+    rounds: Vec<Vec<f64>>,
 }
 
-/// Reads the lines of many rounds from standard input, and writes a row for each measurement: the median of each side, the ratio of the two, and the least and the most
-/// ratio of a round.
-pub fn tell_table() -> Result<(), String> {
-    let mut rows: Vec<(String, Vec<Times>)> = Vec::new();
+impl Row {
+    /// The middle one of a number of the rounds, with the least and the most.
+    fn middle(&self, number: impl Fn(&[f64]) -> f64) -> (f64, f64, f64) {
+        let mut sorted: Vec<f64> = self.rounds.iter().map(|round| number(round)).collect();
+        sorted.sort_by(f64::total_cmp);
+        (sorted[sorted.len() / 2], sorted[0], sorted[sorted.len() - 1])
+    }
+
+    fn median(&self, side: usize) -> f64 {
+        self.middle(|round| round[side]).0
+    }
+
+    /// The ratio of the desk's median to that of a baseline, and the least and the most ratio of a round.
+    fn ratio(&self, baseline: usize) -> String {
+        let (_, least, most) = self.middle(|round| round[0] / round[baseline]);
+        format!("{:.2} | {least:.2} to {most:.2}", self.median(0) / self.median(baseline))
+    }
+
+    fn tell_times(&self) {
+        println!("| {} | {} | {} | {} |", self.measured, shown(self.median(0)), shown(self.median(1)), self.ratio(1));
+    }
+
+    fn tell_rates(&self) {
+        let rate = |side| with_unit(self.median(3) / self.median(side) * 1e3, "MB/s");
+        println!("| {} | {} | {} | {} | {} | {} |", self.measured, rate(0), rate(1), rate(2), self.ratio(1), self.ratio(2));
+    }
+}
+
+/// A line of a round taken apart: what was measured of which task, and the numbers.
+fn taken_apart(line: &str) -> Option<(String, Vec<f64>)> {
+    let mut fields = line.split('\t');
+    let measured = format!("{} | {}", fields.next()?, fields.next()?);
+    let numbers: Vec<f64> = fields.map(|field| field.parse().ok()).collect::<Option<_>>()?;
+    [2, 4].contains(&numbers.len()).then_some((measured, numbers))
+}
+
+/// Reads the lines of many rounds from standard input, and writes a row for each measurement, those of bytes a second into a table of their own: the median of each side,
+/// the ratios of these, and the least and the most ratio of a round.
+pub fn tell_tables() -> Result<(), String> {
+    let mut rows: Vec<Row> = Vec::new();
     for line in io::stdin().lock().lines() {
         let line = line.map_err(|error| error.to_string())?;
-        let (measured, times) = taken_apart(&line).ok_or(format!("no line of a round: {line}"))?;
-        match rows.iter_mut().find(|row| row.0 == measured) {
-            Some(row) => row.1.push(times),
-            None => rows.push((measured, vec![times])),
+        let (measured, numbers) = taken_apart(&line).ok_or(format!("no line of a round: {line}"))?;
+        match rows.iter_mut().find(|row| row.measured == measured) {
+            Some(row) if row.rounds[0].len() != numbers.len() => return Err(format!("no line of the rounds before: {line}")),
+            Some(row) => row.rounds.push(numbers),
+            None => rows.push(Row { measured, rounds: vec![numbers] }),
         }
     }
+    let (rates, times): (Vec<Row>, Vec<Row>) = rows.into_iter().partition(|row| row.rounds[0].len() == 4);
     println!("| Task | Measured | Desk | Plain Rust | Ratio | Ratios of the rounds |");
     println!("|---|---|---|---|---|---|");
-    for (measured, rounds) in rows {
-        let (desk, ..) = middle(rounds.iter().map(|times| times.desk));
-        let (plain, ..) = middle(rounds.iter().map(|times| times.plain));
-        let (_, least, most) = middle(rounds.iter().map(|times| times.desk / times.plain));
-        println!("| {measured} | {} | {} | {:.2} | {least:.2} to {most:.2} |", shown(desk), shown(plain), desk / plain);
-    }
+    times.iter().for_each(Row::tell_times);
+    println!();
+    println!("| Task | Read | Desk | Plain Rust, by steps | Plain Rust, at once | Ratio to steps | of the rounds | Ratio to at once | of the rounds |");
+    println!("|---|---|---|---|---|---|---|---|---|");
+    rates.iter().for_each(Row::tell_rates);
     Ok(())
 }

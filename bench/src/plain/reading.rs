@@ -12,29 +12,54 @@ struct Reader<'a> {
 }
 
 /// What was read so far. Unused places are 0.
-struct Tables {
-    counts: [usize; COUNTS],
-    facts: [u8; FACTS],
-    costs: [u32; COSTS],
-    shares: [u32; SHARES],
+pub(super) struct Tables {
+    pub(super) counts: [usize; COUNTS],
+    pub(super) facts: [u8; FACTS],
+    pub(super) costs: [u32; COSTS],
+    pub(super) shares: [u32; SHARES],
 }
 
 /// Reads a text into tables, whose other places are 0 then: its counts, edition and quota among them. A refusal leaves the tables alone.
 // Not inlined, as `Run::offer` isn't.
 #[inline(never)]
 pub fn read(text: &[u8], facts: &mut [u8], costs: &mut [u32], shares: &mut [u32]) -> Result<[u32; COUNTS], Refusal> {
-    if facts.len() < FACTS || costs.len() < COSTS || shares.len() < SHARES {
-        return refuse(8, 0);
-    }
+    long_enough(facts, costs, shares)?;
     if text.len() > TEXT {
         return refuse(1, 0);
     }
-    let mut read = Tables { counts: [0; COUNTS], facts: [0; FACTS], costs: [0; COSTS], shares: [0; SHARES] };
+    let mut read = Tables::zeros();
     Reader { text, at: 0, line: 1 }.task(&mut read)?;
-    hand_over(&read.facts, facts);
-    hand_over(&read.costs, costs);
-    hand_over(&read.shares, shares);
-    Ok(read.counts.map(|count| count as u32))
+    Ok(read.hand_over(facts, costs, shares))
+}
+
+/// Lent tables have the places that the largest task needs.
+pub(super) fn long_enough(facts: &[u8], costs: &[u32], shares: &[u32]) -> Result<(), Refusal> {
+    if facts.len() < FACTS || costs.len() < COSTS || shares.len() < SHARES {
+        return refuse(8, 0);
+    }
+    Ok(())
+}
+
+impl Tables {
+    pub(super) fn zeros() -> Tables {
+        Tables { counts: [0; COUNTS], facts: [0; FACTS], costs: [0; COSTS], shares: [0; SHARES] }
+    }
+
+    /// Fills lent tables, and gives the counts.
+    pub(super) fn hand_over(&self, facts: &mut [u8], costs: &mut [u32], shares: &mut [u32]) -> [u32; COUNTS] {
+        hand_over(&self.facts, facts);
+        hand_over(&self.costs, costs);
+        hand_over(&self.shares, shares);
+        self.counts.map(|count| count as u32)
+    }
+
+    /// That no operator's shares total above its cost, the first of the operators standing on this line.
+    pub(super) fn totals_fit(&self, totals: &[u32; OPERATORS], first: usize) -> Result<(), Refusal> {
+        match totals.iter().zip(&self.costs).position(|(total, cost)| total > cost) {
+            Some(op) => refuse(6, first + op),
+            None => Ok(()),
+        }
+    }
 }
 
 /// A table that was read into one that may be longer.
@@ -45,7 +70,7 @@ fn hand_over<T: Copy + Default>(read: &[T], table: &mut [T]) {
 }
 
 /// A row of the facts, as far as there are variables.
-fn row(facts: &mut [u8], row: usize, variables: usize) -> &mut [u8] {
+pub(super) fn row(facts: &mut [u8], row: usize, variables: usize) -> &mut [u8] {
     &mut facts[ROW * row..][..variables]
 }
 
@@ -79,10 +104,7 @@ impl Reader<'_> {
             return self.off_form();
         }
         to.counts = [variables, operators, maps, edition, quota];
-        match totals.iter().zip(&to.costs).position(|(total, cost)| total > cost) {
-            Some(op) => refuse(6, first + op),
-            None => Ok(()),
-        }
+        to.totals_fit(&totals, first)
     }
 
     fn off_form<T>(&self) -> Result<T, Refusal> {

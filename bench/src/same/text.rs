@@ -1,14 +1,15 @@
 //! That both sides read and write the same texts.
+use super::pieces::marked;
 use super::{Both, Chance};
 use crate::sides::{Desk, Plain, Side, Told};
 use crate::tables::Tables;
 use mihaedop::{COSTS, COUNTS, FACTS, SHARES, TEXT};
 
 /// What stands in a place before it is written.
-const MARK: u8 = 0xa5;
+pub const MARK: u8 = 0xa5;
 
 /// Tables of any length: facts, costs and shares.
-type Lent = (Vec<u8>, Vec<u32>, Vec<u32>);
+pub type Lent = (Vec<u8>, Vec<u32>, Vec<u32>);
 
 /// At most so many places of a text are edited; of a longer one these, by chance.
 const EDITED: usize = 400;
@@ -33,20 +34,21 @@ impl Both<'_> {
         Ok(lent)
     }
 
-    /// A text read by both sides into tables of so many places, with something else in them: the answer, and every place afterwards.
-    fn read_into(&mut self, what: &str, text: &[u8], [facts, costs, shares]: [usize; 3]) -> Result<(Told, Lent), String> {
-        let lent: Lent = (vec![MARK; facts], vec![MARK.into(); costs], vec![MARK.into(); shares]);
-        let (mut left, mut of_plain) = (lent.clone(), lent.clone());
+    /// A text read by both sides, whole and in pieces, into tables of so many places, with something else in them: the answer, and every place afterwards.
+    fn read_into(&mut self, what: &str, text: &[u8], places: [usize; 3]) -> Result<(Told, Lent), String> {
+        let (mut left, mut of_plain) = (marked(places), marked(places));
         let desk = Desk::read(text, &mut left.0, &mut left.1, &mut left.2);
         let plain = Plain::read(text, &mut of_plain.0, &mut of_plain.1, &mut of_plain.2);
-        self.count(&format!("{what}, read into {facts}, {costs} and {shares} places"), desk, plain)?;
+        self.count(&format!("{what}, read into tables of {places:?} places"), desk, plain)?;
         if left != of_plain {
             return Err(format!("{what}: the tables differ after it"));
         }
-        if matches!(desk, Told::Refused { .. }) && left != lent {
+        if matches!(desk, Told::Refused { .. }) && left != marked(places) {
             return Err(format!("{what}: the tables were written, though it was refused"));
         }
-        Ok((desk, left))
+        let whole = (desk, left);
+        self.in_pieces(what, text, places, &whole)?;
+        Ok(whole)
     }
 
     /// Tables written by both sides into buffers of so many bytes: the answer, and every byte afterwards.
@@ -76,9 +78,11 @@ impl Both<'_> {
     /// The task's text, and texts near it; tables and buffers that are too short, long enough and longer.
     pub fn texts(&mut self, text: &[u8]) -> Result<(), String> {
         let whole = Tables::of(&self.desk.task);
-        if self.read("the task's text", text)? != (whole.facts.to_vec(), whole.costs.to_vec(), whole.shares.to_vec()) {
+        let left = self.read("the task's text", text)?;
+        if left != (whole.facts.to_vec(), whole.costs.to_vec(), whole.shares.to_vec()) {
             return Err("the task's text gives other tables than the desk has".to_string());
         }
+        self.short_memory(text, &(Told::Counts(whole.counts), left))?;
         self.lengths(text, &whole)?;
         let mut chance = Chance(1);
         let places: Vec<usize> =
@@ -135,7 +139,7 @@ impl Both<'_> {
                 self.write("the task's tables", counts, &whole.facts, &whole.costs, &whole.shares, bytes)?;
             }
         }
-        for bytes in [text.len() + 1, TEXT, TEXT + 1] {
+        for bytes in [text.len() + 1, TEXT, TEXT + 1, 2 * TEXT] {
             for (text, more) in [(text, b'\n'), (text, b'e'), (b"edition=1", b'1'), (b"edition=2", b'2')] {
                 let mut longer = text.to_vec();
                 longer.resize(bytes, more);
@@ -160,6 +164,8 @@ fn edits(text: &[u8], place: usize) -> Vec<(String, Vec<u8>)> {
             with(&format!("byte {byte}"), &[*byte], after);
         }
     }
+    let item = after.iter().take_while(|byte| !b",;/\n".contains(byte)).count();
+    with("a dash for an item", b"-", &after[item..]);
     let digits = after.iter().take_while(|byte| byte.is_ascii_digit()).count();
     if let Some(number) = std::str::from_utf8(&after[..digits]).ok().and_then(|digits| digits.parse::<u128>().ok()) {
         // what fits into no number of the tables, and is the same number in the bits of one that is cut off
