@@ -7,4 +7,7 @@ pub mod Rounded
 pub mod Sizes
 pub mod Certified
 pub mod Scaled
+pub mod Cheapests
+pub mod Following
+pub mod Noting
 pub mod Theorems

@@ -16,7 +16,7 @@ use Rattle.graph.proofs.Steps.{via-is, onward-intro, onward-elim}
 use Rattle.graph.proofs.Leasts.{sound, complete, is-least}
 
 module _ (G : Graph) (closed : Closed G) where
-  via-same : (T U : ℕ → Cost) → ((b : ℕ) → b < G .states → T b ≡ U b) → (a : ℕ) → a < G .states → (o : ℕ) → o < G .ops → via G T a o ≡ via G U a o
+  pub via-same : (T U : ℕ → Cost) → ((b : ℕ) → b < G .states → T b ≡ U b) → (a : ℕ) → a < G .states → (o : ℕ) → o < G .ops → via G T a o ≡ via G U a o
   via-same T U e a l o g =
       let s = G .succ o a in
       via-is G T a o (G .cost o) s refl refl ∙ ap (plus (G .cost o)) (same s refl) ∙ sym (via-is G U a o (G .cost o) s refl refl)

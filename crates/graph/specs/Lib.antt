@@ -2,3 +2,5 @@ pub mod Cost
 pub mod Graph
 pub mod Least
 pub mod Certificate
+pub mod Best
+pub mod Noted

@@ -5,6 +5,7 @@ pub mod Idle
 pub mod Induced
 pub mod Distances
 pub mod Rounds
+pub mod BestSteps
 pub mod Sums
 pub mod Bounds
 pub mod Falling

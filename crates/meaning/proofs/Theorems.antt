@@ -1,16 +1,19 @@
 -- What holds of every valid task and split, every state and every sequence of any length, each with its statement alone;
 -- the roads are the files that this one uses. Assumes nothing.
 use mathlib.Core.Path.{_≡_, sym, ap, _∙_}
-use mathlib.Core.Logic.{_↔_}
+use mathlib.Core.Logic.{_⊎_, _↔_}
 use mathlib.Core.Bool.{true}
 use mathlib.Core.List.{List, _++_}
 use Prim.Native.Nat.{ℕ, _+_, _≤_, _<_}
+use lib.ListN.{length}
 use Rattle.graph.specs.Cost.{Cost, none, fin, _⊑_}
 use Rattle.graph.specs.Graph.{to, Leads}
 use Rattle.graph.specs.Least.{least, Rounds}
+use Rattle.graph.specs.Best.{Advice, halt, IsBestStep}
 use Rattle.meaning.specs.Numbering.{size, number, digit, Positive, Digits}
 use Rattle.meaning.specs.Sas.{State, Sas, IsState, MayRun, Transition, after, Runs, end, Passes, paid, Proper}
 use Rattle.meaning.specs.Views.{α, abstractStates, AbstractStep, AbstractGoal, AbstractlyLeads, IsDistanceAt, IsRounds, space, viewGraph}
+use Rattle.meaning.specs.BestSteps.{IsBestStepAt, FollowsAt, ForemostAt}
 use Rattle.meaning.specs.Split.{Task, sum, view, Valid}
 use Rattle.meaning.specs.Bound.{distance, away, summed, bound}
 use Rattle.meaning.specs.Quota.{KeepsQuota, StoresWithin, PassesWithin}
@@ -19,6 +22,7 @@ use Rattle.meaning.proofs.Space as spaces
 use Rattle.meaning.proofs.Induced as induced
 use Rattle.meaning.proofs.Distances as distances
 use Rattle.meaning.proofs.Rounds as rounds
+use Rattle.meaning.proofs.BestSteps as bests
 use Rattle.meaning.proofs.Sums as sums
 use Rattle.meaning.proofs.Bounds as bounds
 use Rattle.meaning.proofs.Falling as falling
@@ -115,6 +119,46 @@ module _ (T : Task) (ok : Valid T) (m : ℕ) (lm : m < T .maps) where
   -- the longest distance
   pub distance-at-most : (a d : ℕ) → a < abstractStates (T .sas) (view T m) → distance (T .sas) (view T m) a ≡ fin d → d ≤ 4095000000
   distance-at-most a d l e = bounds.away-most T ok m lm a d l e
+
+  -- the best step among the numbered states is that of the induced abstraction, and there is exactly one
+  pub computed-best-exactly-induced : (a : ℕ) (x : Advice) → a < abstractStates (T .sas) (view T m)
+      → IsBestStep (viewGraph (T .sas) (view T m)) a x ↔ IsBestStepAt (T .sas) (view T m) a x
+  computed-best-exactly-induced a x l = (
+    bests.induced-best (T .sas) (view T m) (ok .proper) (bounds.view-onto T ok m lm) a l x,
+    bests.numbered-best (T .sas) (view T m) (ok .proper) (bounds.view-onto T ok m lm) a l x,
+  )
+
+  pub best-step-exists : (a : ℕ) → a < abstractStates (T .sas) (view T m) → (x : Advice) × IsBestStepAt (T .sas) (view T m) a x
+  best-step-exists a l = bests.best-exists (T .sas) (view T m) (ok .proper) (bounds.view-onto T ok m lm) a l
+
+  pub best-step-unique : (a : ℕ) (x y : Advice) → a < abstractStates (T .sas) (view T m)
+      → IsBestStepAt (T .sas) (view T m) a x → IsBestStepAt (T .sas) (view T m) a y → x ≡ y
+  best-step-unique a x y l = bests.best-only (T .sas) (view T m) (ok .proper) (bounds.view-onto T ok m lm) a l x y
+
+  -- it is to halt exactly at a goal of the view or where the distance is none
+  pub halt-exactly : (a : ℕ) (x : Advice) → a < abstractStates (T .sas) (view T m) → IsBestStepAt (T .sas) (view T m) a x
+      → (x ≡ halt) ↔ (AbstractGoal (T .sas) (view T m) a ⊎ IsDistanceAt (T .sas) (view T m) a none)
+  halt-exactly a x l = bests.halt-exactly (T .sas) (view T m) (ok .proper) (bounds.view-onto T ok m lm) a l x
+
+  -- following the best steps from where the view has a distance ends at a goal of the view, having cost exactly the distance: by the foremost sequence
+  pub following-reaches : (B : ℕ → Advice) → ((b : ℕ) → b < abstractStates (T .sas) (view T m) → IsBestStepAt (T .sas) (view T m) b (B b))
+      → (a d : ℕ) → a < abstractStates (T .sas) (view T m) → IsDistanceAt (T .sas) (view T m) a (fin d)
+      → (os : List ℕ) × FollowsAt (T .sas) (view T m) B os a × AbstractlyLeads (T .sas) (view T m) os a × (paid (T .share m) os ≡ d)
+      × ForemostAt (T .sas) (view T m) a os
+  following-reaches B best a d l D = bests.following (T .sas) (view T m) (ok .proper) (bounds.view-onto T ok m lm) B best a d l D
+
+  -- there is one way to follow ..
+  pub follows-unique : (B : ℕ → Advice) (os vs : List ℕ) (a : ℕ) → FollowsAt (T .sas) (view T m) B os a → FollowsAt (T .sas) (view T m) B vs a → os ≡ vs
+  follows-unique B os vs a = bests.follows-only (T .sas) (view T m) (ok .proper) (bounds.view-onto T ok m lm) B os vs a
+
+  -- .. and one foremost sequence, with fewer steps than there are abstract states
+  pub foremost-unique : (a : ℕ) (os vs : List ℕ) → a < abstractStates (T .sas) (view T m)
+      → ForemostAt (T .sas) (view T m) a os → ForemostAt (T .sas) (view T m) a vs → os ≡ vs
+  foremost-unique a os vs l = bests.foremost-only (T .sas) (view T m) (ok .proper) (bounds.view-onto T ok m lm) a l os vs
+
+  pub foremost-is-short : (a : ℕ) (os : List ℕ) → a < abstractStates (T .sas) (view T m)
+      → ForemostAt (T .sas) (view T m) a os → length os < abstractStates (T .sas) (view T m)
+  foremost-is-short a os l = bests.foremost-short (T .sas) (view T m) (ok .proper) (bounds.view-onto T ok m lm) a l os
 
   -- a concrete sequence is one in every view, with the same operators
   pub passes-in-every-view : (os : List ℕ) (s : State) → IsState (T .sas) s → Passes (T .sas) os s

@@ -1,6 +1,7 @@
 -- Tasks that agree at their own variables and operators have the same states, transitions and goals; and views of them that agree at the variables' values
 -- have the same abstract states, steps and sequences, at the same prices. What a task's functions say elsewhere means nothing. Field by field. Assumes nothing.
 use mathlib.Core.Path.{_≡_, refl, sym, ap, ap₂, _∙_, subst}
+use mathlib.Core.Logic.{inl, inr, ⊎-elim}
 use mathlib.Core.List.{List, [], _∷_}
 use mathlib.Core.Bool.{cond}
 use Prim.Native.Nat.{ℕ, zero, suc, _+_, _-_, _*_, _/_, _%_, _<_, max}
@@ -9,9 +10,11 @@ use native.Mathlib.Omega.{arith}
 use lib.Dec.{ltb, leb, eqb}
 use borrow.Author.Tests.{ltb-true}
 use Rattle.graph.specs.Cost.{Cost, _⊑_}
+use Rattle.graph.specs.Best.{Advice, halt, take}
 use Rattle.meaning.specs.Numbering.{size, number, digit}
 use Rattle.meaning.specs.Sas.{State, Facts, Sas, IsState, Holds, Complies, Transition, paid}
 use Rattle.meaning.specs.Views.{View, α, abstractStates, AbstractStep, AbstractGoal, AbstractlyLeads, IsLeastAt, UnchangedAt, IsRounds, holds, every, complies}
+use Rattle.meaning.specs.BestSteps.{CheapestAt, IsBestStepAt}
 use Rattle.meaning.specs.Split.{Task, countOf, view}
 use Rattle.meaning.specs.Columns.{unshared, storedTests, rest, gain}
 use Rattle.meaning.specs.Quota.{mayStore}
@@ -149,7 +152,7 @@ module _ {S R : Sas} (E : SameSas S R) {W X : View} (C : SameView S W X) where
   price-alike [] a h = refl
   price-alike (o ∷ os) a h = ap₂ _+_ (C .price o (h .1 .3 .3 .operator)) (price-alike os (h .0) (h .2))
 
--- the same least prices, and so the same rounds
+-- the same least prices
 module _ {S R : Sas} (E : SameSas S R) {W X : View} (C : SameView S W X) where
   pub least-alike : {P : List ℕ → Type 0} (a : ℕ) (v : Cost) → IsLeastAt S W P a v → IsLeastAt R X P a v
   least-alike a v D =
@@ -169,6 +172,27 @@ module _ {S R : Sas} (E : SameSas S R) {W X : View} (C : SameView S W X) where
       let t = h a (omega (arith, states-alike E C)) in
       (t .0, least-alike a (t .0) (t .1), least-alike a (t .0) (t .2))
 
+-- the same cheapest sequences
+module _ {S R : Sas} (E : SameSas S R) {W X : View} (C : SameView S W X) where
+  cheapest-alike : (a : ℕ) (os : List ℕ) → CheapestAt S W a os → CheapestAt R X a os
+  cheapest-alike a os D =
+      let back : (vs : List ℕ) → AbstractlyLeads R X vs a → AbstractlyLeads S W vs a = λ vs h. leads-alike (sas-back E) (view-back E C) vs a h in
+      let e = price-alike E C os a (D .leads) in
+      record {
+        leads = leads-alike E C os a (D .leads);
+        cheapest = λ vs h. let g = back vs h in omega (arith, D .cheapest vs g, e, price-alike E C vs a g);
+        fewest = λ vs h q. let g = back vs h in D .fewest vs g (price-alike E C vs a g ∙ q ∙ sym e);
+      }
+
+-- and so the same best steps
+pub best-alike : {S R : Sas} (E : SameSas S R) {W X : View} (C : SameView S W X) (a : ℕ) (x : Advice) → IsBestStepAt S W a x → IsBestStepAt R X a x
+best-alike E C a halt h = ⊎-elim (λ g. inl (goal-alike E C a g)) (λ f. inr (λ os k. f os (leads-alike (sas-back E) (view-back E C) os a k))) h
+best-alike E C a (take o) h = (
+  (h .0 .0, cheapest-alike E C a (o ∷ h .0 .0) (h .0 .1)),
+  λ p B. h .1 p (B .0, cheapest-alike (sas-back E) (view-back E C) a (p ∷ B .0) (B .1)),
+)
+
+-- the same rounds
 pub rounds-alike : {S R : Sas} (E : SameSas S R) {W X : View} (C : SameView S W X) (r : ℕ) → IsRounds S W r → IsRounds R X r
 rounds-alike E C r H =
     record {

@@ -2,6 +2,7 @@ pub mod Limits
 pub mod Sas
 pub mod Numbering
 pub mod Views
+pub mod BestSteps
 pub mod Split
 pub mod Bound
 pub mod Columns
