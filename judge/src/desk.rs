@@ -20,6 +20,7 @@ pub enum Answer {
     Clean,
     Rounds(usize),
     Of(u64),
+    Take(usize),
     None,
     Passed(u64),
     First(u64),
@@ -42,6 +43,7 @@ impl fmt::Display for Answer {
             Answer::Clean => write!(f, "clean"),
             Answer::Rounds(rounds) => write!(f, "rounds {}", rounds),
             Answer::Of(number) => write!(f, "of {}", number),
+            Answer::Take(op) => write!(f, "take {}", op),
             Answer::None => write!(f, "none"),
             Answer::Passed(cost) => write!(f, "passed {}", cost),
             Answer::First(cost) => write!(f, "first {}", cost),
@@ -160,20 +162,23 @@ pub fn check(lent: Lent) -> Answer {
     told(read_tables(lent).map(|_| Answer::Clean))
 }
 
-fn room_for_distances(out: usize) -> Result<(), Fault> {
-    if out < OUT_ROOM {
+fn room_for_distances(out: usize, best: usize) -> Result<(), Fault> {
+    if out < OUT_ROOM || best < BEST_ROOM {
         return refuse(8, 0);
     }
     Ok(())
 }
 
-/// Places of the table from the number of abstract states on stay.
-pub fn distances(lent: Lent, map: u32, out: &mut [u32]) -> Answer {
-    told(room_for_distances(out.len()).and_then(|()| {
+/// Places of both tables from the number of abstract states on stay, and all of them if the call is refused.
+pub fn distances(lent: Lent, map: u32, out: &mut [u32], best: &mut [u8]) -> Answer {
+    told(room_for_distances(out.len(), best.len()).and_then(|()| {
         let task = read_tables(lent)?;
         let found = space::distances(&task, map_of(&task, map)?);
         for (a, distance) in found.least.iter().enumerate() {
             out[a] = space::written(*distance);
+        }
+        for (a, step) in found.best.iter().enumerate() {
+            best[a] = space::written_step(*step);
         }
         Ok(Answer::Rounds(found.rounds))
     }))
@@ -184,6 +189,14 @@ pub fn distance_at(lent: Lent, map: u32, state: &[u8]) -> Answer {
         let m = map_of(&task, map)?;
         let state = state_of(&task, state)?;
         Ok(number_or_none(space::distance_at(&task, m, &state)))
+    }))
+}
+
+pub fn best_at(lent: Lent, map: u32, state: &[u8]) -> Answer {
+    told(read_tables(lent).and_then(|task| {
+        let m = map_of(&task, map)?;
+        let state = state_of(&task, state)?;
+        Ok(space::best_at(&task, m, &state).map_or(Answer::None, Answer::Take))
     }))
 }
 

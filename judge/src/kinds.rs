@@ -1,5 +1,6 @@
 //! Vectors by chance, kind after kind.
 
+use crate::best;
 use crate::builder::{text_of_task, Vector};
 use crate::damages::*;
 use crate::edges::run_of;
@@ -48,8 +49,8 @@ const KINDS: [Kind; 24] = [
 ];
 
 /// The kinds over a row of records, over sums of which some terms are none, over runs watched at every moment, over lists and
-/// runs of any length, over an idle operator, over writing, over edition 2, and over texts in pieces.
-const LATER_KINDS: [Kind; 15] = [
+/// runs of any length, over an idle operator, over writing, over edition 2, over texts in pieces, and over best steps.
+const LATER_KINDS: [Kind; 18] = [
     rows::row_of_a_task,
     rows::damaged_row,
     sums::mixed,
@@ -65,6 +66,9 @@ const LATER_KINDS: [Kind; 15] = [
     quota::damaged_additions,
     pieces::with_slips,
     pieces::cut_by_chance,
+    best::many_ties,
+    best::followed_to_the_goal,
+    best::lengths_and_damage,
 ];
 
 /// The i-th vector by chance: the kinds take turns.

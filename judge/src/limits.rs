@@ -13,6 +13,8 @@ pub const QUOTA: usize = 1_024;
 
 /// Stands for none in a distance table.
 pub const NONE: u32 = u32::MAX;
+/// Stands for none in a table of best steps.
+pub const NO_STEP: u8 = 255;
 
 /// Facts are rows of eight places.
 pub const ROW: usize = 8;
@@ -34,6 +36,7 @@ pub const FACTS_ROOM: usize = 203 * ROW;
 pub const COSTS_ROOM: usize = OPS;
 pub const SHARES_ROOM: usize = OPS * MAPS;
 pub const OUT_ROOM: usize = STATES;
+pub const BEST_ROOM: usize = STATES;
 /// The buffer has room for the longest text that may be read, whatever the task.
 pub const BUFFER_ROOM: usize = TEXT;
 /// The work area of a text that comes in pieces.

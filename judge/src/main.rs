@@ -1,7 +1,9 @@
 //! The judge: a second program, written from the rules alone, that says what the desk must answer.
 
+mod best;
 mod builder;
 mod cases;
+mod changes;
 mod damages;
 mod desk;
 mod edges;
@@ -32,6 +34,8 @@ mod task;
 #[cfg(test)]
 mod tests;
 #[cfg(test)]
+mod tests_best;
+#[cfg(test)]
 mod tests_idle;
 #[cfg(test)]
 mod tests_moments;
@@ -44,6 +48,7 @@ mod tests_rows;
 #[cfg(test)]
 mod tests_writing;
 mod text;
+mod ways;
 mod writer;
 mod writing;
 
@@ -66,7 +71,8 @@ fn input() -> Vec<u8> {
 }
 
 /// The cases by name, then vectors by chance, as many as are asked for; then the small texts, the rows of records, the sums, the watched
-/// runs, the lists and runs of many steps, the idle operators, those over writing, those over edition 2, and those over texts in pieces last.
+/// runs, the lists and runs of many steps, the idle operators, those over writing, those over edition 2, those over texts in pieces, and those
+/// over best steps last.
 fn vectors(seed: u64, count: usize) -> Vec<u8> {
     let mut vectors = cases::bench();
     vectors.extend(edges::edges());
@@ -85,6 +91,7 @@ fn vectors(seed: u64, count: usize) -> Vec<u8> {
     vectors.extend(writing::writing(seed));
     vectors.extend(quota::quotas(seed));
     vectors.extend(pieces::pieces(seed));
+    vectors.extend(best::best(seed));
     builder::script_of(&vectors)
 }
 

@@ -1,5 +1,6 @@
 //! The script of the vectors: what the program holds, and what it prints for each line (docs/VECTORS.md).
 
+use crate::changes::{changed_lines, line_of};
 use crate::desk::{self, Answer};
 use crate::feed::{read_in_pieces, Feed, AREA_PLACES};
 use crate::limits::*;
@@ -13,10 +14,10 @@ pub const LINE: usize = 200;
 pub const NUMBERS: usize = 16;
 /// So many bytes of a text are kept, and so many the buffer has places for: more than a text may have.
 pub const TEXT_ROOM: usize = 16_500;
+/// The room of a table with a place an abstract state: more than a map may have.
+pub const STATES_ROOM: usize = 4_200;
 /// The room of a list of steps: more than a sequence may have.
 pub const LIST: usize = 1_100;
-/// So many changed places of an array are printed one by one; a call's further ones make one line.
-pub const SHOWN: usize = 64;
 
 pub const FACTS: u32 = 0;
 pub const COSTS: u32 = 1;
@@ -32,6 +33,7 @@ pub const NOW: u32 = 10;
 pub const COLUMN: u32 = 11;
 pub const RECORDS: u32 = 13;
 pub const BUFFER: u32 = 14;
+pub const BEST: u32 = 15;
 pub const AREA: u32 = 17;
 pub const MARK: u32 = 18;
 
@@ -49,7 +51,7 @@ pub const ARRAYS: [(&str, usize, usize, u32); 19] = [
     ("facts", 1_700, FACTS_ROOM, 255),
     ("costs", 80, COSTS_ROOM, u32::MAX),
     ("shares", 600, SHARES_ROOM, u32::MAX),
-    ("out", 4_200, OUT_ROOM, u32::MAX),
+    ("out", STATES_ROOM, OUT_ROOM, u32::MAX),
     ("state", 16, VARS, 255),
     ("first", LIST, 0, u32::MAX),
     ("second", LIST, 0, u32::MAX),
@@ -61,7 +63,7 @@ pub const ARRAYS: [(&str, usize, usize, u32); 19] = [
     NO_ARRAY,
     ("records", RECORD * ROW_ROOM, 0, u32::MAX),
     ("buffer", TEXT_ROOM, BUFFER_ROOM, 255),
-    NO_ARRAY,
+    ("best", STATES_ROOM, BEST_ROOM, 255),
     NO_ARRAY,
     ("", 0, AREA_ROOM, 0),
     ("mark", ROW_ROOM, 0, 255),
@@ -190,7 +192,7 @@ impl Bench {
     /// Only what a caller lends has a length to set, and none is beyond its array. Of the row a record is counted as one.
     fn lend(&mut self, k: usize, length: usize) {
         let most = match k as u32 {
-            FACTS..=SECOND | BUFFER => ARRAYS[k].1,
+            FACTS..=SECOND | BUFFER | BEST => ARRAYS[k].1,
             RECORDS => ROW_ROOM,
             AREA => AREA_PLACES,
             _ => return,
@@ -212,15 +214,7 @@ impl Bench {
 
     fn show(&mut self, k: usize, place: usize) {
         if let Some(value) = self.arrays.get(k).and_then(|array| array.get(place)).copied() {
-            self.print_place(k, place, value);
-        }
-    }
-
-    fn print_place(&mut self, k: usize, place: usize, value: u32) {
-        if k == LEN as usize {
-            self.print(&format!("len {}", value));
-        } else {
-            self.print(&format!("{} {} {}", ARRAYS[k].0, place, value));
+            self.print(&line_of(k, place, &[value]));
         }
     }
 
@@ -304,7 +298,9 @@ impl Bench {
         };
         self.print(&answer.to_string());
         for (k, old) in before.iter().enumerate() {
-            self.print_changes(k, old);
+            for line in changed_lines(k, old, &self.arrays[k]) {
+                self.print(&line);
+            }
         }
         true
     }
@@ -328,12 +324,14 @@ impl Bench {
             }
             (b'K', []) => desk::check(lent),
             (b'D', [map]) => {
-                let mut out = self.words(OUT).to_vec();
-                let answer = desk::distances(lent, *map, &mut out);
+                let (mut out, mut best) = (self.words(OUT).to_vec(), self.bytes(BEST));
+                let answer = desk::distances(lent, *map, &mut out, &mut best);
                 self.put(OUT, &out);
+                self.put_bytes(BEST, &best);
                 answer
             }
             (b'A', [map]) => desk::distance_at(lent, *map, &state),
+            (b'N', [map]) => desk::best_at(lent, *map, &state),
             (b'B', []) => desk::bound(lent, &state),
             (b'M', []) => desk::bound(lent, &self.bytes(NOW)),
             (b'J', []) => desk::judge(lent, &state, a),
@@ -365,18 +363,5 @@ impl Bench {
             self.counts = counts;
         }
         answer
-    }
-
-    /// The changed places in rising order: the first ones singly, the further ones counted and digested.
-    fn print_changes(&mut self, k: usize, old: &[u32]) {
-        let changed: Vec<(usize, u32)> = self.arrays[k].iter().copied().enumerate().filter(|(i, value)| old[*i] != *value).collect();
-        for (place, value) in changed.iter().take(SHOWN) {
-            self.print_place(k, *place, *value);
-        }
-        if changed.len() > SHOWN {
-            let digest =
-                changed[SHOWN..].iter().fold(0, |digest, (place, value)| (31 * digest + *place as u64 + u64::from(*value)) % 1_000_003);
-            self.print(&format!("{} more {} {}", ARRAYS[k].0, changed.len() - SHOWN, digest));
-        }
     }
 }

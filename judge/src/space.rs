@@ -1,6 +1,6 @@
-//! Views: the induced abstraction of source document 001, its goal distances and their rounds.
+//! Views: the induced abstraction of source document 001, its goal distances and their rounds, and the best steps.
 
-use crate::limits::{ENUMERATED, NONE};
+use crate::limits::{ENUMERATED, NONE, NO_STEP};
 use crate::task::{State, Task};
 
 /// An abstract state space. A step says from where, by which operator, to where.
@@ -10,10 +10,11 @@ pub struct View {
     pub steps: Vec<(usize, usize, usize)>,
 }
 
-/// The distances of a map at all its abstract states, none where no goal is reached.
+/// The distances of a map at all its abstract states, none where no goal is reached; and the best steps there, none at a goal too.
 pub struct Distances {
     pub rounds: usize,
     pub least: Vec<Option<u64>>,
+    pub best: Vec<Option<usize>>,
 }
 
 fn class_counts(task: &Task, m: usize) -> Vec<usize> {
@@ -29,7 +30,7 @@ fn number_of(places: &[usize], sizes: &[usize]) -> usize {
     places.iter().zip(sizes).rev().fold(0, |number, (place, size)| number * size + place)
 }
 
-fn combination(number: usize, sizes: &[usize]) -> Vec<usize> {
+pub fn combination(number: usize, sizes: &[usize]) -> Vec<usize> {
     let mut rest = number;
     let mut places = Vec::new();
     for size in sizes {
@@ -106,23 +107,45 @@ fn sweep(view: &View, shares: &[u64], before: &[Option<u64>]) -> Vec<Option<u64>
     least
 }
 
-/// Rounds: the smallest i of at least 1 whose table equals the one before.
+/// Rounds: the smallest i of at least 1 whose table equals the one before. The fewest steps: the smallest i whose table has the distance.
+/// No table says more than the one before, so that is where a state's number changed last.
 pub fn distances(task: &Task, m: usize) -> Distances {
-    let view = view(task, m);
+    let (view, shares) = (view(task, m), &task.shares[m]);
     let mut before: Vec<Option<u64>> = view.goals.iter().map(|goal| goal.then_some(0)).collect();
+    let mut fewest = vec![0; before.len()];
     for rounds in 1.. {
-        let least = sweep(&view, &task.shares[m], &before);
+        let least = sweep(&view, shares, &before);
         if least == before {
             assert!(rounds <= view.goals.len());
-            return Distances { rounds, least };
+            let best = best_steps(&view, shares, &least, &fewest);
+            return Distances { rounds, least, best };
         }
+        (0..least.len()).filter(|a| least[*a] != before[*a]).for_each(|a| fewest[a] = rounds);
         before = least;
     }
     unreachable!()
 }
 
+/// A cheapest sequence with fewest steps begins with an operator after which the distance is less by its share and the fewest steps are one
+/// fewer; and after such an operator there is the rest of such a sequence. Of these operators the lowest; at a goal there is none, since the
+/// fewest steps are 0 there.
+fn best_steps(view: &View, shares: &[u64], least: &[Option<u64>], fewest: &[usize]) -> Vec<Option<usize>> {
+    let mut best: Vec<Option<usize>> = vec![None; least.len()];
+    for (from, o, to) in &view.steps {
+        let cheapest = least[*to].map_or(false, |rest| least[*from] == Some(shares[*o] + rest));
+        if cheapest && fewest[*from] == fewest[*to] + 1 {
+            best[*from] = Some(best[*from].map_or(*o, |lowest| lowest.min(*o)));
+        }
+    }
+    best
+}
+
 pub fn distance_at(task: &Task, m: usize, state: &State) -> Option<u64> {
     distances(task, m).least[image(task, m, state)]
+}
+
+pub fn best_at(task: &Task, m: usize, state: &State) -> Option<usize> {
+    distances(task, m).best[image(task, m, state)]
 }
 
 /// Source document 000: the sum is infinite, which is none here, if any term is.
@@ -133,4 +156,9 @@ pub fn bound(task: &Task, state: &State) -> Option<u64> {
 /// A distance as a table holds it.
 pub fn written(distance: Option<u64>) -> u32 {
     distance.map_or(NONE, |distance| u32::try_from(distance).expect("a distance fits"))
+}
+
+/// A best step as a table holds it.
+pub fn written_step(best: Option<usize>) -> u8 {
+    best.map_or(NO_STEP, |o| u8::try_from(o).expect("an operator's number fits"))
 }

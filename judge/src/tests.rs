@@ -1,5 +1,6 @@
 //! The cases of the bench, and what must hold for any task.
 
+use crate::best::kept_apart;
 use crate::builder::{tables_of, text_of_task, Tables};
 use crate::cases::{a_with, c, d, f, row_of_ops, A, E};
 use crate::desk;
@@ -189,12 +190,6 @@ fn no_sequence_costs_less_than_the_bound() {
             assert_eq!(run.columns[..STORED].iter().map(|column| u64::from(*column)).sum::<u64>(), cost);
         }
     }
-}
-
-/// The task with one map that keeps every value apart, with full costs: its distance is the least cost of any sequence.
-fn kept_apart(task: &Task) -> Task {
-    let maps = vec![task.dom.iter().map(|values| (0..*values).collect()).collect()];
-    Task { maps, shares: vec![task.ops.iter().map(|op| op.cost).collect()], ..task.clone() }
 }
 
 /// So where some sequence reaches the goal, every map says a number.

@@ -157,13 +157,14 @@ fn every_entry_that_takes_tables_refuses_them() {
         let (mut tables, mut row) = (tables_of(&task), row_of(&task));
         tables.facts[ROW * (ROW_EFF + o)] = 0;
         row[o].eff[0] = 0;
-        let (run, mut out) = (run_of(&task, &[1, 2]), vec![9; OUT_ROOM]);
+        let (run, mut out, mut best) = (run_of(&task, &[1, 2]), vec![9; OUT_ROOM], vec![9; BEST_ROOM]);
         let refused = desk::Answer::Refused(Fault { number: 18, place: line });
         let lent = lent(&task, &tables);
         assert_eq!(desk::check(lent), refused);
-        assert_eq!(desk::distances(lent, 9, &mut out), refused);
-        assert_eq!(out, vec![9; OUT_ROOM]);
+        assert_eq!(desk::distances(lent, 9, &mut out, &mut best), refused);
+        assert_eq!((out, best), (vec![9; OUT_ROOM], vec![9; BEST_ROOM]));
         assert_eq!(desk::distance_at(lent, 9, &[7]), refused);
+        assert_eq!(desk::best_at(lent, 9, &[7]), refused);
         assert_eq!(desk::bound(lent, &[7]), refused);
         assert_eq!(desk::judge(lent, &[7], &[64; STEPS + 1]), refused);
         assert_eq!(desk::cheaper(lent, &[7], &[], &[]), refused);

@@ -252,12 +252,13 @@ fn the_stored_tests_are_the_accepted_storing_steps_at_every_moment() {
 fn every_answer(task: &Task, counts: Counts, tables: &Tables, row: &[Record], list: &[u32]) -> Vec<(Answer, Run, Vec<u8>)> {
     let lent = Lent { counts, facts: &tables.facts, costs: &tables.costs, shares: &tables.shares };
     let state: Vec<u8> = task.init.iter().map(|value| *value as u8).collect();
-    let (mut out, mut buffer) = (vec![7; OUT_ROOM], vec![255; BUFFER_ROOM]);
+    let (mut out, mut best, mut buffer) = (vec![7; OUT_ROOM], vec![7; BEST_ROOM], vec![255; BUFFER_ROOM]);
     let answers = [
         desk::check(lent),
         desk::write(lent, &mut buffer),
-        desk::distances(lent, 0, &mut out),
+        desk::distances(lent, 0, &mut out, &mut best),
         desk::distance_at(lent, 0, &state),
+        desk::best_at(lent, 0, &state),
         desk::bound(lent, &state),
         desk::judge(lent, &state, list),
         desk::judge_row(lent, row, &state, list),

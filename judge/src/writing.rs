@@ -330,7 +330,7 @@ fn lines_of_the_script() -> Vec<Vector> {
         Vector::new("the buffer's places hold bytes and have an end")
             .lines("s 14 16499 7 7; p 14 16499; p 14 16500; s 14 0 256 8; p 14 0; p 14 1; e 14 256; p 14 0")
             .lines("e 14 255; p 14 0; p 14 16499; l 14 16500; l 14 16501; T"),
-        Vector::new("behind the buffer there is no array")
+        Vector::new("behind the buffer there is array 15, and no array 16")
             .text(A.as_bytes())
             .lines("n 1 2 3; s 15 0 9; e 15 9; p 15 0; l 15 1; q; s 16 0 5; e 16 5; p 16 0; l 16 1; R; p 17 0; p 4294967295 0"),
     ]

@@ -15,7 +15,7 @@ use Rattle.meaning.proofs.Facts.{and-left, and-right}
 use Rattle.meaning.proofs.Unread.{states-alike, view-alike}
 use Rattle.tables.specs.Layout.{Tables, factsRoom, costsRoom, sharesRoom, domPlace, initPlace, goalPlace, prePlace, effPlace, classPlace, markPlace, sharePlace}
 use Rattle.tables.specs.Editions.{readIn}
-use Rattle.tables.specs.Task.{sasOf, taskOf, tables, stateOf}
+use Rattle.tables.specs.Task.{taskOf, tables, stateOf}
 use Rattle.tables.specs.Steps.{copied}
 use Rattle.scan.specs.declared.Found.the-variants.{Clean}
 use Rattle.scan.specs.Scan.{unless, taskFault, roomy, tablesFault}
@@ -24,7 +24,8 @@ use Rattle.scan.proofs.Walks.{clean-first, rule-held}
 use Rattle.scan.proofs.Unread.{ReadAlike, read-back, own-alike, state-own}
 use Rattle.grammar.specs.Fields.{filled}
 use Rattle.grammar.proofs.SpellLeft.{filled-at}
-use Rattle.views.proofs.Unread.{distances-given-alike, distance-given-alike, bound-given-alike}
+use Rattle.views.specs.Entries.{IsBest}
+use Rattle.views.proofs.Unread.{distances-given-alike, distance-given-alike, best-given-alike, bound-given-alike}
 use Rattle.sequences.specs.Judging.{limited}
 use Rattle.sequences.proofs.Unread.{judged-alike}
 use Rattle.ledger.specs.declared.Run.{Run}
@@ -33,8 +34,8 @@ use Rattle.ledger.specs.declared.Answer.the-variants.{Refused}
 use Rattle.ledger.specs.declared.Offered.{Offered}
 use Rattle.ledger.specs.Ledger.{fresh, isRun, offerJudged, answered, moved, offered}
 use Rattle.ledger.proofs.Unread.{offered-alike, begun-alike}
-use Rattle.cases.specs.Told.{yes!, ofSequence, ofOffer, Offering, Claim, distances, distanceAt, boundAt, judging, run, SaysThat, ClaimHolds}
-use Rattle.cases.proofs.Contracts.{Inside, Shows, distances-exactly, distance-exactly, bound-exactly, judged-exactly, begun-is}
+use Rattle.cases.specs.Told.{yes!, ofSequence, ofOffer, Offering, Claim, distances, distanceAt, bestAt, boundAt, judging, run, SaysThat, ClaimHolds}
+use Rattle.cases.proofs.Contracts.{Inside, Shows, distances-exactly, distance-exactly, best-exactly, bound-exactly, judged-exactly, begun-is}
 
 -- the tables of an accepted text, as they are left in the lent ones
 abbrev pub leftIn : Tables → List ℕ → List ℕ → List ℕ → Tables
@@ -62,8 +63,9 @@ SaysPast T r (x ∷ xs) =
     × SaysPast T (offeredPast T r (x .number) (x .operator) .run) xs
 
 abbrev pub Shown : Tables → Claim → Type 0
-Shown T (distances m ds r) = Shows (taskOf T) m ds r
+Shown T (distances m ds r bs) = Shows (taskOf T) m ds r bs
 Shown T (distanceAt m s v) = (m < T .counts .maps) × Inside (taskOf T) s × (away (taskOf T) (stateOf s) m ≡ v)
+Shown T (bestAt m s x) = (m < T .counts .maps) × Inside (taskOf T) s × IsBest (taskOf T) (stateOf s) m x
 Shown T (boundAt s v) = Inside (taskOf T) s × (bound (taskOf T) (stateOf s) ≡ v)
 Shown T (judging s os x) = Inside (taskOf T) s × (ofSequence (limited (taskOf T) (stateOf s) os) ≡ x)
 Shown T (run s xs) = Inside (taskOf T) s × SaysPast T (fresh (copied s (T .counts .vars))) xs
@@ -128,16 +130,24 @@ module _ (T : Tables) (f c s : List ℕ) (clean : tablesFault T ≡ Clean) where
       (h .0, h .1, left-says (offeredPast T r (x .number) (x .operator) .run) xs (h .2))
 
   pub left-holds : (x : Claim) → Shown T x → ClaimHolds U x
-  left-holds (distances m ds r) h =
-      let p = distances-exactly T clean m ds r h in
-      let E = alike .task clean in (
-        p .0 ∙ states-alike (E .sas) (view-alike E m (h .asked)),
-        λ out l answer out′. through (distances-given-alike alike m out out′ answer) (distances-given-alike back m out out′ answer) (p .1 out l answer out′),
+  left-holds (distances m ds r bs) h =
+      let p = distances-exactly T clean m ds r bs h in
+      let E = alike .task clean in
+      let states = states-alike (E .sas) (view-alike E m (h .asked)) in (
+        p .0 ∙ states,
+        p .1 ∙ states,
+        λ out best l k answer out′ best′.
+            through (distances-given-alike alike m out best out′ best′ answer) (distances-given-alike back m out best out′ best′ answer)
+            (p .2 out best l k answer out′ best′),
       )
   left-holds (distanceAt m u v) h =
       λ answer.
       through (distance-given-alike alike u u (state-own (T .counts) u) m answer) (distance-given-alike back u u (state-own (T .counts) u) m answer)
       (distance-exactly T clean m u v (h .0) (h .1) (h .2) answer)
+  left-holds (bestAt m u x) h =
+      λ answer.
+      through (best-given-alike alike u u (state-own (T .counts) u) m answer) (best-given-alike back u u (state-own (T .counts) u) m answer)
+      (best-exactly T clean m u x (h .0) (h .1) (h .2) answer)
   left-holds (boundAt u v) h =
       λ answer.
       through (bound-given-alike alike u u (state-own (T .counts) u) answer) (bound-given-alike back u u (state-own (T .counts) u) answer)

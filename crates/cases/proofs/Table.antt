@@ -64,7 +64,7 @@ use Rattle.grammar.proofs.Admission.{text-read}
 use Rattle.grammar.proofs.SpellAccepted.{accepted-clean}
 use Rattle.sequences.specs.Stepping.{stepOf}
 use Rattle.meaning.specs.Limits.{mostBytes, mostSteps}
-use Rattle.sweep.specs.Said.{said}
+use Rattle.sweep.specs.Said.{said, advised}
 use Rattle.sequences.specs.Judging.{walked, limited}
 use Rattle.ledger.specs.Ledger.{booked, atStart, onward, fresh, advanced, canRun, withinQuota, canFollow, replayed, given, startAt, startIn, zeros, sameTo, alike, isRun}
 use Rattle.ledger.specs.Ledger.{oldStep, nextStep, offerJudged}
@@ -73,7 +73,7 @@ use Rattle.meaning.specs.Quota.{mayStore}
 use Rattle.cases.specs.Told.{Told, yes!, no!, Claim, EachAt, Case, RightOf, Right}
 use Rattle.cases.specs.Cases.{table}
 use Rattle.cases.proofs.Tests.{Test, le?, told?, _and_, into, always, each?}
-use Rattle.cases.proofs.Rounds.{tableOf}
+use Rattle.cases.proofs.Rounds.{tableOf, notesOf}
 use Rattle.cases.proofs.Left.{Shown, left-holds}
 use Rattle.cases.proofs.Claims.{shown?}
 
@@ -144,9 +144,9 @@ opened-task : Unit {0}
 unfolding classList classLists mapClasses mapsLine mapLines amounts shareLines taskLines settled theEnd noTask verdict
 opened-task = tt
 
--- the scan of the shares, and what a distance table says
+-- the scan of the shares, and what the tables of distances and best steps say
 opened-scan : Unit {0}
-unfolding quotaLines each splitFault said
+unfolding quotaLines each splitFault said advised
 opened-scan = tt
 
 -- steps and sequences
@@ -160,7 +160,7 @@ unfolding rest gain booked atStart onward fresh advanced canRun withinQuota canF
 opened-run = tt
 
 pub cases-hold : (f c s : List ℕ) → factsRoom ≤ length f → costsRoom ≤ length c → sharesRoom ≤ length s → EachAt (λ i x. Right f c s x) 0 table
-unfolding table tableOf opened-marks opened-lines opened-task opened-scan opened-steps opened-run
+unfolding table tableOf notesOf opened-marks opened-lines opened-task opened-scan opened-steps opened-run
 cases-hold f c s a b d =
     each-so (λ i x. Stands x) (λ i x. Right f c s x) (λ i x h. stands-right f c s a b d x h) 0 table
     (each? (λ i x. Stands x) (λ i x. stands? x) 0 table .so refl)

@@ -9,6 +9,7 @@ use native.Mathlib.Omega.{arith}
 use lib.Dec.{eqb, ltb, leb}
 use borrow.Author.Tests.{ltb-true, leb-true, eqb-true, eqb-false, not-true}
 use Rattle.graph.specs.Cost.{Cost, none, fin}
+use Rattle.graph.specs.Best.{Advice, halt, take}
 use Rattle.meaning.specs.Views.{every}
 use Rattle.meaning.proofs.Facts.{every-true, and-left, and-right}
 use Rattle.cases.specs.Told.{Told, yes!, costs, again, no!, EachAt}
@@ -106,6 +107,22 @@ same? v w = record { holds = eqCost v w; so = eqCost-true v w }
 
 abbrev pub other? : (v w : Cost) → Test (v ≡ w → ⊥)
 other? v w = record { holds = not (eqCost v w); so = eqCost-false v w }
+
+-- the same advice
+abbrev pub eqAdvice : Advice → Advice → Bool
+eqAdvice halt halt = true
+eqAdvice halt (take p) = false
+eqAdvice (take o) halt = false
+eqAdvice (take o) (take p) = eqb o p
+
+pub eqAdvice-true : (x y : Advice) → eqAdvice x y ≡ true → x ≡ y
+eqAdvice-true halt halt h = refl
+eqAdvice-true halt (take p) h = absurd (false≢true h)
+eqAdvice-true (take o) halt h = absurd (false≢true h)
+eqAdvice-true (take o) (take p) h = ap take (eqb-true o p h)
+
+abbrev pub advice? : (x y : Advice) → Test (x ≡ y)
+advice? x y = record { holds = eqAdvice x y; so = eqAdvice-true x y }
 
 -- what is told
 abbrev pub eqTold : Told → Told → Bool

@@ -1,9 +1,10 @@
--- The starred cases of document 01, from text to answers, with the sum of document 02; the coupling that nearly left, in edition 2; and idle operators, where
--- they are told.
+-- The starred cases of document 01, from text to answers, with the sum and the best steps of document 02; the coupling that nearly left, in edition 2; and idle
+-- operators, where they are told.
 use mathlib.Core.List.{List, [], _∷_}
 use Prim.Native.String.{String, _++_}
 use Rattle.graph.specs.Cost.{none, fin}
-use Rattle.cases.specs.Told.{yes!, costs, again, no!, distances, distanceAt, boundAt, judging, run, Case}
+use Rattle.graph.specs.Best.{halt, take}
+use Rattle.cases.specs.Told.{yes!, costs, again, no!, distances, distanceAt, bestAt, boundAt, judging, run, Case}
 
 -- case A up to its operators' costs, its operators, its maps
 abbrev pub headA : String
@@ -15,6 +16,7 @@ mapsA = "maps=3\nmap=0,1/0,0,0/0,0,0\nmap=0,0/0,1,2/0,0,0\nmap=0,0/0,0,0/0,1,2\n
 abbrev pub opsA : String
 opsA = "op=1;0:0;0:1\nop=1;1:0,2:0;1:1,2:1\nop=1;1:1;1:2\nop=1;2:1;2:2\n"
 
+-- A: in each map the operators that leave its variable alone are loops that cost 0, and no best step goes round one
 abbrev pub A : String
 A = headA ++ opsA ++ mapsA ++ "share=1,0,0,0\nshare=0,1,1,0\nshare=0,0,0,1\n"
 
@@ -55,9 +57,10 @@ table =
       text = A;
       read = yes!;
       claims =
-          distances 0 (fin 1 ∷ fin 0 ∷ []) 2
-          ∷ distances 1 (fin 2 ∷ fin 1 ∷ fin 0 ∷ []) 3
-          ∷ distances 2 (fin 1 ∷ fin 1 ∷ fin 0 ∷ []) 3
+          distances 0 (fin 1 ∷ fin 0 ∷ []) 2 (take 0 ∷ halt ∷ [])
+          ∷ distances 1 (fin 2 ∷ fin 1 ∷ fin 0 ∷ []) 3 (take 1 ∷ take 2 ∷ halt ∷ [])
+          ∷ distances 2 (fin 1 ∷ fin 1 ∷ fin 0 ∷ []) 3 (take 1 ∷ take 3 ∷ halt ∷ [])
+          ∷ bestAt 1 (1 ∷ 0 ∷ 0 ∷ []) (take 1)
           ∷ boundAt (0 ∷ 0 ∷ 0 ∷ []) (fin 4)
           ∷ boundAt (1 ∷ 0 ∷ 0 ∷ []) (fin 3)
           ∷ judging (0 ∷ 0 ∷ 0 ∷ []) (0 ∷ 1 ∷ 2 ∷ 3 ∷ []) (costs 4)
@@ -82,10 +85,12 @@ table =
       text = E;
       read = yes!;
       claims =
-          distances 0 (fin 1 ∷ fin 0 ∷ []) 2
-          ∷ distances 1 (none ∷ fin 0 ∷ []) 1
+          distances 0 (fin 1 ∷ fin 0 ∷ []) 2 (take 0 ∷ halt ∷ [])
+          ∷ distances 1 (none ∷ fin 0 ∷ []) 1 (halt ∷ halt ∷ [])
           ∷ distanceAt 0 (0 ∷ 0 ∷ []) (fin 1)
           ∷ distanceAt 1 (0 ∷ 0 ∷ []) none
+          ∷ bestAt 0 (0 ∷ 0 ∷ []) (take 0)
+          ∷ bestAt 1 (0 ∷ 0 ∷ []) halt
           ∷ boundAt (0 ∷ 0 ∷ []) none
           ∷ [];
     }
@@ -93,7 +98,7 @@ table =
       text = G;
       read = yes!;
       claims =
-          distances 0 (fin 5 ∷ fin 3 ∷ fin 2 ∷ fin 0 ∷ []) 3
+          distances 0 (fin 5 ∷ fin 3 ∷ fin 2 ∷ fin 0 ∷ []) 3 (take 0 ∷ take 1 ∷ take 0 ∷ halt ∷ [])
           ∷ boundAt (0 ∷ 0 ∷ []) (fin 5)
           ∷ judging (0 ∷ 0 ∷ []) (0 ∷ 1 ∷ []) (costs 5)
           ∷ judging (0 ∷ 0 ∷ []) (0 ∷ 1 ∷ 2 ∷ 1 ∷ []) (no! 19 4)

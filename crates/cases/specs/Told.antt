@@ -1,7 +1,7 @@
 -- What an answer of the desk tells, in the paper's numbers; what a case claims; and when a claim holds.
 -- Everything is claimed over the contracts of the public entries (crates/desk/src/lib.rt). A contract that is an equation gives one outcome, and the claim
--- is of that outcome. The contracts of distances and bounds say what the numbers mean, so there the claim is that an outcome meets the contract exactly if
--- it is the one of the case: that one meets it, and no other does.
+-- is of that outcome. The contracts of distances, best steps and bounds say what the numbers mean, so there the claim is that an outcome meets the contract
+-- exactly if it is the one of the case: that one meets it, and no other does.
 use mathlib.Core.Path.{_≡_}
 use mathlib.Core.Logic.{_↔_}
 use mathlib.Core.List.{List, [], _∷_, _++_, map}
@@ -9,6 +9,7 @@ use Prim.Native.Nat.{ℕ, suc, _≤_}
 use Prim.Native.String.{String}
 use lib.ListN.{length, drop}
 use Rattle.graph.specs.Cost.{Cost, none, fin}
+use Rattle.graph.specs.Best.{Advice, halt, take}
 use Rattle.refusals.specs.Listed.{numberOf, placeOf}
 use Rattle.meaning.specs.Limits.{mostStates}
 use Rattle.meaning.specs.Views.{abstractStates}
@@ -19,12 +20,13 @@ use Rattle.grammar.specs.declared.Reading.{Reading}
 use Rattle.grammar.specs.declared.Reading.the-variants as reading
 use Rattle.grammar.specs.Fields.{Outcome, bytesOf}
 use Rattle.grammar.specs.Grammar.{readText}
-use Rattle.sweep.specs.Said.{NONE}
+use Rattle.sweep.specs.Said.{NONE, HALT}
 use Rattle.views.specs.declared.DistancesAnswer.{DistancesAnswer}
 use Rattle.views.specs.declared.DistancesAnswer.the-variants.{Rounds}
 use Rattle.views.specs.declared.DistanceAnswer.{DistanceAnswer}
+use Rattle.views.specs.declared.BestAnswer.{BestAnswer}
 use Rattle.views.specs.declared.BoundAnswer.{BoundAnswer}
-use Rattle.views.specs.Entries.{DistancesGiven, distanceSaid, DistanceGiven, boundSaid, BoundGiven}
+use Rattle.views.specs.Entries.{DistancesGiven, distanceSaid, DistanceGiven, bestSaid, BestGiven, boundSaid, BoundGiven}
 use Rattle.sequences.specs.declared.judging.Judged.{Judged}
 use Rattle.sequences.specs.declared.judging.Judged.the-variants as judged
 use Rattle.sequences.specs.Judging.{judgedOf}
@@ -60,11 +62,12 @@ pub record Offering : Type 0 where
   pub answer : Told
   pub columns : List ℕ
 
--- what a case claims of a task: a map's distances at all abstract states and its rounds; the distance of a state in a map; the bound of a state;
--- what judging a sequence from a state tells; what a run from a state tells, offer by offer
+-- what a case claims of a task: a map's distances at all abstract states, its rounds, and its best steps at all abstract states; the distance of a state in a
+-- map; its best step there; the bound of a state; what judging a sequence from a state tells; what a run from a state tells, offer by offer
 pub data Claim : Type 0 where
-  distances : ℕ → List Cost → ℕ → Claim
+  distances : ℕ → List Cost → ℕ → List Advice → Claim
   distanceAt : ℕ → List ℕ → Cost → Claim
+  bestAt : ℕ → List ℕ → Advice → Claim
   boundAt : List ℕ → Cost → Claim
   judging : List ℕ → List ℕ → Told → Claim
   run : List ℕ → List Offering → Claim
@@ -74,13 +77,18 @@ abbrev pub EachAt : {X : Type 0} → (ℕ → X → Type 0) → ℕ → List X �
 EachAt P i [] = Unit {0}
 EachAt P i (x ∷ xs) = P i x × EachAt P (suc i) xs
 
--- the number that stands for a distance in a table; the distances in the first places of a lent table, and beyond them what stood there
+-- the number that stands for a distance in a table, and the one for a best step
 abbrev pub entered : Cost → ℕ
 entered none = NONE
 entered (fin d) = d
 
-abbrev pub enteredIn : List Cost → List ℕ → List ℕ
-enteredIn ds out = map entered ds ++ drop (length ds) out
+abbrev pub stepEntered : Advice → ℕ
+stepEntered halt = HALT
+stepEntered (take o) = o
+
+-- such numbers in the first places of a lent table, and beyond them what stood there
+abbrev pub enteredIn : {X : Type 0} → (X → ℕ) → List X → List ℕ → List ℕ
+enteredIn number xs out = map number xs ++ drop (length xs) out
 
 -- the offers one after another, each to the run that the one before handed back
 abbrev pub SaysThat : Tables → Run → List Offering → Type 0
@@ -90,13 +98,15 @@ SaysThat t r (x ∷ xs) =
     × (offered t r (x .number) (x .operator) .run .columns ≡ x .columns)
     × SaysThat t (offered t r (x .number) (x .operator) .run) xs
 
--- a lent distance table may hold anything, and more places than it has to; a run is from a start that is accepted
+-- the lent tables of distances and best steps may hold anything, and more places than they have to; a run is from a start that is accepted
 abbrev pub ClaimHolds : Tables → Claim → Type 0
-ClaimHolds t (distances m ds r) =
+ClaimHolds t (distances m ds r bs) =
     (length ds ≡ abstractStates (sasOf t) (view (taskOf t) m))
-    × ((out : List ℕ) → mostStates ≤ length out → (answer : DistancesAnswer) (out′ : List ℕ)
-    → DistancesGiven t m out answer out′ ↔ ((answer ≡ Rounds r) × (out′ ≡ enteredIn ds out)))
+    × (length bs ≡ abstractStates (sasOf t) (view (taskOf t) m))
+    × ((out best : List ℕ) → mostStates ≤ length out → mostStates ≤ length best → (answer : DistancesAnswer) (out′ best′ : List ℕ)
+    → DistancesGiven t m out best answer out′ best′ ↔ ((answer ≡ Rounds r) × (out′ ≡ enteredIn entered ds out) × (best′ ≡ enteredIn stepEntered bs best)))
 ClaimHolds t (distanceAt m s v) = (answer : DistanceAnswer) → DistanceGiven t m s answer ↔ (answer ≡ distanceSaid v)
+ClaimHolds t (bestAt m s x) = (answer : BestAnswer) → BestGiven t m s answer ↔ (answer ≡ bestSaid x)
 ClaimHolds t (boundAt s v) = (answer : BoundAnswer) → BoundGiven t s answer ↔ (answer ≡ boundSaid v)
 ClaimHolds t (judging s os x) = ofSequence (judgedOf t s os) ≡ x
 ClaimHolds t (run s xs) = (ofOffer (begun t s .answer) ≡ yes!) × SaysThat t (begun t s .run) xs

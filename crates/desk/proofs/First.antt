@@ -19,8 +19,9 @@ use Rattle.grammar.specs.Writing.{textRoom, onPage, writeFault, writeText}
 use Rattle.grammar.proofs.Unread.{own-text}
 use Rattle.views.specs.declared.DistancesAnswer.{DistancesAnswer}
 use Rattle.views.specs.declared.DistanceAnswer.{DistanceAnswer}
+use Rattle.views.specs.declared.BestAnswer.{BestAnswer}
 use Rattle.views.specs.declared.BoundAnswer.{BoundAnswer}
-use Rattle.views.specs.Entries.{DistancesGiven, DistanceGiven, BoundGiven}
+use Rattle.views.specs.Entries.{DistancesGiven, DistanceGiven, BestGiven, BoundGiven}
 use Rattle.views.proofs.Unread as views
 use Rattle.sequences.specs.Judging.{judgedOf}
 use Rattle.sequences.specs.Choosing.{namedOf, cheaperOf}
@@ -34,8 +35,10 @@ use Rattle.ledger.proofs.Unread as ledger
 pub record SameAnswers (t u : Tables) : Type 0 where
   pub check : tablesFault t ≡ tablesFault u
   pub write : (buffer : List ℕ) → writeText t buffer ≡ writeText u buffer
-  pub distances : (map : ℕ) (out out′ : List ℕ) (x : DistancesAnswer) → DistancesGiven t map out x out′ → DistancesGiven u map out x out′
+  pub distances : (map : ℕ) (out best out′ best′ : List ℕ) (x : DistancesAnswer) → DistancesGiven t map out best x out′ best′
+      → DistancesGiven u map out best x out′ best′
   pub distance-at : (map : ℕ) (s : List ℕ) (x : DistanceAnswer) → DistanceGiven t map s x → DistanceGiven u map s x
+  pub best-at : (map : ℕ) (s : List ℕ) (x : BestAnswer) → BestGiven t map s x → BestGiven u map s x
   pub bound : (s : List ℕ) (x : BoundAnswer) → BoundGiven t s x → BoundGiven u s x
   pub judge : (s ops : List ℕ) → judgedOf t s ops ≡ judgedOf u s ops
   pub cheaper : (s a b : List ℕ) → cheaperOf t s a b ≡ cheaperOf u s a b
@@ -61,8 +64,9 @@ module _ (t u : Tables) (E : SameButMarks t u) where
       record {
         check = alike .fault;
         write = written-same;
-        distances = λ map out out′ x. views.distances-given-alike alike map out out′ x;
+        distances = λ map out best out′ best′ x. views.distances-given-alike alike map out best out′ best′ x;
         distance-at = λ map s x. views.distance-given-alike alike s s (state-own (t .counts) s) map x;
+        best-at = λ map s x. views.best-given-alike alike s s (state-own (t .counts) s) map x;
         bound = λ s x. views.bound-given-alike alike s s (state-own (t .counts) s) x;
         judge = λ s ops. sequences.judged-alike alike s s (state-own (t .counts) s) ops;
         cheaper = λ s a b. ap namedOf (sequences.chosen-alike alike s s (state-own (t .counts) s) a b);

@@ -18,8 +18,9 @@ use Rattle.grammar.proofs.Unread.{own-written}
 use Rattle.grammar.proofs.SpellLeft.{read-answer-same, read-accepted-same}
 use Rattle.views.specs.declared.DistancesAnswer.{DistancesAnswer}
 use Rattle.views.specs.declared.DistanceAnswer.{DistanceAnswer}
+use Rattle.views.specs.declared.BestAnswer.{BestAnswer}
 use Rattle.views.specs.declared.BoundAnswer.{BoundAnswer}
-use Rattle.views.specs.Entries.{DistancesGiven, DistanceGiven, BoundGiven}
+use Rattle.views.specs.Entries.{DistancesGiven, DistanceGiven, BestGiven, BoundGiven}
 use Rattle.views.proofs.Unread as views
 use Rattle.sequences.specs.Judging.{judgedOf}
 use Rattle.sequences.specs.Choosing.{namedOf, cheaperOf}
@@ -44,8 +45,9 @@ module _ (t u : Tables) (O : OwnSame t u) where
   pub write-own : (buffer : List ℕ) → writeText t buffer ≡ writeText u buffer
   write-own buffer = own-written t u O buffer
 
-  pub distances-own : (map : ℕ) (out out′ : List ℕ) (x : DistancesAnswer) → DistancesGiven t map out x out′ → DistancesGiven u map out x out′
-  distances-own map out out′ x = views.distances-given-alike (own-alike t u O) map out out′ x
+  pub distances-own : (map : ℕ) (out best out′ best′ : List ℕ) (x : DistancesAnswer) → DistancesGiven t map out best x out′ best′
+      → DistancesGiven u map out best x out′ best′
+  distances-own map out best out′ best′ x = views.distances-given-alike (own-alike t u O) map out best out′ best′ x
 
   pub offer-own : (run : Run) (number op : ℕ) → offered t run number op ≡ offered u run number op
   offer-own run number op = ledger.offered-alike (own-alike t u O) run number op
@@ -54,6 +56,9 @@ module _ (t u : Tables) (O : OwnSame t u) where
   module _ (s z : List ℕ) (S : OwnState (t .counts) s z) where
     pub distance-at-own : (map : ℕ) (x : DistanceAnswer) → DistanceGiven t map s x → DistanceGiven u map z x
     distance-at-own map x = views.distance-given-alike (own-alike t u O) s z S map x
+
+    pub best-at-own : (map : ℕ) (x : BestAnswer) → BestGiven t map s x → BestGiven u map z x
+    best-at-own map x = views.best-given-alike (own-alike t u O) s z S map x
 
     pub bound-own : (x : BoundAnswer) → BoundGiven t s x → BoundGiven u z x
     bound-own x = views.bound-given-alike (own-alike t u O) s z S x

@@ -13,8 +13,9 @@ use Rattle.grammar.specs.Writing.{Page, writeText}
 use Rattle.pieces.specs.declared.SoFar.{SoFar}
 use Rattle.pieces.specs.Pieces.{PieceLeft, EndLeft, begunText, pieceTaken, textEnded}
 use Rattle.views.specs.declared.DistanceAnswer.{DistanceAnswer}
+use Rattle.views.specs.declared.BestAnswer.{BestAnswer}
 use Rattle.views.specs.declared.BoundAnswer.{BoundAnswer}
-use Rattle.views.specs.Entries.{DistancesGiven, DistanceGiven, BoundGiven}
+use Rattle.views.specs.Entries.{DistancesGiven, DistanceGiven, BestGiven, BoundGiven}
 use Rattle.views.proofs.Promises as views
 use Rattle.sequences.specs.declared.judging.Judged.{Judged}
 use Rattle.sequences.specs.declared.choosing.Cheaper.{Cheaper}
@@ -49,14 +50,17 @@ write-unique t buffer x y p q = p ∙ sym q
 pub check-unique : (t : Tables) (x y : Found) → x ≡ tablesFault t → y ≡ tablesFault t → x ≡ y
 check-unique t x y p q = p ∙ sym q
 
--- answer, count of rounds and table together
-pub distances-unique : (t : Tables) (map : ℕ) (out : List ℕ) (x y : views.Outcome)
-    → DistancesGiven t map out (x .answer) (x .table) → DistancesGiven t map out (y .answer) (y .table) → x ≡ y
-distances-unique t map out x y p q = views.distances-unique t map out x y p q
+-- answer, count of rounds and both tables together
+pub distances-unique : (t : Tables) (map : ℕ) (out best : List ℕ) (x y : views.Outcome)
+    → DistancesGiven t map out best (x .answer) (x .table) (x .best) → DistancesGiven t map out best (y .answer) (y .table) (y .best) → x ≡ y
+distances-unique t map out best x y p q = views.distances-unique t map out best x y p q
 
 pub distance-at-unique : (t : Tables) (map : ℕ) (state : List ℕ) (x y : DistanceAnswer)
     → DistanceGiven t map state x → DistanceGiven t map state y → x ≡ y
 distance-at-unique t map state x y p q = views.distance-at-unique t map state x y p q
+
+pub best-at-unique : (t : Tables) (map : ℕ) (state : List ℕ) (x y : BestAnswer) → BestGiven t map state x → BestGiven t map state y → x ≡ y
+best-at-unique t map state x y p q = views.best-at-unique t map state x y p q
 
 pub bound-unique : (t : Tables) (state : List ℕ) (x y : BoundAnswer) → BoundGiven t state x → BoundGiven t state y → x ≡ y
 bound-unique t state x y p q = views.bound-unique t state x y p q

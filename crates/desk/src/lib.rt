@@ -12,7 +12,7 @@ ghost use Rattle.grammar.specs.Fields.{leaves};
 ghost use Rattle.grammar.specs.Grammar.{readText};
 ghost use Rattle.grammar.specs.Writing.{page, writeText};
 ghost use Rattle.pieces.specs.Pieces.{begunText, pieceLeft, pieceTaken, endLeft, textEnded};
-ghost use Rattle.views.specs.Entries.{DistancesGiven, DistanceGiven, BoundGiven};
+ghost use Rattle.views.specs.Entries.{DistancesGiven, DistanceGiven, BestGiven, BoundGiven};
 ghost use Rattle.sequences.specs.Judging.{judgedOf};
 ghost use Rattle.sequences.specs.Choosing.{cheaperOf};
 ghost use Rattle.sequences.specs.Opening.{OpeningOf};
@@ -29,6 +29,7 @@ use scan::Found;
 use sequences::choosing::Cheaper;
 use sequences::judging::Judged;
 use tables::Counts;
+use views::BestAnswer;
 use views::BoundAnswer;
 use views::DistanceAnswer;
 use views::DistancesAnswer;
@@ -92,7 +93,9 @@ pub fn check(c: Counts, facts: &[u8], costs: &[u32], shares: &[u32]) -> Found
     scan::tables_fault(c, facts, costs, shares)
 }
 
-// The DISTANCES of a map at all its abstract states, into a lent table of at least 4,096 places (4,294,967,295 for none), with the count of rounds.
+// The DISTANCES of a map at all its abstract states, into a lent table of at least 4,096 places (4,294,967,295 for none), with the count of rounds; and the best
+// step at each, into another of as many bytes (255 for none): the operator to take, of the cheapest sequences to a goal and of those with fewest steps the lowest
+// first one. Following them reaches a goal at exactly the distance (crates/views/proofs/Promises.antt). Refused: both tables are as they were.
 // `distances-unique`.
 pub fn distances(
     c: Counts,
@@ -101,10 +104,11 @@ pub fn distances(
     shares: &[u32],
     map: u32,
     out: &mut [u32],
+    best: &mut [u8],
 ) -> DistancesAnswer
-    ensures { λ r. ⌜ DistancesGiven (lent c facts costs shares) map (was out) r (left out) ⌝ }
+    ensures { λ r. ⌜ DistancesGiven (lent c facts costs shares) map (was out) (was best) r (left out) (left best) ⌝ }
 {
-    views::distances(c, facts, costs, shares, map, out)
+    views::distances(c, facts, costs, shares, map, out, best)
 }
 
 // The DISTANCE of a state's image in one map, or none.
@@ -120,6 +124,21 @@ pub fn distance_at(
     ensures { λ r. ⌜ DistanceGiven (lent c facts costs shares) map (was state) r ⌝ }
 {
     views::distance_at(c, facts, costs, shares, map, state)
+}
+
+// The BEST STEP of a state's image in one map, or none: at a goal of the map, and where its distance is none.
+// `best-at-unique`.
+pub fn best_at(
+    c: Counts,
+    facts: &[u8],
+    costs: &[u32],
+    shares: &[u32],
+    map: u32,
+    state: &[u8],
+) -> BestAnswer
+    ensures { λ r. ⌜ BestGiven (lent c facts costs shares) map (was state) r ⌝ }
+{
+    views::best_at(c, facts, costs, shares, map, state)
 }
 
 // The summed BOUND of a state: at most the cost of every sequence from there to the goal, of any length; none exactly if some map

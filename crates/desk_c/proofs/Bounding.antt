@@ -24,7 +24,7 @@ module _ (t : Tables) (s : List ℕ) where
   bound-behind : (x : BoundAnswer) (w : ℕ) → w ≡ boundWord x → BoundHanded t s w → BoundGiven t s x
   bound-behind x w e h = subst (BoundGiven t s) (bound-told (h .0) x (sym (h .2) ∙ e)) (h .1)
 
-  distance-behind : (m : ℕ) (x : DistanceAnswer) (w : ℕ) → w ≡ distanceWord x → DistanceHanded t m s w → DistanceGiven t m s x
+  pub distance-behind : (m : ℕ) (x : DistanceAnswer) (w : ℕ) → w ≡ distanceWord x → DistanceHanded t m s w → DistanceGiven t m s x
   distance-behind m x w e h = subst (DistanceGiven t m s) (distance-told (h .0) x (sym (h .2) ∙ e)) (h .1)
 
   -- every sequence of any length that passes from the state costs at least the bound

@@ -5,5 +5,6 @@ pub mod Unique
 pub mod Own
 pub mod Reading
 pub mod Bounding
+pub mod Following
 pub mod Watched
 pub mod Writing

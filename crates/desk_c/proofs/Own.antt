@@ -20,7 +20,7 @@ use Rattle.desk.proofs.Own as desk
 use Rattle.words.specs.Words.{foundWord, judgedWord, cheaperWord, openingWord}
 use Rattle.lent_runs.specs.Lent.{runIn}
 use Rattle.lent_runs.specs.Left.{unlessShort, beginHanded, offerHanded}
-use Rattle.desk_c.specs.Handing.{countsRow, factsBeside, rowTables, writeTold, writeHanded, DistancesHanded, DistanceHanded, BoundHanded}
+use Rattle.desk_c.specs.Handing.{countsRow, factsBeside, rowTables, writeTold, writeHanded, DistancesHanded, DistanceHanded, BestHanded, BoundHanded}
 
 -- of a lent row of counts the first places are read, as many as it needs, and whether it has them: such rows lend the same task
 pub row-own : (row other facts costs shares : List ℕ) → ltb (length row) countsRow ≡ ltb (length other) countsRow
@@ -41,8 +41,9 @@ module _ (t u : Tables) (O : OwnSame t u) where
   pub write-own : (buffer : List ℕ) → writeHanded t buffer ≡ writeHanded u buffer
   write-own buffer = ap writeTold (desk.write-own t u O buffer)
 
-  pub distances-own : (map : ℕ) (out out′ : List ℕ) (w : ℕ) → DistancesHanded t map out w out′ → DistancesHanded u map out w out′
-  distances-own map out out′ w h = (h .0, desk.distances-own t u O map out out′ (h .0) (h .1), h .2)
+  pub distances-own : (map : ℕ) (out best out′ best′ : List ℕ) (w : ℕ) → DistancesHanded t map out best w out′ best′
+      → DistancesHanded u map out best w out′ best′
+  distances-own map out best out′ best′ w h = (h .0, desk.distances-own t u O map out best out′ best′ (h .0) (h .1), h .2)
 
   pub offer-own : (bytes words : List ℕ) (number op : ℕ) → offerHanded t bytes words number op ≡ offerHanded u bytes words number op
   unfolding offerHanded
@@ -52,6 +53,9 @@ module _ (t u : Tables) (O : OwnSame t u) where
   module _ (s z : List ℕ) (S : OwnState (t .counts) s z) where
     pub distance-at-own : (map w : ℕ) → DistanceHanded t map s w → DistanceHanded u map z w
     distance-at-own map w h = (h .0, desk.distance-at-own t u O s z S map (h .0) (h .1), h .2)
+
+    pub best-at-own : (map w : ℕ) → BestHanded t map s w → BestHanded u map z w
+    best-at-own map w h = (h .0, desk.best-at-own t u O s z S map (h .0) (h .1), h .2)
 
     pub bound-own : (w : ℕ) → BoundHanded t s w → BoundHanded u z w
     bound-own w h = (h .0, desk.bound-own t u O s z S (h .0) (h .1), h .2)

@@ -8,33 +8,36 @@ use Rattle.scan.specs.Scan.{tablesFault}
 use Rattle.views.proofs.Promises as views
 use Rattle.sequences.specs.Judging.{judgedOf}
 use Rattle.sequences.specs.Choosing.{cheaperOf, chosenOf}
-use Rattle.words.specs.Words.{foundWord, distancesWord, distanceWord, boundWord, judgedWord, cheaperWord, openingWord}
+use Rattle.words.specs.Words.{foundWord, distancesWord, distanceWord, bestWord, boundWord, judgedWord, cheaperWord, openingWord}
 use Rattle.lent_runs.specs.Left.{RunLeft, beginHanded, offerHanded}
-use Rattle.desk_c.specs.Handing.{ReadLeft, readHanded, WriteLeft, writeHanded, DistancesHanded, DistanceHanded, BoundHanded}
+use Rattle.desk_c.specs.Handing.{ReadLeft, readHanded, WriteLeft, writeHanded, DistancesHanded, DistanceHanded, BestHanded, BoundHanded}
 use Rattle.desk_c.specs.Pieces.{BeginAfter, beginTextHanded, PieceAfter, takePieceHanded, EndAfter, endTextHanded}
 
 pub check-unique : (t : Tables) (w v : ℕ) → w ≡ foundWord (tablesFault t) → v ≡ foundWord (tablesFault t) → w ≡ v
 check-unique t w v p q = p ∙ sym q
 
--- the word and the lent table after `desk_distances`, together
+-- the word and both lent tables after `desk_distances`, together
 pub record Outcome : Type 0 where
   pub word : ℕ
   pub table : List ℕ
+  pub best : List ℕ
 
-pub distances-unique : (t : Tables) (map : ℕ) (out : List ℕ) (x y : Outcome)
-    → DistancesHanded t map out (x .word) (x .table) → DistancesHanded t map out (y .word) (y .table) → x ≡ y
-distances-unique t map out x y p q =
-    let a : views.Outcome = record { answer = p .0; table = x .table } in
-    let b : views.Outcome = record { answer = q .0; table = y .table } in
-    let o : a ≡ b = views.distances-unique t map out a b (p .1) (q .1) in
+pub distances-unique : (t : Tables) (map : ℕ) (out best : List ℕ) (x y : Outcome)
+    → DistancesHanded t map out best (x .word) (x .table) (x .best) → DistancesHanded t map out best (y .word) (y .table) (y .best) → x ≡ y
+distances-unique t map out best x y p q =
+    let a : views.Outcome = record { answer = p .0; table = x .table; best = x .best } in
+    let b : views.Outcome = record { answer = q .0; table = y .table; best = y .best } in
+    let o : a ≡ b = views.distances-unique t map out best a b (p .1) (q .1) in
     let w : x .word ≡ y .word = p .2 ∙ ap (λ (u : views.Outcome). distancesWord (u .answer)) o ∙ sym (q .2) in
-    let f : x .table ≡ y .table = ap (λ (u : views.Outcome). u .table) o in
-    λ i. record { word = w i; table = f i }
+    λ i. record { word = w i; table = o i .table; best = o i .best }
 
 pub distance-at-unique : (t : Tables) (map : ℕ) (state : List ℕ) (w v : ℕ)
     → DistanceHanded t map state w → DistanceHanded t map state v → w ≡ v
 distance-at-unique t map state w v p q =
     p .2 ∙ ap distanceWord (views.distance-at-unique t map state (p .0) (q .0) (p .1) (q .1)) ∙ sym (q .2)
+
+pub best-at-unique : (t : Tables) (map : ℕ) (state : List ℕ) (w v : ℕ) → BestHanded t map state w → BestHanded t map state v → w ≡ v
+best-at-unique t map state w v p q = p .2 ∙ ap bestWord (views.best-at-unique t map state (p .0) (q .0) (p .1) (q .1)) ∙ sym (q .2)
 
 pub bound-unique : (t : Tables) (state : List ℕ) (w v : ℕ) → BoundHanded t state w → BoundHanded t state v → w ≡ v
 bound-unique t state w v p q = p .2 ∙ ap boundWord (views.bound-unique t state (p .0) (q .0) (p .1) (q .1)) ∙ sym (q .2)

@@ -17,9 +17,10 @@ use Rattle.grammar.specs.Grammar.{readText}
 use Rattle.grammar.specs.Writing.{Page, writeText}
 use Rattle.views.specs.declared.DistancesAnswer.{DistancesAnswer}
 use Rattle.views.specs.declared.DistanceAnswer.{DistanceAnswer}
+use Rattle.views.specs.declared.BestAnswer.{BestAnswer}
 use Rattle.views.specs.declared.BoundAnswer.{BoundAnswer}
-use Rattle.views.specs.Entries.{DistancesGiven, DistanceGiven, BoundGiven}
-use Rattle.words.specs.Words.{refusedWord, readingWord, writtenWord, distancesWord, distanceWord, boundWord}
+use Rattle.views.specs.Entries.{DistancesGiven, DistanceGiven, BestGiven, BoundGiven}
+use Rattle.words.specs.Words.{refusedWord, readingWord, writtenWord, distancesWord, distanceWord, bestWord, boundWord}
 
 -- the row of counts: variables, operators, maps, edition, quota; further places aren't read
 abbrev pub countsRow : ℕ
@@ -80,12 +81,15 @@ writeTold p = writeLeft (writtenWord (p .answer)) (p .bytes)
 abbrev pub writeHanded : Tables → List ℕ → WriteLeft
 writeHanded t buffer = writeTold (writeText t buffer)
 
--- DISTANCES, A DISTANCE, THE BOUND: the word of the answer that the desk gives
-abbrev pub DistancesHanded : Tables → ℕ → List ℕ → ℕ → List ℕ → Type 0
-DistancesHanded t map out w out′ = (a : DistancesAnswer) × DistancesGiven t map out a out′ × (w ≡ distancesWord a)
+-- DISTANCES, A DISTANCE, A BEST STEP, THE BOUND: the word of the answer that the desk gives
+abbrev pub DistancesHanded : Tables → ℕ → List ℕ → List ℕ → ℕ → List ℕ → List ℕ → Type 0
+DistancesHanded t map out best w out′ best′ = (a : DistancesAnswer) × DistancesGiven t map out best a out′ best′ × (w ≡ distancesWord a)
 
 abbrev pub DistanceHanded : Tables → ℕ → List ℕ → ℕ → Type 0
 DistanceHanded t map s w = (a : DistanceAnswer) × DistanceGiven t map s a × (w ≡ distanceWord a)
+
+abbrev pub BestHanded : Tables → ℕ → List ℕ → ℕ → Type 0
+BestHanded t map s w = (a : BestAnswer) × BestGiven t map s a × (w ≡ bestWord a)
 
 abbrev pub BoundHanded : Tables → List ℕ → ℕ → Type 0
 BoundHanded t s w = (a : BoundAnswer) × BoundGiven t s a × (w ≡ boundWord a)

@@ -11,7 +11,7 @@ ghost use Rattle.sequences.specs.Choosing.{cheaperOf, chosenOf};
 ghost use Rattle.words.specs.Words.{foundWord, readingWord, judgedWord, cheaperWord, openingWord};
 ghost use Rattle.lent_runs.specs.Left.{runLeft, beginHanded, offerHanded};
 ghost use Rattle.desk_c.specs.Handing.{countsRow, countsIn, countsPut, countsAfter, factsBeside, lentTask};
-ghost use Rattle.desk_c.specs.Handing.{readLeft, readHanded, writeLeft, writeHanded, DistancesHanded, DistanceHanded, BoundHanded};
+ghost use Rattle.desk_c.specs.Handing.{readLeft, readHanded, writeLeft, writeHanded, DistancesHanded, DistanceHanded, BestHanded, BoundHanded};
 ghost use Rattle.lent_texts.specs.Lent.{textWords};
 ghost use Rattle.desk_c.specs.Pieces.{beginAfter, beginTextHanded, pieceAfter, takePieceHanded, endedBy, endAfter, endTextHanded};
 ghost use Rattle.tables.specs.Task.{was, left};
@@ -30,6 +30,7 @@ use sequences::choosing::choice_of;
 use tables::Counts;
 use tables::readers::word_at;
 use words::DONE;
+use words::best_word;
 use words::bound_word;
 use words::cheaper_word;
 use words::distance_word;
@@ -218,7 +219,7 @@ pub extern "C" fn desk_check(counts: &[u32], facts: &[u8], costs: &[u32], shares
     found_word(desk::check(c, f, costs, shares))
 }
 
-// The DISTANCES of a map into a lent table of at least 4,096 places; the word tells the rounds.
+// The DISTANCES and BEST STEPS of a map into two lent tables of at least 4,096 places; the word tells the rounds.
 // `distances-unique`.
 #[no_mangle]
 pub extern "C" fn desk_distances(
@@ -228,12 +229,13 @@ pub extern "C" fn desk_distances(
     shares: &[u32],
     map: u32,
     out: &mut [u32],
+    best: &mut [u8],
 ) -> u64
-    ensures { λ w. ⌜ DistancesHanded (lentTask counts facts costs shares) map (was out) w (left out) ⌝ }
+    ensures { λ w. ⌜ DistancesHanded (lentTask counts facts costs shares) map (was out) (was best) w (left out) (left best) ⌝ }
 {
     let c = counts_in(counts);
     let f = facts_beside(counts, facts);
-    distances_word(desk::distances(c, f, costs, shares, map, out))
+    distances_word(desk::distances(c, f, costs, shares, map, out, best))
 }
 
 // The DISTANCE of a state's image in one map, or none.
@@ -252,6 +254,24 @@ pub extern "C" fn desk_distance_at(
     let c = counts_in(counts);
     let f = facts_beside(counts, facts);
     distance_word(desk::distance_at(c, f, costs, shares, map, state))
+}
+
+// The BEST STEP of a state's image in one map, or none.
+// `best-at-unique`.
+#[no_mangle]
+pub extern "C" fn desk_best_at(
+    counts: &[u32],
+    facts: &[u8],
+    costs: &[u32],
+    shares: &[u32],
+    map: u32,
+    state: &[u8],
+) -> u64
+    ensures { λ w. ⌜ BestHanded (lentTask counts facts costs shares) map (was state) w ⌝ }
+{
+    let c = counts_in(counts);
+    let f = facts_beside(counts, facts);
+    best_word(desk::best_at(c, f, costs, shares, map, state))
 }
 
 // The summed BOUND of a state, or none: exactly if some map says none.

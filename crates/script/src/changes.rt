@@ -1,4 +1,6 @@
-// What a call changed: each copy of an array is compared with what is held, and what has changed is printed and kept.
+// What a call changed: each copy of an array is compared with what is held, and what has changed is printed and kept. Changed places that follow each other
+// stand on one line.
+use crate::held::BEST;
 use crate::held::BUFFER;
 use crate::held::COLUMN;
 use crate::held::COSTS;
@@ -17,7 +19,6 @@ use crate::held::put;
 use crate::held::value;
 use crate::held::wide;
 use crate::lines::Line;
-use crate::lines::say_number;
 
 // The name of an array.
 pub fn named(k: u32) -> Line {
@@ -36,29 +37,40 @@ pub fn named(k: u32) -> Line {
         NOW => line.word(b"now"),
         COLUMN => line.word(b"column"),
         BUFFER => line.word(b"buffer"),
+        BEST => line.word(b"best"),
         MARK => line.word(b"mark"),
         _ => line.word(b"records"),
     }
 }
 
-// A place with its value. The one place of `len` goes without its number.
-pub fn say_place(k: u32, i: usize, x: u32) {
+// The array and a place of it. The one place of `len` goes without its number.
+fn placed(k: u32, i: usize) -> Line {
     if k == LEN {
-        say_number(b"len", x as u64)
+        named(k)
     } else {
-        named(k).number(i as u64).number(x as u64).say()
+        named(k).number(i as u64)
     }
 }
 
-// How many changed places are printed one by one.
+// A place with its value.
+pub fn say_place(k: u32, i: usize, x: u32) {
+    placed(k, i).number(x as u64).say()
+}
+
+// How many changed places are printed with their values.
 const SHOWN: u64 = 64;
+
+// How many values stand on a line at most.
+const ON_A_LINE: u64 = 16;
 
 // What the digest of the further ones is taken by.
 const PRIME: u64 = 1_000_003;
 
-// The changed places of an array: how many they are, and the digest of those that aren't printed.
+// The changed places of an array so far: how many they are, how many values stand on the line that isn't ended (0 if there is none), and the digest of the places
+// that aren't printed.
 pub struct Tally {
     pub seen: u64,
+    pub on_line: u64,
     pub digest: u64,
 }
 
@@ -69,13 +81,17 @@ fn digested(digest: u64, i: u64, x: u32) -> u64 {
 
 impl Tally {
     fn none() -> Tally {
-        Tally { seen: 0, digest: 0 }
+        Tally {
+            seen: 0,
+            on_line: 0,
+            digest: 0,
+        }
     }
 
     // A place of the copy: kept, and printed if it has changed.
     fn kept(self, held: &mut [u32], k: u32, i: usize, x: u32) -> Tally {
         if value(held, k, i) == x {
-            return self;
+            return self.ended();
         }
         put(held, k, i, x);
         self.changed(k, i, x)
@@ -83,17 +99,42 @@ impl Tally {
 
     // One changed place more.
     fn changed(mut self, k: u32, i: usize, x: u32) -> Tally {
-        if self.seen < SHOWN {
-            say_place(k, i, x);
-        } else {
-            self.digest = digested(self.digest, i as u64, x);
+        let seen = self.seen;
+        self.seen = std::num::wrapping_add_u64(seen, 1);
+        if seen < SHOWN {
+            return self.shown(k, i, x);
         }
-        self.seen = std::num::wrapping_add_u64(self.seen, 1);
+        self.digest = digested(self.digest, i as u64, x);
         self
     }
 
-    // The line on the places that weren't printed, if there are any.
-    fn say_more(self, k: u32) {
+    // A changed place that is printed: it begins a line or goes on with one, and ends it if the line is full or the place is the last of them.
+    fn shown(mut self, k: u32, i: usize, x: u32) -> Tally {
+        let n = self.on_line;
+        let line = if n == 0 { placed(k, i) } else { Line::empty() };
+        line.number(x as u64).write();
+        self.on_line = std::num::wrapping_add_u64(n, 1);
+        if ON_A_LINE <= self.on_line {
+            return self.ended();
+        }
+        if SHOWN <= self.seen {
+            return self.ended();
+        }
+        self
+    }
+
+    // No line is left without its end.
+    fn ended(mut self) -> Tally {
+        if 0 < self.on_line {
+            Line::empty().say();
+            self.on_line = 0;
+        }
+        self
+    }
+
+    // After the last place: the end of the line, and the line on the places that weren't printed, if there are any.
+    fn say_rest(self, k: u32) {
+        self.ended();
         if SHOWN < self.seen {
             let line = named(k).word(b" more").number(self.seen - SHOWN);
             line.number(self.digest).say()
@@ -109,7 +150,7 @@ pub fn save_bytes(held: &mut [u32], k: u32, from: &[u8]) {
         tally = tally.kept(held, k, i, wide(from[i]));
         i += 1;
     }
-    tally.say_more(k)
+    tally.say_rest(k)
 }
 
 // Compares a copy of an array of words with what is held: prints what has changed, and keeps it.
@@ -120,5 +161,5 @@ pub fn save_words(held: &mut [u32], k: u32, from: &[u32]) {
         tally = tally.kept(held, k, i, from[i]);
         i += 1;
     }
-    tally.say_more(k)
+    tally.say_rest(k)
 }

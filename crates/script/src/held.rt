@@ -30,22 +30,24 @@ pub const RECORDS: u32 = 13;
 
 pub const BUFFER: u32 = 14;
 
+pub const BEST: u32 = 15;
+
 pub const MARK: u32 = 18;
 
 // The area that a text in pieces is read in. It can be lent with a length, and nothing else: its bytes are nobody's answer.
 pub const AREA: u32 = 17;
 
 // The program's own: the lengths of the lent arrays, the counts, the length of the text, the text so far that came in pieces, and how many
-// bytes of the text were taken so. The script has no arrays 12, 15 and 16, and none above 18.
+// bytes of the text were taken so. The script has no arrays 12 and 16, and none above 18.
 pub const LENT: u32 = 12;
-
-pub const COUNTS: u32 = 15;
 
 pub const TEXT: u32 = 16;
 
 pub const SO_FAR: u32 = 19;
 
 pub const TAKEN: u32 = 20;
+
+pub const COUNTS: u32 = 21;
 
 // How many places the lent arrays have: each more than the largest task or the longest list takes, so that lengths beyond can be tried.
 pub const FACTS_PLACES: usize = 1700;
@@ -55,6 +57,8 @@ pub const COSTS_PLACES: usize = 80;
 pub const SHARES_PLACES: usize = 600;
 
 pub const OUT_PLACES: usize = 4200;
+
+pub const BEST_PLACES: usize = 4200;
 
 pub const STATE_PLACES: usize = 16;
 
@@ -114,7 +118,9 @@ const RECORDS_AT: usize = COLUMN_AT + COLUMNS;
 
 const BUFFER_AT: usize = RECORDS_AT + RECORDS_PLACES;
 
-const LENT_AT: usize = BUFFER_AT + BUFFER_PLACES;
+const BEST_AT: usize = BUFFER_AT + BUFFER_PLACES;
+
+const LENT_AT: usize = BEST_AT + BEST_PLACES;
 
 const COUNTS_AT: usize = LENT_AT + LENT_PLACES;
 
@@ -136,7 +142,7 @@ pub fn of_script(k: u32) -> bool {
     match k {
         LENT => false,
         MARK => true,
-        _ => k <= BUFFER,
+        _ => k <= BEST,
     }
 }
 
@@ -155,6 +161,7 @@ pub fn places(k: u32) -> usize {
         COLUMN => COLUMNS,
         RECORDS => RECORDS_PLACES,
         BUFFER => BUFFER_PLACES,
+        BEST => BEST_PLACES,
         LENT => LENT_PLACES,
         COUNTS => COUNTS_PLACES,
         MARK => ROW_RECORDS,
@@ -181,6 +188,7 @@ fn base(k: u32) -> usize {
         COLUMN => COLUMN_AT,
         RECORDS => RECORDS_AT,
         BUFFER => BUFFER_AT,
+        BEST => BEST_AT,
         LENT => LENT_AT,
         COUNTS => COUNTS_AT,
         TEXT => TEXT_AT,
@@ -195,7 +203,7 @@ fn base(k: u32) -> usize {
 // A place of an array holds a byte. Of a record all but the first does.
 pub fn of_bytes(k: u32, i: usize) -> bool {
     match k {
-        FACTS | STATE | START | NOW | BUFFER | MARK => true,
+        FACTS | STATE | START | NOW | BUFFER | BEST | MARK => true,
         RECORDS => i % RECORD != 0,
         _ => false,
     }
@@ -205,7 +213,7 @@ pub fn of_bytes(k: u32, i: usize) -> bool {
 pub fn most_lent(k: u32) -> usize {
     match k {
         RECORDS => ROW_RECORDS,
-        FACTS | COSTS | SHARES | OUT | STATE | FIRST | SECOND | BUFFER | AREA => places(k),
+        FACTS | COSTS | SHARES | OUT | STATE | FIRST | SECOND | BUFFER | BEST | AREA => places(k),
         _ => 0,
     }
 }

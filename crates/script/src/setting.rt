@@ -2,6 +2,7 @@
 use crate::changes::say_place;
 use crate::commands::Command;
 use crate::held::AREA;
+use crate::held::BEST;
 use crate::held::BUFFER;
 use crate::held::COSTS;
 use crate::held::COUNTS;
@@ -19,7 +20,8 @@ use crate::held::value;
 use crate::lines::Line;
 use tables::Counts;
 
-// What calls are lent before the first line: the room for the largest task, for the distances of a map, for a state, for a text, and for one in pieces.
+// What calls are lent before the first line: the room for the largest task, for the distances and best steps of a map, for a state, for a text, and for one in
+// pieces.
 const FACTS_LENT: u32 = 1624;
 
 const COSTS_LENT: u32 = 64;
@@ -27,6 +29,8 @@ const COSTS_LENT: u32 = 64;
 const SHARES_LENT: u32 = 512;
 
 const OUT_LENT: u32 = 4096;
+
+const BEST_LENT: u32 = 4096;
 
 const STATE_LENT: u32 = 8;
 
@@ -68,6 +72,7 @@ fn lend(held: &mut [u32]) {
     put(held, LENT, COSTS as usize, COSTS_LENT);
     put(held, LENT, SHARES as usize, SHARES_LENT);
     put(held, LENT, OUT as usize, OUT_LENT);
+    put(held, LENT, BEST as usize, BEST_LENT);
     put(held, LENT, STATE as usize, STATE_LENT);
     put(held, LENT, BUFFER as usize, BUFFER_LENT);
     put(held, LENT, AREA as usize, AREA_LENT);

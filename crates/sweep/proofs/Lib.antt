@@ -1,4 +1,5 @@
 pub mod Saids
+pub mod Picking
 pub mod Makes
 pub mod Walking
 pub mod Sweeping

@@ -1,16 +1,17 @@
 -- Laws of what a number of a table says. Assumes nothing.
-use mathlib.Core.Path.{_≡_, refl, sym, ap, ap₂, _∙_}
+use mathlib.Core.Path.{_≡_, refl, sym, ap, _∙_}
 use mathlib.Core.Bool.{Bool, true, false}
 use mathlib.Core.List.{List}
 use Prim.Native.Nat.{ℕ, _+_, _≤_, _<_}
 use native.Mathlib.Decide.{ℕ-discrete}
 use native.Mathlib.Omega.{arith}
-use native.Mathlib.Numerals.{add-one}
+use lib.Dec.{ltb}
 use lib.ListN.{getD}
-use borrow.Author.Tests.{ne-eqb, eq-eqb}
-use Rattle.graph.specs.Cost.{Cost, none, fin, lower, plus}
-use Rattle.graph.specs.Graph.{Next, stop, to, Graph}
-use Rattle.graph.specs.Least.{atGoal, afterStep, best}
+use borrow.Author.Tests.{ne-eqb, eq-eqb, lt-ltb, le-ltb}
+use Rattle.graph.specs.Cost.{none, fin, lower, plus}
+use Rattle.graph.specs.Graph.{Next, stop, to}
+use Rattle.graph.specs.Least.{atGoal, afterStep}
+use Rattle.graph.specs.Noted.{under}
 use Rattle.sweep.specs.Said.{NONE, costIf, said, saidAt}
 use Rattle.sweep.specs.Inside.Sweeps.{mostAddable, Addable}
 
@@ -51,33 +52,32 @@ pub start-other : (g : Bool) → g ≡ false → said NONE ≡ atGoal g
 unfolding said
 start-other g e = rw e
 
--- ---- the lower of two
+-- ---- a price and what it costs beyond
 
-lower-none : (v : Cost) → lower v none ≡ v
-lower-none none = refl
-lower-none (fin a) = refl
+pub price-none : (price beyond : ℕ) → beyond ≡ NONE → said NONE ≡ plus price (said beyond)
+price-none price beyond e = said-none NONE refl ∙ ap (plus price) (sym (said-none beyond e))
 
-pub relax-none : (best price beyond : ℕ) → beyond ≡ NONE → said best ≡ lower (said best) (plus price (said beyond))
-relax-none best price beyond e = rw (said-none beyond e) (sym (lower-none (said best)))
+pub price-added : (price beyond : ℕ) → beyond < NONE → price + beyond < NONE → said (price + beyond) ≡ plus price (said beyond)
+price-added price beyond l s = said-lt (price + beyond) s ∙ ap (plus price) (sym (said-lt beyond l))
 
-lower-fin : (best x : ℕ) → best ≤ NONE → x ≤ best → lower (said best) (fin x) ≡ fin x
-lower-fin best x k l = go (ℕ-discrete best NONE)
-  where
-    go : Dec (best ≡ NONE) → lower (said best) (fin x) ≡ fin x
-    go (yes e) = rw (said-none best e)
-    go (no d) = rw (said-fin best d) (ap fin (omega arith))
+-- ---- the order of numbers is that of what they say
 
-lower-keep : (best x : ℕ) → best ≤ x → x < NONE → lower (said best) (fin x) ≡ said best
-lower-keep best x l k = rw (said-lt best (omega arith)) (ap fin (omega arith))
+module _ (x y : ℕ) (most : y ≤ NONE) where
+  pub lower-said : x ≤ y → (lower (said y) (said x) ≡ said x) × (lower (said x) (said y) ≡ said x)
+  lower-said l = go (ℕ-discrete x NONE) (ℕ-discrete y NONE)
+    where
+      go : Dec (x ≡ NONE) → Dec (y ≡ NONE) → (lower (said y) (said x) ≡ said x) × (lower (said x) (said y) ≡ said x)
+      go (yes i) j = let k : y ≡ NONE = omega arith in rw (said-none x i, said-none y k) (refl, refl)
+      go (no i) (yes j) = rw (said-fin x i, said-none y j) (refl, refl)
+      go (no i) (no j) = rw (said-fin x i, said-fin y j) (ap fin (omega arith), ap fin (omega arith))
 
-pub relax-take : (best price beyond : ℕ) → best ≤ NONE → beyond < NONE → price + beyond < NONE → price + beyond ≤ best
-    → said (price + beyond) ≡ lower (said best) (plus price (said beyond))
-relax-take best price beyond k l s h =
-    rw (said-lt beyond l, said-lt (price + beyond) s) (sym (lower-fin best (price + beyond) k h))
-
-pub relax-keep : (best price beyond : ℕ) → beyond < NONE → price + beyond < NONE → best ≤ price + beyond
-    → said best ≡ lower (said best) (plus price (said beyond))
-relax-keep best price beyond l s h = rw (said-lt beyond l) (sym (lower-keep best (price + beyond) h s))
+  pub under-said : x ≤ NONE → (b : Bool) → ltb x y ≡ b → under (said x) (said y) ≡ b
+  under-said k b e = go (ℕ-discrete x NONE) (ℕ-discrete y NONE)
+    where
+      go : Dec (x ≡ NONE) → Dec (y ≡ NONE) → under (said x) (said y) ≡ b
+      go (yes i) j = rw (said-none x i) (sym (le-ltb x y (omega arith)) ∙ e)
+      go (no i) (yes j) = rw (said-fin x i, said-none y j) (sym (lt-ltb x y (omega arith)) ∙ e)
+      go (no i) (no j) = rw (said-fin x i, said-fin y j) e
 
 -- ---- one operator
 
@@ -91,9 +91,3 @@ beyond-within n old stop v h i e l =
 beyond-within n old (to b) v h i e l =
     let q : v ≡ getD old b 0 = said-inj v (getD old b 0) e in
     omega (arith, h b (i b refl) (omega arith))
-
--- one operator more
-pub cell-more : (G : Graph) (old : List ℕ) {a o k : ℕ} {s : Next} (acc v r : ℕ) → said acc ≡ best G (saidAt old) a o → s ≡ G .succ o a → k ≡ G .cost o
-    → said v ≡ afterStep (saidAt old) s → said r ≡ lower (said acc) (plus k (said v)) → said r ≡ best G (saidAt old) a (o + 1)
-cell-more G old acc v r h₁ h₂ h₃ h₄ h₅ =
-    rw add-one (h₅ ∙ ap₂ (λ x y. lower x y) h₁ (ap₂ plus h₃ (h₄ ∙ ap (afterStep (saidAt old)) h₂)))

@@ -1,17 +1,19 @@
--- Laws of a sweep: a place more, which is as in the table before or differs. Assumes nothing.
+-- Laws of a sweep: a place more, which is as in the table before or differs, and what is noted of it. Assumes nothing.
 use mathlib.Core.Path.{_≡_, sym, _∙_}
 use mathlib.Core.Bool.{Bool, true, false, true≢false, false≢true}
 use mathlib.Core.List.{List}
 use Prim.Native.Nat.{ℕ, _+_, _<_, _≤_}
-use native.Mathlib.Nat.{not-suc-le-zero}
+use native.Mathlib.Nat.{not-suc-le-zero, le-refl}
 use native.Mathlib.Omega.{arith}
 use borrow.Author.Count.{below-more}
 use lib.ListN.{length, getD, set}
 use lib.Seq.{getD-set-same, getD-set-other}
 use Rattle.graph.specs.Graph.{Graph}
 use Rattle.graph.specs.Least.{best}
-use Rattle.sweep.specs.Said.{said, saidAt}
-use Rattle.sweep.specs.Inside.Sweeps.{Swept}
+use Rattle.graph.specs.Noted.{under, choose}
+use Rattle.sweep.specs.declared.rounds.Pick.{Pick}
+use Rattle.sweep.specs.Said.{said, saidAt, advised, advisedAt}
+use Rattle.sweep.specs.Inside.Sweeps.{Picks, Swept, Noted}
 use Rattle.sweep.proofs.Makes.{made-none, made-more, made-end}
 
 module _ {G : Graph} {old new₀ : List ℕ} where
@@ -50,3 +52,11 @@ module _ {G : Graph} {old new₀ : List ℕ} where
             same = λ f. absurd (true≢false f);
             differs = λ f h. d (sym here ∙ h k (omega arith));
           }
+
+-- what is noted of a place more
+pub noted-more : (G : Graph) (old : List ℕ) {b₀ b : List ℕ} {k : ℕ} (before r : ℕ) (p : Pick) → Noted k G old b₀ b → k < length b
+    → Picks G (saidAt old) k (G .ops) p → before ≡ getD old k 0
+    → advised r ≡ choose (under (said (p .cost)) (said before)) (advised (p .op)) (advisedAt b k)
+    → Noted (k + 1) G old b₀ (set b k r)
+noted-more G old {k = k} before r p N l P e h =
+    made-more N l (h ∙ (λ i. choose (under (P .cost i) (said (e i))) (P .op i) (advised (N .kept k (le-refl k) i))))

@@ -1,4 +1,4 @@
--- The task of a map's classes spells the map's view: what is walked there are the view's least costs and rounds. Assumes nothing.
+-- The task of a map's classes spells the map's view: what is walked there are the view's least costs, best steps and rounds. Assumes nothing.
 use mathlib.Core.Path.{_≡_, refl, ap, _∙_}
 use mathlib.Core.List.{List, []}
 use Prim.Native.Nat.{ℕ, _-_, _≤_, _<_, zero-le}
@@ -8,8 +8,8 @@ use Rattle.meaning.specs.Limits.{mostOps}
 use Rattle.meaning.specs.Sas.{IsState}
 use Rattle.meaning.specs.Views.{seen, Onto, classTask, viewGraph}
 use Rattle.meaning.specs.Split.{countOf, view, Valid}
-use Rattle.meaning.specs.Bound.{away}
-use Rattle.meaning.proofs.Induced.{seen-below, α-below}
+use Rattle.graph.proofs.Theorems.{rounds-note-best}
+use Rattle.meaning.proofs.Induced.{seen-below, α-below, view-closed}
 use Rattle.meaning.proofs.Distances.{round-distance}
 use Rattle.meaning.proofs.Sums.{sum-zero}
 use Rattle.meaning.proofs.Bounds.{view-onto}
@@ -17,10 +17,11 @@ use Rattle.meaning.proofs.Unread.{size-alike}
 use Rattle.tables.specs.declared.Counts.{Counts}
 use Rattle.tables.specs.Layout.{Tables, rowAt, domAt, goalAt, preAt, effAt, goalRow, preRow, effRow, classAt, shareAt}
 use Rattle.tables.specs.Task.{sasOf, taskOf, tables, stateOf}
-use Rattle.sweep.specs.Said.{said, saidAt}
+use Rattle.sweep.specs.declared.rounds.Pick.{Pick}
+use Rattle.sweep.specs.Said.{said, saidAt, advised, advisedAt}
 use Rattle.sweep.specs.Inside.Walks.{spaceOf, Walkable}
 use Rattle.sweep.specs.Inside.Sweeps.{PricesSmall, Counted}
-use Rattle.sweep.specs.Inside.Classes.{seenRows, unpriced, viewOf, viewGraphOf, SharesSmall, imageOf, Classed}
+use Rattle.sweep.specs.Inside.Classes.{seenRows, unpriced, viewOf, viewGraphOf, SharesSmall, imageOf, AtImage, Classed}
 use Rattle.sweep.proofs.Classing.{counts-positive}
 use Rattle.sweep.proofs.Alike.{Alike, spaces-alike, counted-alike}
 
@@ -75,7 +76,7 @@ pub shares-priced : (c : Counts) (shares : List ℕ) (m : ℕ) (prices : List �
     → SharesSmall c shares m → PricesSmall c prices
 shares-priced c shares m prices few row small o l = rw (row o (omega arith)) (small o l)
 
--- what the counted table says of a state's image is its distance in the map
+-- what the counted tables say of a state's image are its distance and its best step in the map
 module _ (c : Counts) (facts shares : List ℕ) (m : ℕ) (ok : Valid (unpriced c facts)) (lm : m < c .maps) where
   shared-onto : Onto (unpriced c facts .sas) (view (taskOf (tables c facts [] shares)) m)
   shared-onto = let O = view-onto (unpriced c facts) ok m lm in record { inside = O .inside; none-missing = O .none-missing }
@@ -83,15 +84,21 @@ module _ (c : Counts) (facts shares : List ℕ) (m : ℕ) (ok : Valid (unpriced 
   pub image-below : (s : List ℕ) → IsState (unpriced c facts .sas) (stateOf s) → imageOf c facts m (stateOf s) < viewGraphOf c facts m [] .states
   image-below s h = α-below (unpriced c facts .sas) (view (taskOf (tables c facts [] shares)) m) (ok .proper) shared-onto (stateOf s) h
 
-  pub away-said : (prices s : List ℕ) {t₀ t : List ℕ} {r a : ℕ} → ((o : ℕ) → o < c .ops → getD prices o 0 ≡ shareAt shares m o)
-      → Counted (viewGraphOf c facts m prices) t₀ t r → IsState (unpriced c facts .sas) (stateOf s) → a ≡ imageOf c facts m (stateOf s)
-      → said (getD t a 0) ≡ away (taskOf (tables c facts [] shares)) (stateOf s) m
-  away-said prices s {t₀ = t₀} {t = t} {r = r} row C h e =
+  pub at-image : (prices s : List ℕ) (p : Pick) {t₀ t b₀ b : List ℕ} {r a : ℕ} → ((o : ℕ) → o < c .ops → getD prices o 0 ≡ shareAt shares m o)
+      → Counted (viewGraphOf c facts m prices) t₀ t b₀ b r → IsState (unpriced c facts .sas) (stateOf s) → a ≡ imageOf c facts m (stateOf s)
+      → p .cost ≡ getD t a 0 → p .op ≡ getD b a 0
+      → AtImage (taskOf (tables c facts [] shares)) (stateOf s) m p
+  at-image prices s p {t₀ = t₀} {t = t} {b₀ = b₀} {b = b} {r = r} row C h e cost op =
       let T = taskOf (tables c facts [] shares) in
-      let D : Counted (viewGraph (T .sas) (view T m)) t₀ t r = counted-alike (priced-alike c facts [] shares m prices row) C in
+      let S = unpriced c facts .sas in
+      let G = viewGraph (T .sas) (view T m) in
+      let D : Counted G t₀ t b₀ b r = counted-alike (priced-alike c facts [] shares m prices row) C in
       let i = imageOf c facts m (stateOf s) in
-      ap (saidAt t) e ∙ D .table .made i (image-below s h)
-      ∙ round-distance (unpriced c facts .sas) (view T m) (ok .proper) shared-onto r (D .rounds) i (image-below s h)
+      let l = image-below s h in
+      record {
+        cost = ap said cost ∙ ap (saidAt t) e ∙ D .table .made i l ∙ round-distance S (view T m) (ok .proper) shared-onto r (D .rounds) i l;
+        op = rw (ap advised op ∙ ap (advisedAt b) e ∙ D .notes .made i l) (rounds-note-best G (view-closed S (view T m) (ok .proper) shared-onto) r (D .rounds) i l);
+      }
 
 -- an accepted task is accepted whatever it costs
 pub valid-unpriced : (t : Tables) → Valid (taskOf t) → Valid (unpriced (t .counts) (t .facts))

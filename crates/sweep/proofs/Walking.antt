@@ -132,10 +132,10 @@ module _ (c : Counts) (facts prices : List ℕ) where
     walkable-some = size-pos (domAt facts) (c .vars) (W .values)
 
     -- a price more than what a table says of where the step leads still fits
-    pub relax-fits : (old s : List ℕ) {a o k v : ℕ} {next : Next} → PricesSmall c prices → a < size (domAt facts) (c .vars) → o < c .ops
+    pub price-fits : (old s : List ℕ) {a o k v : ℕ} {next : Next} → PricesSmall c prices → a < size (domAt facts) (c .vars) → o < c .ops
         → Addable (size (domAt facts) (c .vars)) old → HasDigits (c .vars) facts a s → next ≡ nextFrom c facts s o → k ≡ getD prices o 0
         → said v ≡ afterStep (saidAt old) next → v < NONE → k + v < NONE
-    relax-fits old s {a = a} {o = o} {v = v} {next = next} P la lo h sp n e d l =
+    price-fits old s {a = a} {o = o} {v = v} {next = next} P la lo h sp n e d l =
         let q : next ≡ spaceOf c facts prices .succ o a = n ∙ step-is a o s sp in
         omega
         (arith, P o lo, beyond-within (size (domAt facts) (c .vars)) old next v h (λ b g. walkable-closed o a b lo la (sym q ∙ g)) d l)

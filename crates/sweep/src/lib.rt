@@ -1,4 +1,4 @@
-// The distances of a map at any row of prices: the task of its classes, one step among numbered states, and the rounds of the sweep.
+// The distances and best steps of a map at any row of prices: the task of its classes, one step among numbered states, and the rounds of the sweep.
 pub mod classes;
 pub mod maps;
 pub mod rounds;

@@ -10,6 +10,7 @@ use script::lines::say;
 use script::lines::say_number;
 use sequences::choosing::Cheaper;
 use sequences::judging::Judged;
+use views::BestAnswer;
 use views::BoundAnswer;
 use views::DistanceAnswer;
 use views::DistancesAnswer;
@@ -52,6 +53,14 @@ pub fn say_distance(answer: DistanceAnswer) {
         DistanceAnswer::Of(d) => say_number(b"of", d as u64),
         DistanceAnswer::Nowhere => say(b"none"),
         DistanceAnswer::Refused(r) => say_refused(r),
+    }
+}
+
+pub fn say_best(answer: BestAnswer) {
+    match answer {
+        BestAnswer::Take(o) => say_number(b"take", o as u64),
+        BestAnswer::Halt => say(b"none"),
+        BestAnswer::Refused(r) => say_refused(r),
     }
 }
 

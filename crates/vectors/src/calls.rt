@@ -1,6 +1,7 @@
 // The calls of the desk's entries: lent copies of what is held, the answer printed, and what has changed printed and kept.
 use crate::answers::list_of;
 use crate::answers::say_begun;
+use crate::answers::say_best;
 use crate::answers::say_bound;
 use crate::answers::say_cheaper;
 use crate::answers::say_distance;
@@ -18,6 +19,7 @@ use cut_texts::from_lines::begin_held;
 use cut_texts::from_lines::take_held;
 use cut_texts::read_by;
 use desk::begin;
+use desk::best_at;
 use desk::bound;
 use desk::cheaper;
 use desk::check;
@@ -32,6 +34,8 @@ use meaning::OpNo;
 use script::changes::save_bytes;
 use script::changes::save_words;
 use script::commands::Command;
+use script::held::BEST;
+use script::held::BEST_PLACES;
 use script::held::BUFFER;
 use script::held::BUFFER_PLACES;
 use script::held::COSTS;
@@ -129,14 +133,18 @@ fn call_write(held: &mut [u32], facts: &[u8], costs: &[u32], shares: &[u32]) {
     save_bytes(held, BUFFER, &buffer);
 }
 
-// `D`: the distances of a map.
+// `D`: the distances and best steps of a map.
 fn call_distances(held: &mut [u32], facts: &[u8], costs: &[u32], shares: &[u32], map: u32) {
     let mut out = [0u32; OUT_PLACES];
+    let mut best = [0u8; BEST_PLACES];
     load_words(held, OUT, &mut out);
+    load_bytes(held, BEST, &mut best);
     let n = least(lent(held, OUT), OUT_PLACES);
+    let b = least(lent(held, BEST), BEST_PLACES);
     let c = counts_held(held);
-    say_distances(distances(c, facts, costs, shares, map, &mut out[..n]));
+    say_distances(distances(c, facts, costs, shares, map, &mut out[..n], &mut best[..b]));
     save_words(held, OUT, &out);
+    save_bytes(held, BEST, &best);
 }
 
 // `M`: the bound at the run's state now; the run isn't judged.
@@ -205,6 +213,7 @@ fn call_over(
         b'K' => say_found(check(c, facts, costs, shares)),
         b'D' => call_distances(held, facts, costs, shares, a),
         b'A' => say_distance(distance_at(c, facts, costs, shares, a, state)),
+        b'N' => say_best(best_at(c, facts, costs, shares, a, state)),
         b'B' => say_bound(bound(c, facts, costs, shares, state)),
         b'M' => call_bound_now(held, facts, costs, shares),
         b'G' => call_begin(held, facts, costs, shares, state),

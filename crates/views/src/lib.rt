@@ -1,11 +1,11 @@
-// Goal distances in simplified views, and the summed bound of a state.
+// Goal distances and best steps in simplified views, and the summed bound of a state.
 pub mod sums;
 
 ghost use mathlib.Core.Path.{_≡_};
 ghost use Rattle.tables.specs.Task.{lent, was, left};
-ghost use Rattle.sweep.specs.Said.{said};
+ghost use Rattle.sweep.specs.Said.{said, advised};
 ghost use Rattle.views.specs.Inside.Sums.{sumSaid};
-ghost use Rattle.views.specs.Entries.{askedFault, distanceFault, distanceSaid, boundSaid, DistancesGiven, DistanceGiven, BoundGiven};
+ghost use Rattle.views.specs.Entries.{askedFault, distanceFault, distanceSaid, bestSaid, boundSaid, DistancesGiven, DistanceGiven, BestGiven, BoundGiven};
 use crate::sums::Sum;
 use crate::sums::sum_of;
 use meaning::limits::STATES_ROOM;
@@ -14,10 +14,11 @@ use scan::Found;
 use scan::input_fault;
 use scan::state_fault;
 use scan::tables_fault;
-use sweep::maps::away_of;
+use sweep::maps::at_image;
 use sweep::maps::share_row;
 use sweep::maps::view_rounds;
 use sweep::rounds::NO_COST;
+use sweep::rounds::NO_OP;
 use tables::Counts;
 
 // The answer of `distances`: the count of rounds, or why not.
@@ -30,6 +31,13 @@ pub enum DistancesAnswer {
 pub enum DistanceAnswer {
     Of(u32),
     Nowhere,
+    Refused(Refusal),
+}
+
+// The answer of `best_at`: the operator to take, none, or why not.
+pub enum BestAnswer {
+    Take(u32),
+    Halt,
     Refused(Refusal),
 }
 
@@ -55,7 +63,7 @@ fn asked_fault(c: Counts, facts: &[u8], costs: &[u32], shares: &[u32], map: u32)
     }
 }
 
-// The first fault where a state's distance in a map is asked for.
+// The first fault where a state's distance or best step in a map is asked for.
 fn distance_fault(
     c: Counts,
     facts: &[u8],
@@ -84,6 +92,17 @@ fn as_distance(distance: u32) -> DistanceAnswer
     }
 }
 
+// A table's best step as an answer.
+fn as_best(op: u8) -> BestAnswer
+    ensures { λ r. ⌜ r ≡ bestSaid (advised op) ⌝ }
+{
+    if op == NO_OP {
+        BestAnswer::Halt
+    } else {
+        BestAnswer::Take(op as u32)
+    }
+}
+
 // A sum as an answer.
 fn as_bound(sum: Sum) -> BoundAnswer
     ensures { λ r. ⌜ r ≡ boundSaid (sumSaid sum) ⌝ }
@@ -95,7 +114,7 @@ fn as_bound(sum: Sum) -> BoundAnswer
     }
 }
 
-// The distances of a map at all its abstract states, with the count of rounds; or why not.
+// The distances and best steps of a map at all its abstract states, with the count of rounds; or why not.
 pub fn distances(
     c: Counts,
     facts: &[u8],
@@ -103,10 +122,14 @@ pub fn distances(
     shares: &[u32],
     map: u32,
     out: &mut [u32],
+    best: &mut [u8],
 ) -> DistancesAnswer
-    ensures { λ r. ⌜ DistancesGiven (lent c facts costs shares) map (was out) r (left out) ⌝ }
+    ensures { λ r. ⌜ DistancesGiven (lent c facts costs shares) map (was out) (was best) r (left out) (left best) ⌝ }
 {
     if out.len() < STATES_ROOM {
+        return DistancesAnswer::Refused(Refusal::TableTooShort);
+    }
+    if best.len() < STATES_ROOM {
         return DistancesAnswer::Refused(Refusal::TableTooShort);
     }
     let found = asked_fault(c, facts, costs, shares, map);
@@ -114,7 +137,7 @@ pub fn distances(
         Found::Fault(f) => DistancesAnswer::Refused(f),
         Found::Clean => {
             let prices = share_row(shares, map);
-            DistancesAnswer::Rounds(view_rounds(c, facts, &prices, map, out))
+            DistancesAnswer::Rounds(view_rounds(c, facts, &prices, map, out, best))
         }
     }
 }
@@ -133,7 +156,31 @@ pub fn distance_at(
     let found = distance_fault(c, facts, costs, shares, map, s);
     match found {
         Found::Fault(f) => DistanceAnswer::Refused(f),
-        Found::Clean => as_distance(away_of(c, facts, shares, map, s)),
+        Found::Clean => {
+            let p = at_image(c, facts, shares, map, s);
+            as_distance(p.cost)
+        }
+    }
+}
+
+// The best step of a state's image in a map, or none; or why not.
+pub fn best_at(
+    c: Counts,
+    facts: &[u8],
+    costs: &[u32],
+    shares: &[u32],
+    map: u32,
+    s: &[u8],
+) -> BestAnswer
+    ensures { λ r. ⌜ BestGiven (lent c facts costs shares) map (was s) r ⌝ }
+{
+    let found = distance_fault(c, facts, costs, shares, map, s);
+    match found {
+        Found::Fault(f) => BestAnswer::Refused(f),
+        Found::Clean => {
+            let p = at_image(c, facts, shares, map, s);
+            as_best(p.op)
+        }
     }
 }
 

@@ -9,7 +9,7 @@ ghost use Rattle.tables.specs.Task.{taskOf, tables, stateOf, was};
 ghost use Rattle.sweep.specs.Said.{NONE, said};
 ghost use Rattle.sweep.specs.Inside.Classes.{unpriced, SharesSmall};
 ghost use Rattle.views.specs.Inside.Sums.{sumSaid, mostTotal};
-use sweep::maps::away_of;
+use sweep::maps::at_image;
 use sweep::rounds::NO_COST;
 use tables::Counts;
 
@@ -49,7 +49,8 @@ pub fn sum_of(c: Counts, facts: &[u8], shares: &[u32], s: &[u8]) -> Sum
     };
     let mut m = 0u32;
     while m < maps && sum.all {
-        sum = with_distance(sum, away_of(c, facts, shares, m, s));
+        let p = at_image(c, facts, shares, m, s);
+        sum = with_distance(sum, p.cost);
         m += 1;
     }
     sum

@@ -18,6 +18,8 @@ use Rattle.views.specs.declared.DistancesAnswer.{DistancesAnswer}
 use Rattle.views.specs.declared.DistancesAnswer.the-variants as distances
 use Rattle.views.specs.declared.DistanceAnswer.{DistanceAnswer}
 use Rattle.views.specs.declared.DistanceAnswer.the-variants as distance
+use Rattle.views.specs.declared.BestAnswer.{BestAnswer}
+use Rattle.views.specs.declared.BestAnswer.the-variants as best
 use Rattle.views.specs.declared.BoundAnswer.{BoundAnswer}
 use Rattle.views.specs.declared.BoundAnswer.the-variants as bound
 use Rattle.sequences.specs.declared.judging.Judged.{Judged}
@@ -29,7 +31,7 @@ use Rattle.sequences.specs.declared.choosing.Choice.the-variants.{FirstPart, Se
 use Rattle.sequences.specs.Choosing.{listOf, stepsOf}
 use Rattle.ledger.specs.declared.Answer.{Answer}
 use Rattle.ledger.specs.declared.Answer.the-variants as ledger
-use Rattle.words.specs.Words.{word, done, first, second, refusedWord, foundWord, writtenWord, distancesWord, distanceWord, boundWord, judgedWord, cheaperWord, openingWord, answerWord}
+use Rattle.words.specs.Words.{word, done, first, second, refusedWord, foundWord, writtenWord, distancesWord, distanceWord, bestWord, boundWord, judgedWord, cheaperWord, openingWord, answerWord}
 
 -- ---- a word
 
@@ -163,6 +165,18 @@ distance-back (distance.Refused r) = refused-back distance.Refused away r
 
 pub distance-told : (a b : DistanceAnswer) → distanceWord a ≡ distanceWord b → a ≡ b
 distance-told = told distanceWord (readBack distance.Refused away) distance-back
+
+-- an operator to take, or none
+abbrev pub step : ℕ → ℕ → BestAnswer
+step k x = cond (eqb k done) (best.Take x) best.Halt
+
+pub best-back : (a : BestAnswer) → readBack best.Refused step (bestWord a) ≡ a
+best-back (best.Take o) = word-back best.Refused step done o (omega arith)
+best-back best.Halt = refl
+best-back (best.Refused r) = refused-back best.Refused step r
+
+pub best-told : (a b : BestAnswer) → bestWord a ≡ bestWord b → a ≡ b
+best-told = told bestWord (readBack best.Refused step) best-back
 
 -- a sum, or none
 abbrev pub sum : ℕ → ℕ → BoundAnswer

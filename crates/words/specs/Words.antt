@@ -12,6 +12,8 @@ use Rattle.views.specs.declared.DistancesAnswer.{DistancesAnswer}
 use Rattle.views.specs.declared.DistancesAnswer.the-variants as distances
 use Rattle.views.specs.declared.DistanceAnswer.{DistanceAnswer}
 use Rattle.views.specs.declared.DistanceAnswer.the-variants as distance
+use Rattle.views.specs.declared.BestAnswer.{BestAnswer}
+use Rattle.views.specs.declared.BestAnswer.the-variants as best
 use Rattle.views.specs.declared.BoundAnswer.{BoundAnswer}
 use Rattle.views.specs.declared.BoundAnswer.the-variants as bound
 use Rattle.sequences.specs.declared.judging.Judged.{Judged}
@@ -75,6 +77,12 @@ abbrev pub distanceWord : DistanceAnswer → ℕ
 distanceWord (distance.Of d) = word done d
 distanceWord distance.Nowhere = word nowhere 0
 distanceWord (distance.Refused r) = refusedWord r
+
+-- an operator to take, or none
+abbrev pub bestWord : BestAnswer → ℕ
+bestWord (best.Take o) = word done o
+bestWord best.Halt = word nowhere 0
+bestWord (best.Refused r) = refusedWord r
 
 -- a sum, or none
 abbrev pub boundWord : BoundAnswer → ℕ

@@ -3,7 +3,7 @@ ghost use mathlib.Core.Path.{_≡_};
 ghost use Prim.Native.Nat.{_≤_};
 ghost use Rattle.sequences.specs.Choosing.{stepsOf};
 ghost use Rattle.meaning.specs.Limits.{mostSteps};
-ghost use Rattle.words.specs.Words.{word, refusedWord, foundWord, writtenWord, distancesWord, distanceWord, boundWord, SumFits, judgedWord, cheaperWord, openingWord, answerWord};
+ghost use Rattle.words.specs.Words.{word, refusedWord, foundWord, writtenWord, distancesWord, distanceWord, bestWord, boundWord, SumFits, judgedWord, cheaperWord, openingWord, answerWord};
 use grammar::Written;
 use ledger::Answer;
 use refusals::Refusal;
@@ -13,6 +13,7 @@ use scan::Found;
 use sequences::choosing::Cheaper;
 use sequences::choosing::Choice;
 use sequences::judging::Judged;
+use views::BestAnswer;
 use views::BoundAnswer;
 use views::DistanceAnswer;
 use views::DistancesAnswer;
@@ -82,6 +83,17 @@ pub fn distance_word(a: DistanceAnswer) -> u64
         DistanceAnswer::Of(d) => word(DONE, d),
         DistanceAnswer::Nowhere => word(NOWHERE, 0),
         DistanceAnswer::Refused(r) => refused_word(r),
+    }
+}
+
+// An operator to take, or none.
+pub fn best_word(a: BestAnswer) -> u64
+    ensures { λ w. ⌜ w ≡ bestWord a ⌝ }
+{
+    match a {
+        BestAnswer::Take(o) => word(DONE, o),
+        BestAnswer::Halt => word(NOWHERE, 0),
+        BestAnswer::Refused(r) => refused_word(r),
     }
 }
 

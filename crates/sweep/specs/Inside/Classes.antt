@@ -4,13 +4,17 @@ use mathlib.Core.List.{List, []}
 use Prim.Native.Nat.{ℕ, _-_, _%_, _≤_, _<_}
 use lib.ListN.{getD}
 use Rattle.graph.specs.Graph.{Graph}
+use Rattle.graph.specs.Best.{IsBestStep}
 use Rattle.meaning.specs.Limits.{mostVars, mostCost}
 use Rattle.meaning.specs.Sas.{State}
 use Rattle.meaning.specs.Views.{View, α, seen, viewGraph}
-use Rattle.meaning.specs.Split.{Task, countOf}
+use Rattle.meaning.specs.Split.{Task, countOf, view}
+use Rattle.meaning.specs.Bound.{away}
 use Rattle.tables.specs.declared.Counts.{Counts}
 use Rattle.tables.specs.Layout.{rowAt, domAt, classAt, costAt, shareAt}
 use Rattle.tables.specs.Task.{sasOf, taskOf, tables}
+use Rattle.sweep.specs.declared.rounds.Pick.{Pick}
+use Rattle.sweep.specs.Said.{said, advised}
 
 -- the task of the tables, whatever it costs
 abbrev pub unpriced : Counts → List ℕ → Task
@@ -31,6 +35,11 @@ SharesSmall c shares m = (o : ℕ) → o < c .ops → shareAt shares m o ≤ mos
 -- the number of a state's image in map m
 abbrev pub imageOf : Counts → List ℕ → ℕ → State → ℕ
 imageOf c facts m s = α (sasOf (tables c facts [] [])) (viewOf facts m []) s
+
+-- what map m has at a state's image: its distance, and its best step
+pub record AtImage (T : Task) (s : State) (m : ℕ) (r : Pick) : Type 0 where
+  pub cost : said (r .cost) ≡ away T s m
+  pub op : IsBestStep (viewGraph (T .sas) (view T m)) (α (T .sas) (view T m) s) (advised (r .op))
 
 -- the rows before those of the classes: the numbers of values, the initial state, the goal, and 64 rows of preconditions and of effects
 abbrev pub seenRows : ℕ

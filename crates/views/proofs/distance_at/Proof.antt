@@ -4,9 +4,8 @@ use mathlib.Core.Path.{_≡_, sym, _∙_}
 use Rattle.scan.specs.declared.Found.the-variants.{Clean}
 use Rattle.tables.specs.Layout.{Tables}
 use Rattle.tables.specs.Task.{tables}
-use Rattle.sweep.proofs.Viewing.{valid-unpriced}
 use Rattle.views.specs.Entries.{distanceFault}
-use Rattle.views.proofs.Judging.{distance-clean, given-distance-refused, given-distance}
+use Rattle.views.proofs.Judging.{image-asked, given-distance-refused, given-distance}
 use Rattle.views.proofs.distance_at.Statement.{statement}
 use Rattle.views.proofs.distance_at.Tie as tie
 
@@ -20,11 +19,8 @@ start c = c .before .before .before .before .before
 clean : (c : tie.After-enum-told) → let s = start (c .before .before) in distanceFault (t s) (s .args .map) (s .args .s .now) ≡ Clean
 clean c = sym (c .before .before .distance-fault .ensures) ∙ c .enum-told .given .1
 
-away-of-requires : tie.Need-away-of-requires
-away-of-requires c κs =
-    let s = start (c .before .before) in
-    let q = distance-clean (t s) (s .args .map) (s .args .s .now) (clean c) in
-    (valid-unpriced (t s) (q .0), q .1, (λ o l. q .0 .shares (s .args .map) o (q .1) l), q .2)
+at-image-requires : tie.Need-at-image-requires
+at-image-requires c κs = let s = start (c .before .before) in image-asked (t s) (s .args .map) (s .args .s .now) (clean c)
 
 returns : tie.Need-returns
 returns c =
@@ -35,8 +31,8 @@ returns c =
 returns-2 : tie.Need-returns-2
 returns-2 c =
     let s = start (c .before .before .before .before) in
-    let d = c .before .away-of in
-    given-distance (t s) (s .args .map) (s .args .s .now) (d .result) (clean (c .before .before)) (d .ensures) (c .as-distance .ensures)
+    let p = c .before .at-image in
+    given-distance (t s) (s .args .map) (s .args .s .now) (p .result .cost) (clean (c .before .before)) (p .ensures .cost) (c .as-distance .ensures)
 
 pub distance-at-spec : {M : Type 1} → statement M
 distance-at-spec =
@@ -45,7 +41,7 @@ distance-at-spec =
     (λ c κs. search needs)
     (λ c. search needs)
     (λ c. search needs)
-    away-of-requires
+    at-image-requires
     (λ c κs. search needs)
     returns
     returns-2)

@@ -24,8 +24,8 @@ abbrev μ-loop : tie.MeasureT-loop
 abbrev said : tie.At-loop Inv-loop μ-loop → ℕ → Cost
 said c = let a = c .before .before .before .before .args in away (taskOf (tables (a .c) (a .facts .now) [] (a .shares .now))) (stateOf (a .s .now))
 
-away-of-requires : tie.Need-away-of-requires Inv-loop μ-loop
-away-of-requires c κs =
+at-image-requires : tie.Need-at-image-requires Inv-loop μ-loop
+at-image-requires c κs =
     let pre = c .before .before .before .before .before .before .pre in
     let more = c .before .loop-test .taken in
     (pre .0, more, pre .1 (c .before .before .loop .m) more, pre .2)
@@ -39,11 +39,11 @@ loop-again : tie.Need-loop-again Inv-loop μ-loop
 loop-again c =
     let at = c .before .before .before .before in
     let l = at .loop in
-    let one = c .before .away-of in
+    let one = c .before .at-image in
     let next = c .with-distance in (
       omega (arith, c .before .before .before .loop-test .taken),
       omega (arith, l .inv .1, next .ensures .1),
-      sum-more (said at) (l .m) (sumSaid (l .sum)) (sumSaid (next .result)) (one .result) (l .inv .2) (one .ensures) (next .ensures .0),
+      sum-more (said at) (l .m) (sumSaid (l .sum)) (sumSaid (next .result)) (one .result .cost) (l .inv .2) (one .ensures .cost) (next .ensures .0),
     )
 
 -- a map said none
@@ -68,7 +68,7 @@ sum-of-spec =
     Inv-loop
     μ-loop
     (λ c. (omega arith, omega arith, refl))
-    away-of-requires
+    at-image-requires
     with-distance-requires
     (λ c. search needs)
     (λ c. search needs)
