@@ -1,6 +1,6 @@
 /* desk.h: the sequence desk for C.
  *
- * PROVED are the fourteen functions that are declared here without a body, desk_read to desk_offer: whatever is handed
+ * PROVED are the fifteen functions that are declared here without a body, desk_read to desk_offer: whatever is handed
  * in, each answers as its contract says, and a refusal alters nothing that was lent, but that desk_end_text notes in
  * its words that the text has ended (crates/desk_c/src/lib.rt has the contracts, docs/PROMISES.md the map of what is
  * shown). NOT PROVED is what is C: that they are declared here as they are exported, and the eight helpers with a body:
@@ -65,6 +65,7 @@ extern "C" {
 #define DESK_TEXT_WORDS 20
 #define DESK_AREA 8192
 #define DESK_DISTANCES 4096
+#define DESK_BEST_STEPS 4096
 #define DESK_RUN_BYTES 16
 #define DESK_RUN_WORDS (DESK_STEPS + 1 + DESK_MAPS + 2)
 
@@ -90,6 +91,9 @@ enum {
 /* In a table of distances: none. */
 #define DESK_NO_DISTANCE UINT32_C(4294967295)
 
+/* In a table of best steps: none; no task has an operator of that number. */
+#define DESK_NO_STEP 255
+
 /* The operator of a step that a run doesn't have; no task has an operator of that number. */
 #define DESK_NO_OPERATOR UINT32_C(4294967295)
 
@@ -100,7 +104,8 @@ typedef uint64_t desk_word;
 
 enum {
     DESK_DONE = 0,       /* done; with the number that the function tells, or 0 */
-    DESK_NONE = 128,     /* none: no sequence leads to the goal, in the view or in one of the views */
+    DESK_NONE = 128,     /* none: no sequence leads to the goal, in the view or in one of the views; of a best step
+                            also: the state is at a goal of the view */
     DESK_REPEATED = 129, /* an offer that was accepted before; nothing moved */
     DESK_FIRST = 130,    /* the first list */
     DESK_SECOND = 131,   /* the second list */
@@ -161,13 +166,16 @@ desk_word desk_check(const uint32_t *counts, size_t counts_len, const uint8_t *f
                      const uint32_t *costs, size_t costs_len, const uint32_t *shares, size_t shares_len);
 
 /* The DISTANCES of a map at all its abstract states, into out (DESK_DISTANCES places at least): the least total share
- * of any sequence from there to a goal of the map's view, or DESK_NO_DISTANCE. Quota and marks count for nothing here,
- * nor in a distance or a bound. DESK_DONE with the number of rounds; places of out beyond the map's abstract states are
- * as they were.
- * Refusals: 8 (out first), faulty tables, 3 at place 0 (no such map). Then out is as it was. */
+ * of any sequence from there to a goal of the map's view, or DESK_NO_DISTANCE; and the BEST STEP at each, into best
+ * (DESK_BEST_STEPS bytes at least): of the sequences with that total those with fewest steps, and of their first
+ * operators the lowest number; DESK_NO_STEP at a goal of the view and where the distance is none. Followed in the view
+ * from a state with a distance, the best steps come to a goal, and their shares total exactly the distance, also where
+ * loops cost 0. Quota and marks count for nothing here, nor in a distance, a best step or a bound. DESK_DONE with the
+ * number of rounds; places of out and best beyond the map's abstract states are as they were.
+ * Refusals: 8 (out or best first), faulty tables, 3 at place 0 (no such map). Then out and best are as they were. */
 desk_word desk_distances(const uint32_t *counts, size_t counts_len, const uint8_t *facts, size_t facts_len,
                          const uint32_t *costs, size_t costs_len, const uint32_t *shares, size_t shares_len,
-                         uint32_t map, uint32_t *out, size_t out_len);
+                         uint32_t map, uint32_t *out, size_t out_len, uint8_t *best, size_t best_len);
 
 /* The DISTANCE of a state's image in one map. DESK_DONE with the distance in seconds; DESK_NONE.
  * Refusals: faulty tables, 3 at place 0 (no such map), 8 (state too short), 9 (a value outside its variable) at the
@@ -175,6 +183,13 @@ desk_word desk_distances(const uint32_t *counts, size_t counts_len, const uint8_
 desk_word desk_distance_at(const uint32_t *counts, size_t counts_len, const uint8_t *facts, size_t facts_len,
                            const uint32_t *costs, size_t costs_len, const uint32_t *shares, size_t shares_len,
                            uint32_t map, const uint8_t *state, size_t state_len);
+
+/* The BEST STEP of a state's image in one map. DESK_DONE with the operator's number; DESK_NONE at a goal of the map's
+ * view, and where the distance is none. In the view the operator may run; in the state itself it need not.
+ * Refusals: as desk_distance_at. */
+desk_word desk_best_at(const uint32_t *counts, size_t counts_len, const uint8_t *facts, size_t facts_len,
+                       const uint32_t *costs, size_t costs_len, const uint32_t *shares, size_t shares_len,
+                       uint32_t map, const uint8_t *state, size_t state_len);
 
 /* The summed BOUND of a state: at most the cost of every sequence from there to the goal, of any length. DESK_DONE
  * with the sum of the maps' distances in seconds; DESK_NONE exactly if at least one map says none, and then there is no

@@ -1,7 +1,7 @@
 /* Tests of the desk from C: each function on case A (what reads and writes its text is in test_text.c, edition 2 in
- * test_stored.c), what is lent too short (a length of 0 with a pointer that leads nowhere too; counts and tables in
- * test_short.c), that a refusal leaves lent memory as it was, and what the helpers tell of any run. Ends with status 1
- * at the first that fails. Reads the text of case A from the file that is named. */
+ * test_stored.c, best steps in test_best.c), what is lent too short (a length of 0 with a pointer that leads nowhere
+ * too; counts and tables in test_short.c), that a refusal leaves lent memory as it was, and what the helpers tell of
+ * any run. Ends with status 1 at the first that fails. Reads the text of case A from the file that is named. */
 #include "expect.h"
 
 static const uint8_t init[3] = {0, 0, 0};
@@ -57,15 +57,18 @@ static void checks(void)
 static void distances(void)
 {
     static uint32_t out[DESK_DISTANCES + 1];
+    static uint8_t best[DESK_BEST_STEPS];
+#define BEST best, DESK_BEST_STEPS
     memset(out, 9, sizeof out);
-    EXPECT(desk_distances(TASK, 0, out, DESK_DISTANCES - 1) == SHORT);
-    EXPECT(desk_distances(TASK, 0, WILD32, 0) == SHORT);
-    EXPECT(desk_distances(COUNTED, facts, DESK_FACTS, WILD32, 0, shares, DESK_SHARES, 0, out, DESK_DISTANCES) == SHORT);
-    EXPECT(desk_distances(TASK, 3, out, DESK_DISTANCES) == word(3, 0));
+    EXPECT(desk_distances(TASK, 0, out, DESK_DISTANCES - 1, BEST) == SHORT);
+    EXPECT(desk_distances(TASK, 0, WILD32, 0, BEST) == SHORT);
+    EXPECT(desk_distances(COUNTED, facts, DESK_FACTS, WILD32, 0, shares, DESK_SHARES, 0, out, DESK_DISTANCES, BEST) ==
+           SHORT);
+    EXPECT(desk_distances(TASK, 3, out, DESK_DISTANCES, BEST) == word(3, 0));
     EXPECT(out[0] == 0x09090909 && out[1] == 0x09090909);
-    EXPECT(desk_distances(TASK, 1, out, DESK_DISTANCES) == word(DESK_DONE, 3));
+    EXPECT(desk_distances(TASK, 1, out, DESK_DISTANCES, BEST) == word(DESK_DONE, 3));
     EXPECT(out[0] == 2 && out[1] == 1 && out[2] == 0 && out[3] == 0x09090909);
-    EXPECT(desk_distances(TASK, 0, out, sizeof out / sizeof *out) == word(DESK_DONE, 2));
+    EXPECT(desk_distances(TASK, 0, out, sizeof out / sizeof *out, BEST) == word(DESK_DONE, 2));
     EXPECT(out[0] == 1 && out[1] == 0 && out[2] == 0 && out[3] == 0x09090909);
     EXPECT(desk_distance_at(TASK, 1, init, 3) == word(DESK_DONE, 2));
     EXPECT(desk_distance_at(TASK, 1, init, 2) == SHORT);

@@ -24,13 +24,14 @@ struct lent {
 static void all_short(struct lent t)
 {
     static uint32_t out[DESK_DISTANCES], words[DESK_RUN_WORDS], zeros[DESK_DISTANCES];
-    static uint8_t buffer[DESK_TEXT];
+    static uint8_t buffer[DESK_TEXT], best[DESK_BEST_STEPS];
     uint8_t bytes[DESK_RUN_BYTES] = {0};
     const uint32_t all[4] = {0, 1, 2, 3};
     EXPECT(desk_write(LENT, buffer, DESK_TEXT) == SHORT);
     EXPECT(desk_check(LENT) == SHORT);
-    EXPECT(desk_distances(LENT, 0, out, DESK_DISTANCES) == SHORT);
+    EXPECT(desk_distances(LENT, 0, out, DESK_DISTANCES, best, DESK_BEST_STEPS) == SHORT);
     EXPECT(desk_distance_at(LENT, 0, init, 3) == SHORT);
+    EXPECT(desk_best_at(LENT, 0, init, 3) == SHORT);
     EXPECT(desk_bound(LENT, init, 3) == SHORT);
     EXPECT(desk_judge(LENT, init, 3, all, 4) == SHORT);
     EXPECT(desk_cheaper(LENT, init, 3, all, 4, all, 4) == SHORT);
@@ -39,6 +40,7 @@ static void all_short(struct lent t)
     EXPECT(desk_offer(LENT, bytes, DESK_RUN_BYTES, words, DESK_RUN_WORDS, 1, 0) == SHORT);
     EXPECT(memcmp(out, zeros, sizeof out) == 0 && memcmp(words, zeros, sizeof words) == 0);
     EXPECT(memcmp(bytes, zeros, sizeof bytes) == 0 && memcmp(buffer, zeros, sizeof buffer) == 0);
+    EXPECT(memcmp(best, zeros, sizeof best) == 0);
 }
 
 /* Each part a place too short, and of no length with a pointer that leads nowhere. */
@@ -78,7 +80,7 @@ static void short_parts(struct lent whole)
 static void longer_parts(void)
 {
     static uint32_t n[DESK_COUNTS + 1], c[DESK_COSTS + 1], s[DESK_SHARES + 1], out[DESK_DISTANCES];
-    static uint8_t f[DESK_FACTS + 1], buffer[DESK_TEXT], bytes[DESK_RUN_BYTES];
+    static uint8_t f[DESK_FACTS + 1], buffer[DESK_TEXT], bytes[DESK_RUN_BYTES], best[DESK_BEST_STEPS];
     static uint32_t words[DESK_RUN_WORDS];
     const struct lent t = {n, DESK_COUNTS + 1, f, DESK_FACTS + 1, c, DESK_COSTS + 1, s, DESK_SHARES + 1};
     const uint32_t all[4] = {0, 1, 2, 3};
@@ -89,8 +91,9 @@ static void longer_parts(void)
     EXPECT(desk_write(LENT, buffer, DESK_TEXT) == word(DESK_DONE, text_len));
     EXPECT(memcmp(buffer, text, text_len) == 0);
     EXPECT(desk_check(LENT) == word(DESK_DONE, 0));
-    EXPECT(desk_distances(LENT, 0, out, DESK_DISTANCES) == word(DESK_DONE, 2));
+    EXPECT(desk_distances(LENT, 0, out, DESK_DISTANCES, best, DESK_BEST_STEPS) == word(DESK_DONE, 2));
     EXPECT(desk_distance_at(LENT, 0, init, 3) == word(DESK_DONE, 1));
+    EXPECT(desk_best_at(LENT, 0, init, 3) == word(DESK_DONE, 0));
     EXPECT(desk_bound(LENT, init, 3) == word(DESK_DONE, 4));
     EXPECT(desk_judge(LENT, init, 3, all, 4) == word(DESK_DONE, 4));
     EXPECT(desk_cheaper(LENT, init, 3, all, 4, all, 4) == word(DESK_FIRST, 4));

@@ -165,6 +165,7 @@ static void tables(void)
 static void sequences(void)
 {
     const uint32_t list[6] = {0, 1, 2, 1, 2, 1}, early[3] = {0, 1, 1}, unknown[5] = {0, 1, 2, 1, 9};
+    const uint8_t ahead[2] = {1, 0};
     load(G);
     for (int i = 0; i < 2; i++)
         EXPECT(desk_judge(TASK, init, 2, list, 2) == word(DESK_DONE, 5));
@@ -184,6 +185,7 @@ static void sequences(void)
     EXPECT(desk_opening(TASK, init, 2, list, 2, list, 4) == word(DESK_FIRST, 0));
     EXPECT(desk_bound(TASK, init, 2) == word(DESK_DONE, 5)); /* distances ignore the quota */
     EXPECT(desk_distance_at(TASK, 0, init, 2) == word(DESK_DONE, 5));
+    EXPECT(desk_best_at(TASK, 0, ahead, 2) == word(DESK_DONE, 1)); /* and so do best steps: operator 1 stores a test */
 }
 
 /* A step that is offered again stores no second test and uses nothing of the quota. */

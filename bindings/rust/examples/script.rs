@@ -4,6 +4,8 @@
 //!
 //! The lines are read by the judge's own reader of scripts; the entries behind it are the library's, with exactly the lengths that the script lends. Each text that is
 //! read is besides read in pieces, and `in pieces otherwise` is printed where that differs; the judge never prints it.
+#[path = "../../../judge/src/changes.rs"]
+mod changes;
 #[path = "../../../judge/src/feed.rs"]
 mod feed;
 #[path = "../src/ffi.rs"]
@@ -245,12 +247,16 @@ mod desk {
         told(over(lent, ffi::check), "clean", false)
     }
 
-    pub fn distances(lent: Lent<'_>, map: u32, out: &mut [u32]) -> Answer {
-        told(over(lent, |task| ffi::distances(task, map, out)), "rounds", true)
+    pub fn distances(lent: Lent<'_>, map: u32, out: &mut [u32], best: &mut [u8]) -> Answer {
+        told(over(lent, |task| ffi::distances(task, map, out, best)), "rounds", true)
     }
 
     pub fn distance_at(lent: Lent<'_>, map: u32, state: &[u8]) -> Answer {
         told(over(lent, |task| ffi::distance_at(task, map, state)), "of", true)
+    }
+
+    pub fn best_at(lent: Lent<'_>, map: u32, state: &[u8]) -> Answer {
+        told(over(lent, |task| ffi::best_at(task, map, state)), "take", true)
     }
 
     pub fn bound(lent: Lent<'_>, state: &[u8]) -> Answer {

@@ -18,8 +18,9 @@ macro_rules! of_a_task {
 of_a_task! {
     desk_write(buffer: *mut u8, buffer_len: usize);
     desk_check();
-    desk_distances(map: u32, out: *mut u32, out_len: usize);
+    desk_distances(map: u32, out: *mut u32, out_len: usize, best: *mut u8, best_len: usize);
     desk_distance_at(map: u32, state: *const u8, state_len: usize);
+    desk_best_at(map: u32, state: *const u8, state_len: usize);
     desk_bound(state: *const u8, state_len: usize);
     desk_judge(state: *const u8, state_len: usize, list: *const u32, list_len: usize);
     desk_cheaper(state: *const u8, state_len: usize, a: *const u32, a_len: usize, b: *const u32, b_len: usize);
@@ -143,12 +144,16 @@ pub fn check(task: Lent<'_>) -> u64 {
     call!(desk_check, task)
 }
 
-pub fn distances(task: Lent<'_>, map: u32, out: &mut [u32]) -> u64 {
-    call!(desk_distances, task, map, out.as_mut_ptr(), out.len())
+pub fn distances(task: Lent<'_>, map: u32, out: &mut [u32], best: &mut [u8]) -> u64 {
+    call!(desk_distances, task, map, out.as_mut_ptr(), out.len(), best.as_mut_ptr(), best.len())
 }
 
 pub fn distance_at(task: Lent<'_>, map: u32, state: &[u8]) -> u64 {
     call!(desk_distance_at, task, map, state.as_ptr(), state.len())
+}
+
+pub fn best_at(task: Lent<'_>, map: u32, state: &[u8]) -> u64 {
+    call!(desk_best_at, task, map, state.as_ptr(), state.len())
 }
 
 pub fn bound(task: Lent<'_>, state: &[u8]) -> u64 {

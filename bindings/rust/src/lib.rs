@@ -1,5 +1,5 @@
-//! The sequence desk for Rust: a task read from its text, whole or in pieces, and written back, the least bench seconds any sequence still needs, sequences judged, and a run with its ledger
-//! and its stored tests.
+//! The sequence desk for Rust: a task read from its text, whole or in pieces, and written back, the least bench seconds any sequence still needs and the best step in a
+//! view, sequences judged, and a run with its ledger and its stored tests.
 //!
 //! Everything here goes to the proved desk (`libdesk_c.a`, x86-64 Linux) and comes back as it answered; this crate only gives the numbers types that can't be mixed up.
 //! A [`Refusal`] carries the desk's number and place, and then nothing was altered. What the desk's answers mean, and what is proved of them, is in the repository's
@@ -29,14 +29,18 @@ pub const QUOTA: u32 = 1024;
 /// The bytes of a buffer for a task's text, whatever the task; no task's text has more than 10,588.
 pub const TEXT: usize = 16384;
 
-/// The places of a table of distances.
+/// The places of a table of distances, and of one of best steps.
 pub const DISTANCES: usize = 4096;
+pub const BEST_STEPS: usize = 4096;
 
 /// The most steps of a sequence or a run.
 pub const STEPS: usize = 1024;
 
 /// In a table of distances: none.
 pub const NO_DISTANCE: u32 = u32::MAX;
+
+/// In a table of best steps: none; no task has an operator of that number.
+pub const NO_STEP: u8 = 255;
 
 /// An operator's number, from 0.
 #[derive(Clone, Copy, Debug, PartialEq, Eq, PartialOrd, Ord, Hash)]
@@ -225,15 +229,37 @@ impl Task {
         ffi::Lent { counts: &self.counts, facts: &self.facts, costs: &self.costs, shares: &self.shares }
     }
 
-    /// The distances of a map at all its abstract states, into a table of at least [`DISTANCES`] places ([`NO_DISTANCE`] for none); places beyond the map are left alone.
-    /// The quota counts for nothing here, nor in a distance or a bound.
-    pub fn distances(&self, map: Map, table: &mut [u32]) -> Result<Rounds, Refusal> {
-        told(ffi::distances(self.lent(), map.0, table)).map(|(_, rounds)| Rounds(rounds as u32))
+    /// The distances of a map at all its abstract states, into a table of at least [`DISTANCES`] places ([`NO_DISTANCE`] for none); and the best step at each, into one of at
+    /// least [`BEST_STEPS`] places ([`NO_STEP`] for none). Places beyond the map are left alone. The quota counts for nothing here, nor in a distance, a best step or a bound.
+    ///
+    /// The best step is an operator's number: of the sequences that cost the distance those with fewest steps, and of their first operators the lowest. There is none at a
+    /// goal of the map's view, and where the distance is none. Followed in the view the best steps come to a goal and cost exactly the distance, also where loops cost 0:
+    ///
+    /// ```
+    /// use mihaedop::{Map, Rounds, Task, BEST_STEPS, DISTANCES, NO_STEP};
+    ///
+    /// // 0 and 1 lead from the first value to the second and back for nothing; 2 goes on to the goal.
+    /// let task = Task::read(b"edition=1\nvars=1\ndom=3\ninit=0\ngoal=0:2\nops=3\nop=0;0:0;0:1\nop=0;0:1;0:0\nop=5;0:1;0:2\nmaps=1\nmap=0,1,2\nshare=0,0,5\n")?;
+    /// let (mut distances, mut best) = ([0; DISTANCES], [0; BEST_STEPS]);
+    /// assert_eq!(task.distances(Map(0), &mut distances, &mut best)?, Rounds(3));
+    /// assert_eq!((&distances[..3], &best[..3]), (&[5, 5, 0][..], &[0, 2, NO_STEP][..]));
+    /// # Ok::<(), mihaedop::Refusal>(())
+    /// ```
+    pub fn distances(&self, map: Map, distances: &mut [u32], best: &mut [u8]) -> Result<Rounds, Refusal> {
+        told(ffi::distances(self.lent(), map.0, distances, best)).map(|(_, rounds)| Rounds(rounds as u32))
     }
 
     /// The distance of a state's image in one map, or none.
     pub fn distance_at(&self, map: Map, state: &State) -> Result<Option<Seconds>, Refusal> {
         seconds(ffi::distance_at(self.lent(), map.0, &state.0))
+    }
+
+    /// The best step of a state's image in one map, or none: at a goal of the map's view, and where the distance is none.
+    ///
+    /// In the view the operator may run; in the state itself it need not.
+    pub fn best_at(&self, map: Map, state: &State) -> Result<Option<Operator>, Refusal> {
+        let (kind, op) = told(ffi::best_at(self.lent(), map.0, &state.0))?;
+        Ok(if kind == NONE { None } else { Some(Operator(op as u32)) })
     }
 
     /// The summed bound of a state: at most the cost of every sequence from there to the goal. None exactly if at least one map says none: then there is no such sequence.

@@ -114,15 +114,15 @@ fn a_task_tells_its_tables() {
 #[test]
 fn distances_and_bounds() {
     let a = task(A);
-    let mut table = [77; DISTANCES];
+    let (mut table, mut best) = ([77; DISTANCES], [77; BEST_STEPS]);
     for (map, rounds, distances) in [(0, 2, &[1, 0][..]), (1, 3, &[2, 1, 0]), (2, 3, &[1, 1, 0])] {
         table[..4].fill(77);
-        assert_eq!(a.distances(Map(map), &mut table), Ok(Rounds(rounds)));
+        assert_eq!(a.distances(Map(map), &mut table, &mut best), Ok(Rounds(rounds)));
         assert_eq!(&table[..distances.len()], distances);
         assert!(table[distances.len()..].iter().all(|&place| place == 77));
     }
-    assert_eq!(refusal(a.distances(Map(0), &mut [0; DISTANCES - 1])), (8, 0));
-    assert_eq!(refusal(a.distances(Map(0), &mut [])), (8, 0));
+    assert_eq!(refusal(a.distances(Map(0), &mut [0; DISTANCES - 1], &mut best)), (8, 0));
+    assert_eq!(refusal(a.distances(Map(0), &mut [], &mut best)), (8, 0));
     assert_eq!(a.bound(&a.initial()), Ok(Some(Seconds(4))));
     assert_eq!(a.bound(&State::of(&[1, 0, 0])), Ok(Some(Seconds(3))));
     let e = task(E);
@@ -130,7 +130,7 @@ fn distances_and_bounds() {
     assert_eq!(e.distance_at(Map(1), &e.initial()), Ok(None));
     assert_eq!(e.bound(&e.initial()), Ok(None));
     assert_eq!(e.bound(&State::of(&[0, 1])), Ok(Some(Seconds(1))));
-    assert_eq!(e.distances(Map(1), &mut table), Ok(Rounds(1)));
+    assert_eq!(e.distances(Map(1), &mut table, &mut best), Ok(Rounds(1)));
     assert_eq!(table[..2], [NO_DISTANCE, 0]);
     let closed = task(&E.replace("goal=0:1,1:1", "goal=1:1").replace("map=0,1/0,0", "map=0,1/0,1"));
     assert_eq!(closed.bound(&closed.initial()), Ok(None));

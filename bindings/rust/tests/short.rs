@@ -9,14 +9,16 @@ use ffi::Lent;
 const NEEDED: [usize; 4] = [5, 1624, 64, 512];
 const TEXT: usize = 16384;
 const DISTANCES: usize = 4096;
+const BEST_STEPS: usize = 4096;
 const RUN_BYTES: usize = 16;
 const RUN_WORDS: usize = 1035;
 
 /// The places that a text in pieces needs: of its words, its area, and then as above.
 const NEEDED_AT_THE_END: [usize; 6] = [20, 8192, 5, 1624, 64, 512];
 
-/// The word of 8 at place 0, and that of the first list's empty part.
+/// The words of 8 at place 0, of no best step, and of the first list's empty part.
 const SHORT: u64 = 8;
+const NO_STEP: u64 = 128;
 const EMPTY: u64 = 130;
 
 /// A task without operators in either edition, its parts lent with these lengths: one variable of one value, a map and no goal.
@@ -29,13 +31,15 @@ fn lent(edition: u32, lengths: [usize; 4], ask: impl Fn(Lent<'_>)) {
 }
 
 /// What each function answers that takes a task, and whether all that was lent to be written is as it was.
-fn answers(task: Lent<'_>) -> ([u64; 10], bool) {
-    let (mut buffer, mut out, mut bytes, mut words) = ([7; TEXT], [7; DISTANCES], [7; RUN_BYTES], [7; RUN_WORDS]);
+fn answers(task: Lent<'_>) -> ([u64; 11], bool) {
+    let (mut buffer, mut out, mut best) = ([7; TEXT], [7; DISTANCES], [7; BEST_STEPS]);
+    let (mut bytes, mut words) = ([7; RUN_BYTES], [7; RUN_WORDS]);
     let told = [
         ffi::write(task, &mut buffer),
         ffi::check(task),
-        ffi::distances(task, 0, &mut out),
+        ffi::distances(task, 0, &mut out, &mut best),
         ffi::distance_at(task, 0, &[0]),
+        ffi::best_at(task, 0, &[0]),
         ffi::bound(task, &[0]),
         ffi::judge(task, &[0], &[]),
         ffi::cheaper(task, &[0], &[], &[]),
@@ -43,8 +47,8 @@ fn answers(task: Lent<'_>) -> ([u64; 10], bool) {
         ffi::begin(task, &[0], &mut bytes, &mut words),
         ffi::offer(task, &mut bytes, &mut words, 1, 0),
     ];
-    let kept = buffer == [7; TEXT] && out == [7; DISTANCES] && bytes == [7; RUN_BYTES] && words == [7; RUN_WORDS];
-    (told, kept)
+    let run_kept = bytes == [7; RUN_BYTES] && words == [7; RUN_WORDS];
+    (told, run_kept && buffer == [7; TEXT] && out == [7; DISTANCES] && best == [7; BEST_STEPS])
 }
 
 #[test]
@@ -56,7 +60,7 @@ fn a_row_or_a_table_that_is_too_short_is_8_for_every_function() {
                 lengths[part] = length;
                 lent(edition, lengths, |task| {
                     let (told, kept) = answers(task);
-                    assert_eq!(told, [SHORT, SHORT, SHORT, SHORT, SHORT, SHORT, SHORT, EMPTY, SHORT, SHORT]);
+                    assert_eq!(told, [SHORT, SHORT, SHORT, SHORT, SHORT, SHORT, SHORT, SHORT, EMPTY, SHORT, SHORT]);
                     assert!(kept);
                 });
             }
@@ -72,7 +76,7 @@ fn a_row_and_tables_that_are_long_enough_are_a_task_and_further_places_are_not_r
             // the offer is 10 at step 1: the task has no operator
             lent(edition, lengths, |task| {
                 let (told, kept) = answers(task);
-                assert_eq!(told, [256 * bytes, 0, 256, 0, 0, 0, EMPTY, EMPTY, 0, 10 + 256]);
+                assert_eq!(told, [256 * bytes, 0, 256, 0, NO_STEP, 0, 0, EMPTY, EMPTY, 0, 10 + 256]);
                 assert!(!kept);
             });
         }

@@ -257,14 +257,15 @@ fn edition_1_reads_neither_the_quota_nor_the_marks() {
 }
 
 #[test]
-fn distances_and_bounds_ignore_the_quota() {
+fn distances_best_steps_and_bounds_ignore_the_quota() {
     let told = |task: &Task| {
-        let mut table = [0; DISTANCES];
-        let rounds = task.distances(Map(0), &mut table);
-        (rounds, table, task.distance_at(Map(0), &task.initial()), task.bound(&task.initial()))
+        let (mut table, mut best, start) = ([0; DISTANCES], [0; BEST_STEPS], task.initial());
+        let rounds = task.distances(Map(0), &mut table, &mut best);
+        (rounds, table, best, task.distance_at(Map(0), &start), task.best_at(Map(0), &State::of(&[1, 0])), task.bound(&start))
     };
     let g = told(&task(G));
-    assert_eq!((&g.1[..4], g.2, g.3), (&[5, 3, 2, 0][..], Ok(Some(Seconds(5))), Ok(Some(Seconds(5)))));
+    assert_eq!((&g.1[..4], &g.2[..4]), (&[5, 3, 2, 0][..], &[0, 1, 0, NO_STEP][..]));
+    assert_eq!((g.3, g.4, g.5), (Ok(Some(Seconds(5))), Ok(Some(Operator(1))), Ok(Some(Seconds(5)))));
     for other in [with_quota(0), with_quota(QUOTA), task(&G.replace("0:1;0\n", "0:1;1\n"))] {
         assert!(told(&other) == g);
     }
