@@ -42,7 +42,7 @@ fn task(path: &str) -> (String, Vec<u8>, Desk) {
 /// Says how many answers were the same.
 fn compare(name: &str, desk: &Desk, text: &[u8]) -> Result<(), String> {
     let answers = same::compare(desk, text)?;
-    println!("{name}: both sides gave the same {answers} answers, and left the same runs, distances, texts and tables");
+    println!("{name}: both sides gave the same {answers} answers, and left the same runs, distances, best steps, texts and tables");
     Ok(())
 }
 
@@ -109,7 +109,7 @@ fn work<S: Side>(side: &S, asked: &Asked, task: &Task, text: &[u8]) -> Result<St
         "distances" => {
             let largest = Largest::of(side, task)?;
             largest.distances(side)();
-            format!("found the distances of map {} twice", largest.map)
+            format!("found the distances and best steps of map {} twice", largest.map)
         }
         _ => format!("accepted {} offers", shift::whole(side, &shift::sequence(counts.operators, 0)).1),
     })

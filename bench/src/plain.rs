@@ -1,4 +1,4 @@
-//! THE BASELINE: the same run and the same offers as a plain Rust program keeps them; judging a sequence, the distances of a map, writing a task's text and
+//! THE BASELINE: the same run and the same offers as a plain Rust program keeps them; judging a sequence, the distances and best steps of a map, writing a task's text and
 //! reading it, whole or in pieces, are in the modules below. It was written from the paper for this comparison, and shares nothing with the desk but the layout of the lent tables.
 //!
 //! An offer does what the desk's entry promises, in the same order: the tables are judged afresh, then the run that is handed in, then the offer. Nothing is kept

@@ -12,7 +12,7 @@ use crate::plain;
 use crate::shift::sequence;
 use crate::sides::{plainly_refused, refused, Desk, Parts, Plain, Side, Told};
 use crate::tables::{Tables, KINDS, PLACES};
-use mihaedop::{check, Task, COSTS, DISTANCES, FACTS, RUN_BYTES, RUN_WORDS, SHARES, STEPS, TEXT};
+use mihaedop::{check, Task, BEST_STEPS, COSTS, DISTANCES, FACTS, RUN_BYTES, RUN_WORDS, SHARES, STEPS, TEXT};
 use pieces::SoFar;
 
 /// How many tables by chance have some places altered at once.
@@ -161,7 +161,7 @@ impl<'a> Both<'a> {
         Ok(())
     }
 
-    /// By another task, for which it was not made, the sequence is judged; and a map's distances are asked for, unless too much was swept before. Its text is read.
+    /// By another task, for which it was not made, the sequence is judged; and a map's distances and best steps are asked for, unless too much was swept before. Its text is read.
     fn another(&mut self, task: Task, passing: &Passing, chance: &mut Chance, swept: &mut usize) -> Result<(), String> {
         let desk = Desk::of(task);
         let mut both = Both::of(&desk);
@@ -169,7 +169,7 @@ impl<'a> Both<'a> {
         both.read("the text of another task", &desk.task.to_text())?;
         if *swept < SWEPT {
             let map = chance.below(desk.task.counts().maps as usize) as u32;
-            if let Told::Rounds(rounds) = both.distances(map, DISTANCES)? {
+            if let Told::Rounds(rounds) = both.distances(map, DISTANCES, BEST_STEPS)? {
                 *swept += rounds as usize * both.plain.task.states(map);
             }
         }
@@ -185,7 +185,7 @@ impl<'a> Both<'a> {
         let task = plain::Task::of(tables.counts, facts, costs, shares);
         let plain = task.check();
         if let Err(refusal) = plain {
-            if [task.judge(&[], &[]), task.distances(0, &mut [0; DISTANCES])] != [Err(refusal); 2] {
+            if [task.judge(&[], &[]), task.distances(0, &mut [0; DISTANCES], &mut [0; BEST_STEPS])] != [Err(refusal); 2] {
                 return Err(format!("{what}: plain Rust refuses them with {refusal:?}, but not whenever it is lent them"));
             }
         }

@@ -40,8 +40,8 @@ pub trait Side {
 
     fn judge(&self, start: &State, list: &Self::List) -> Told;
 
-    /// The distances of a map into a table.
-    fn distances(&self, map: u32, table: &mut [u32]) -> Told;
+    /// The distances of a map into a table, and its best steps into another.
+    fn distances(&self, map: u32, table: &mut [u32], best: &mut [u8]) -> Told;
 
     /// Reads any text into tables.
     fn read(text: &[u8], facts: &mut [u8], costs: &mut [u32], shares: &mut [u32]) -> Told;
@@ -133,8 +133,8 @@ impl Side for Desk {
         self.task.judge(start, list).map_or_else(refused, |cost| Told::Cost(cost.0))
     }
 
-    fn distances(&self, map: u32, table: &mut [u32]) -> Told {
-        self.task.distances(Map(map), table).map_or_else(refused, |rounds| Told::Rounds(rounds.0))
+    fn distances(&self, map: u32, table: &mut [u32], best: &mut [u8]) -> Told {
+        self.task.distances(Map(map), table, best).map_or_else(refused, |rounds| Told::Rounds(rounds.0))
     }
 
     fn read(text: &[u8], facts: &mut [u8], costs: &mut [u32], shares: &mut [u32]) -> Told {
@@ -195,8 +195,8 @@ impl Side for Plain<'_> {
         self.task.judge(start.values(), list).map_or_else(plainly_refused, |cost| Told::Cost(cost.into()))
     }
 
-    fn distances(&self, map: u32, table: &mut [u32]) -> Told {
-        self.task.distances(map, table).map_or_else(plainly_refused, Told::Rounds)
+    fn distances(&self, map: u32, table: &mut [u32], best: &mut [u8]) -> Told {
+        self.task.distances(map, table, best).map_or_else(plainly_refused, Told::Rounds)
     }
 
     fn read(text: &[u8], facts: &mut [u8], costs: &mut [u32], shares: &mut [u32]) -> Told {

@@ -1,6 +1,6 @@
-//! The baseline works out the distances of a map: every abstract state is swept, round after round, until nothing changes.
+//! The baseline works out the distances and best steps of a map: every abstract state is swept, round after round, until nothing changes.
 use super::{hold, refuse, set, Refusal, Task, EFFECTS, GOAL_ROW, PRECONDITIONS, VALUES_ROW, VARIABLES};
-use mihaedop::{DISTANCES, NO_DISTANCE};
+use mihaedop::{BEST_STEPS, DISTANCES, NO_DISTANCE, NO_STEP};
 use std::mem::swap;
 
 /// A place for each variable: an abstract state has its classes there, and seen facts have 0 for nothing and k + 1 for the class k, as the tables have them for values.
@@ -24,11 +24,11 @@ struct Operator {
 }
 
 impl Task<'_> {
-    /// The distances of a map into a table, and the number of rounds. Places beyond the map are left alone.
+    /// The distances of a map into a table, its best steps into another, and the number of rounds. Places beyond the map are left alone.
     // Not inlined, as `Run::offer` isn't.
     #[inline(never)]
-    pub fn distances(&self, map: u32, table: &mut [u32]) -> Result<u32, Refusal> {
-        if table.len() < DISTANCES {
+    pub fn distances(&self, map: u32, table: &mut [u32], best: &mut [u8]) -> Result<u32, Refusal> {
+        if table.len() < DISTANCES || best.len() < BEST_STEPS {
             return refuse(8, 0);
         }
         self.check()?;
@@ -39,9 +39,10 @@ impl Task<'_> {
         let view = View::of(self, map);
         let mut distances = view.without_steps();
         let mut further = distances.clone();
+        let mut noted = vec![NO_STEP; distances.len()];
         let mut rounds = 1;
         loop {
-            view.sweep(&distances, &mut further);
+            view.sweep(&distances, &mut further, &mut noted);
             if further == distances {
                 break;
             }
@@ -49,6 +50,7 @@ impl Task<'_> {
             rounds += 1;
         }
         table[..distances.len()].copy_from_slice(&distances);
+        best[..noted.len()].copy_from_slice(&noted);
         Ok(rounds)
     }
 
@@ -85,21 +87,24 @@ impl View {
         self.states.iter().map(|state| if hold(&self.goal, state) { 0 } else { NO_DISTANCE }).collect()
     }
 
-    /// A round: the distances with one step more than those before.
-    fn sweep(&self, before: &[u32], further: &mut [u32]) {
-        for ((state, &distance), least) in self.states.iter().zip(before).zip(further) {
-            *least = distance;
-            for op in &self.operators {
+    /// A round: the distances with one step more than those before. Where one falls, the lowest operator that makes it as low is noted. It falls for the last time in the
+    /// round that has as many steps as the cheapest way takes at least, so that what is noted then is the best step.
+    fn sweep(&self, before: &[u32], further: &mut [u32], noted: &mut [u8]) {
+        for (((state, &distance), least), noted) in self.states.iter().zip(before).zip(further).zip(noted) {
+            // Not written to the tables at each fall: so the largest task took nearly twice as long.
+            let (mut cost, mut pick) = (distance, *noted);
+            for (number, op) in (0..).zip(&self.operators) {
                 if hold(&op.preconditions, state) {
                     let mut after = *state;
                     set(&op.effects, &mut after);
                     let rest = before[self.number(&after)];
-                    if rest != NO_DISTANCE {
-                        // It fits: no distance is above 4,095,000,000, and no share above 1,000,000.
-                        *least = (*least).min(op.share + rest);
+                    // It fits: no distance is above 4,095,000,000, and no share above 1,000,000.
+                    if rest != NO_DISTANCE && op.share + rest < cost {
+                        (cost, pick) = (op.share + rest, number);
                     }
                 }
             }
+            (*least, *noted) = (cost, pick);
         }
     }
 }
