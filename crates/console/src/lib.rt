@@ -1,4 +1,6 @@
 // What the programs that read a task share: the room for its text, and their lines on standard output. Of the desk's answers it knows the refusals alone.
+#![tactic(auto)]
+
 use io::{print_decimal, write_all};
 use libc::STDOUT_FILENO;
 use meaning::limits::BYTES_MOST;

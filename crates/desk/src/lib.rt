@@ -5,6 +5,8 @@
 // The lent tables of a task: `c` counts its variables, operators and maps, and has its edition and, in edition 2, its quota of stored tests; `facts` has at
 // least 1,624 bytes, `costs` 64 words and `shares` 512 words, laid out as crates/tables/specs/Layout.antt says. A lent state has a byte for each variable. A list of operators holds their numbers.
 // A refusal is one of the paper's list: `refusals::number` and `refusals::place` tell its number and its place.
+#![tactic(auto)]
+
 ghost use Rattle.std.specs.Prelude.{◌≡◌};
 ghost use Rattle.tables.specs.Task.{lent, was, left};
 ghost use Rattle.scan.specs.Scan.{tables_fault};

@@ -2,6 +2,8 @@
 // No entry asks anything of its caller: what is lent too short, a length of 0 too, is 8 and nothing else;
 // only `desk_opening` never refuses, and answers the empty part then. The answer is one word (crates/words/specs/Words.antt).
 // Beside each entry stands the theorem that no second outcome could meet its contract (proofs/Unique.antt). include/desk.h tells C the same.
+#![tactic(auto)]
+
 ghost use Rattle.std.specs.Prelude.{◌≡◌, ◌≤◌, length};
 ghost use Rattle.scan.specs.Scan.{tables_fault};
 ghost use Rattle.sequences.specs.Judging.{judged_of};

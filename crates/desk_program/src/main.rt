@@ -1,4 +1,6 @@
 // The desk as a program: a task text on standard input; the bound of the initial state and each map's distance there on standard output, or the refusal.
+#![tactic(auto)]
+
 use console::{TASK_ROOM, say, say_none, say_refused};
 use desk::{bound, distance_at, read};
 use grammar::Reading;

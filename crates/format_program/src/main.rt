@@ -1,4 +1,6 @@
 // The formatter: a task text on standard input; the text of the task that it spells on standard output, or the refusal.
+#![tactic(auto)]
+
 use console::{TASK_ROOM, say_bytes, say_refused};
 use desk::{read, write};
 use grammar::{Reading, Written};

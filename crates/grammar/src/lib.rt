@@ -1,4 +1,6 @@
 // What a reading of a task text answers, and a writing. The grammar of the text, the text that spells a task, and that the two agree with the scan stand in specs/ and proofs/.
+#![tactic(auto)]
+
 use refusals::Refusal;
 use tables::Counts;
 

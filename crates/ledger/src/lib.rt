@@ -1,4 +1,6 @@
 // The run and its ledger: a run goes in by value and comes back advanced or unchanged, with the answer beside it.
+#![tactic(auto)]
+
 ghost use Rattle.std.specs.Prelude.{◌≡◌, ◌≤◌, ◌<◌, length};
 ghost use Rattle.meaning.specs.Limits.{most_vars, most_ops, most_steps};
 ghost use Rattle.tables.specs.Layout.{facts_room};

@@ -1,4 +1,6 @@
 // Judging by the first records of a row that is held by value. A row has 80 records, more than there may be operators, so that rows that are too long can be lent too.
+#![tactic(auto)]
+
 ghost use Rattle.std.specs.Prelude.{◌≡◌, ◌≤◌, take};
 ghost use Rattle.sequences.specs.Judging.{judged_of};
 ghost use Rattle.records.specs.Records.{records_tables};

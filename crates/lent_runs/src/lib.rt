@@ -1,4 +1,6 @@
 // A run in lent memory: taken out of it, and handed back into it.
+#![tactic(auto)]
+
 ghost use Rattle.std.specs.Prelude.{◌≡◌, ◌+◌, ◌≤◌, length, get_or};
 ghost use Rattle.lent_runs.specs.Lent.{placed, run_bytes, run_words, run_in, bytes_with, words_with};
 ghost use Rattle.lent_runs.specs.Left.{run_short, run_left, handed};

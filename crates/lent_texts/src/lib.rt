@@ -1,4 +1,6 @@
 // A text so far in lent words: taken out of them, and written back into them.
+#![tactic(auto)]
+
 ghost use Rattle.std.specs.Prelude.{◌≡◌, ◌≤◌, length};
 ghost use Rattle.lent_texts.specs.Lent.{text_words, text_short, halt_word, halt_of, ended_word, so_far_in, words_with, words_ended};
 ghost use Rattle.tables.specs.Task.{was, left};

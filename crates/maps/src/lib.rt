@@ -1,4 +1,6 @@
 // A map's classes as a task of their own, at any row of prices; what its tables say; and rows of numbers, one for each of its states.
+#![tactic(auto)]
+
 pub mod classes;
 pub mod parts;
 pub mod rows;

@@ -1,4 +1,6 @@
 // The two kinds of number that must not be swapped, and the limits. What tasks, sequences, views and bounds mean stands in specs/.
+#![tactic(auto)]
+
 ghost use Rattle.std.specs.Prelude.{◌≡◌};
 
 pub mod limits;

@@ -1,5 +1,7 @@
 // THE TEXT IN PIECES: a state by value goes from piece to piece, what has been read so far stands in a lent work area, and the end answers as a reading of the
 // whole text does. The text itself is kept nowhere.
+#![tactic(auto)]
+
 ghost use Rattle.std.specs.Prelude.{◌≡◌, ◌≤◌, length, replicate};
 ghost use Rattle.pieces.specs.Pieces.{begun_text, bytes_with, lent_short, piece_left, piece_taken, end_left, text_ended};
 ghost use Rattle.tables.specs.Task.{was, left};

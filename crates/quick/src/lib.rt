@@ -1,4 +1,6 @@
 // The distances and best steps of a map at any row of prices without a sweep: from the goals backwards, the state of the least label first.
+#![tactic(auto)]
+
 pub mod run;
 
 ghost use Rattle.std.specs.Prelude.{◌≡◌, [], ℕ, ◌*◌, ◌≤◌, ◌<◌, length, get_or};

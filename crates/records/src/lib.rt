@@ -1,4 +1,6 @@
 // Judging a sequence with the operators taken from one lent row of records, cost and facts together.
+#![tactic(auto)]
+
 ghost use Rattle.std.specs.Prelude.{◌≡◌};
 ghost use Rattle.sequences.specs.Judging.{judged_of};
 ghost use Rattle.records.specs.Records.{records_tables};

@@ -1,5 +1,7 @@
 // The entry over a lent row of records, run: case A with its operators in a row, and what is answered for some lists of operators; then the same in edition 2,
 // at a quota that is too small, and at one that is just reached.
+#![tactic(auto)]
+
 use io::{print_decimal, write_all};
 use lent_rows::judge_first;
 use libc::STDOUT_FILENO;

@@ -1,4 +1,6 @@
 // The refusals of the paper's list, each with its number and its place.
+#![tactic(auto)]
+
 ghost use Rattle.std.specs.Prelude.{◌≡◌};
 ghost use Rattle.refusals.specs.Listed.{number_of, place_of};
 

@@ -1,4 +1,6 @@
 // The scan for the first fault of handed-in tables, and of a handed-in state.
+#![tactic(auto)]
+
 ghost use Rattle.std.specs.Prelude.{◌≡◌, ◌&&◌, [], ◌≤◌, ◌<◌, leb, ltb, length};
 ghost use Rattle.meaning.specs.Limits.{most_ops, most_maps};
 ghost use Rattle.meaning.specs.Split.{sum};

@@ -1,4 +1,6 @@
 // Step sequences: judging a lent list of operators, the cheaper of two lists, and the opening part of the cheaper one.
+#![tactic(auto)]
+
 ghost use Rattle.std.specs.Prelude.{◌≡◌};
 ghost use Rattle.tables.specs.Task.{lent, was};
 ghost use Rattle.sequences.specs.Judging.{judged_of};

@@ -1,4 +1,6 @@
 // The lent tables of a task: counts by value, facts as bytes, costs and shares as words; their readers, a row of classes, and one step of a state.
+#![tactic(auto)]
+
 pub mod classes;
 pub mod lines;
 pub mod readers;

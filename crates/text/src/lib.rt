@@ -1,4 +1,6 @@
 // The reader of the task text: a byte at a time, into a work area; the lent tables are written at the end, on acceptance only.
+#![tactic(auto)]
+
 ghost use Rattle.std.specs.Prelude.{◌≡◌};
 ghost use Rattle.grammar.specs.Fields.{leaves};
 ghost use Rattle.grammar.specs.Grammar.{read_text};

@@ -1,5 +1,7 @@
 // The vectors: a script on standard input is carried out against the desk's entries, and what they answer and change is printed.
 // The form of a script and of what is printed is in docs/VECTORS.md.
+#![tactic(auto)]
+
 mod answers;
 mod calls;
 mod rows;

@@ -1,4 +1,6 @@
 // Goal distances and best steps in simplified views, and the summed bound of a state.
+#![tactic(auto)]
+
 pub mod sums;
 
 ghost use Rattle.std.specs.Prelude.{◌≡◌};

@@ -1,4 +1,6 @@
 // One word an answer, for C: a kind below 256 and a number above it. A refusal's kind is its number on the paper's list, and the number its place.
+#![tactic(auto)]
+
 ghost use Rattle.std.specs.Prelude.{◌≡◌, ◌≤◌};
 ghost use Rattle.sequences.specs.Choosing.{steps_of};
 ghost use Rattle.meaning.specs.Limits.{most_steps};

@@ -1,4 +1,6 @@
 // The writer of the task text: the tables are judged first, and then the task's text goes into the lent buffer, line by line.
+#![tactic(auto)]
+
 ghost use Rattle.std.specs.Prelude.{◌≡◌, ◌≤◌};
 ghost use Rattle.meaning.specs.Limits.{most_vars, most_ops, most_maps};
 ghost use Rattle.tables.specs.Task.{task_of, lent, was, left};
