@@ -18,7 +18,7 @@ const RUBBISH: u8 = 255;
 const TURNS: u64 = 40_000;
 
 // A text on its way: the text so far, how it is cut, and how many of its bytes were taken.
-#[derive(Drop)]
+#[derive(Clone, Copy)]
 struct Fed {
     so_far: SoFar,
     cut: Cut,
@@ -152,7 +152,7 @@ fn alike(
 }
 
 // An answer, and whether the text in pieces gets the same.
-#[derive(Drop)]
+#[derive(Clone, Copy)]
 pub struct Told {
     pub reading: Reading,
     pub alike: bool,

@@ -5,14 +5,14 @@ use refusals::Refusal;
 use tables::Counts;
 
 // What the reader answers: the task's counts, or why not.
-#[derive(Drop)]
+#[derive(Clone, Copy)]
 pub enum Reading {
     Accepted(Counts),
     Refused(Refusal),
 }
 
 // What the writer answers: how many bytes the task's text has, or why there is none.
-#[derive(Drop)]
+#[derive(Clone, Copy)]
 pub enum Written {
     Length(u32),
     Refused(Refusal),

@@ -38,7 +38,7 @@ pub const STORED: usize = COST_COLUMNS;
 pub const COLUMNS: usize = COST_COLUMNS + 1;
 
 // A run: its start, the operators of its steps, how many they are, the state now, and the columns. Unused places are 0.
-#[derive(Drop)]
+#[derive(Clone, Copy)]
 pub struct Run {
     pub start: [u8; 8],
     pub log: [u32; STEPS_MOST],
@@ -48,7 +48,7 @@ pub struct Run {
 }
 
 // What an offer, or a start, is answered.
-#[derive(Drop)]
+#[derive(Clone, Copy)]
 pub enum Answer {
     Accepted,
     Repeated,
@@ -56,7 +56,7 @@ pub enum Answer {
 }
 
 // The run after an offer or a start, with the answer.
-#[derive(Drop)]
+#[derive(Clone, Copy)]
 pub struct Offered {
     pub run: Run,
     pub answer: Answer,

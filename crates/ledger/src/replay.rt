@@ -17,14 +17,14 @@ use tables::readers::{eff_row, pre_row};
 use tables::steps::{can_store, fact_holds, value_after};
 
 // Where a run stands: the state now and the columns.
-#[derive(Drop)]
+#[derive(Clone, Copy)]
 pub struct Standing {
     pub now: [u8; 8],
     pub columns: [u32; COLUMNS],
 }
 
 // Where the steps of a log lead, as far as each can be the next, and whether that is the whole log.
-#[derive(Drop)]
+#[derive(Clone, Copy)]
 pub struct Tried {
     pub ok: bool,
     pub at: Standing,

@@ -24,7 +24,7 @@ pub const NO_OP: u8 = 255;
 const PRICES_ROOM: usize = 64;
 
 // A cost, and an operator by which it is attained.
-#[derive(Drop)]
+#[derive(Clone, Copy)]
 pub struct Pick {
     pub cost: u32,
     pub op: u8,

@@ -6,11 +6,11 @@ ghost use Rattle.std.specs.Prelude.{◌≡◌};
 pub mod limits;
 
 // The number of an operator.
-#[derive(Drop)]
+#[derive(Clone, Copy)]
 pub struct OpNo(pub u32);
 
 // The number of an abstract state.
-#[derive(Drop)]
+#[derive(Clone, Copy)]
 pub struct StateNo(pub u32);
 
 // An operator's number as an index of costs and shares.

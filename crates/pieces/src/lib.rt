@@ -22,7 +22,7 @@ use text::step::feed_piece;
 pub const AREA_LENT: usize = 8192;
 
 // A text so far: where its reading stands, how many bytes it has (one too many stands for all above the most), and whether it has ended.
-#[derive(Drop)]
+#[derive(Clone, Copy)]
 pub struct SoFar {
     pub at: Ctrl,
     pub bytes: u32,
@@ -30,14 +30,14 @@ pub struct SoFar {
 }
 
 // The text so far after a piece, and whether the piece was taken (clean) or why not.
-#[derive(Drop)]
+#[derive(Clone, Copy)]
 pub struct Taken {
     pub text: SoFar,
     pub found: Found,
 }
 
 // The text so far after its end, and the answer.
-#[derive(Drop)]
+#[derive(Clone, Copy)]
 pub struct Ended {
     pub text: SoFar,
     pub reading: Reading,

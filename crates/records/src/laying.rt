@@ -23,7 +23,7 @@ pub const OPS_MOST: usize = 64;
 const OPS_MORE: usize = 65;
 
 // The facts and the costs of a task.
-#[derive(Drop)]
+#[derive(Clone, Copy)]
 pub struct Laid {
     pub facts: [u8; 1624],
     pub costs: [u32; 64],

@@ -15,7 +15,7 @@ pub mod laying;
 pub mod rows;
 
 // An operator: its cost, a place a variable for its preconditions and its effects (0 for nothing, k + 1 for the value k), and how many tests it stores.
-#[derive(Drop)]
+#[derive(Clone, Copy)]
 pub struct OpRecord {
     pub cost: u32,
     pub pre: [u8; 8],

@@ -5,7 +5,7 @@ ghost use Rattle.std.specs.Prelude.{◌≡◌};
 ghost use Rattle.refusals.specs.Listed.{number_of, place_of};
 
 // Why the desk says no. What a variant holds is the place: a line, a variable, a step or a length.
-#[derive(Drop)]
+#[derive(Clone, Copy)]
 pub enum Refusal {
     TextTooLong,
     OffForm(u32),

@@ -30,7 +30,7 @@ use tables::readers::{
 use tables::steps::is_idle;
 
 // What a scan finds: nothing, or the first fault.
-#[derive(Drop)]
+#[derive(Clone, Copy)]
 pub enum Found {
     Clean,
     Fault(Refusal),

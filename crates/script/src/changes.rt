@@ -54,7 +54,7 @@ const PRIME: u64 = 1_000_003;
 
 // The changed places of an array so far: how many they are, how many values stand on the line that isn't ended (0 if there is none), and the digest of the places
 // that aren't printed.
-#[derive(Drop)]
+#[derive(Clone, Copy)]
 pub struct Tally {
     pub seen: u64,
     pub on_line: u64,

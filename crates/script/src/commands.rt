@@ -11,7 +11,7 @@ const DIGITS: u32 = 10;
 const HIGHEST: u64 = 4_294_967_295;
 
 // The letter, the numbers, how many have begun, the digits of the last one so far, and whether the line is of the form so far.
-#[derive(Drop)]
+#[derive(Clone, Copy)]
 pub struct Command {
     pub letter: u8,
     pub values: [u32; NUMBERS],

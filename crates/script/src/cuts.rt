@@ -18,7 +18,7 @@ const FACTOR: u64 = 48_271;
 
 // The cut at one of its pieces: the lengths that were told and how many they are, none if a rule tells them; the number of the piece; and its
 // chance, which is 0 where the text is cut into single bytes.
-#[derive(Drop)]
+#[derive(Clone, Copy)]
 pub struct Cut {
     pub lengths: [u32; NUMBERS],
     pub count: usize,

@@ -8,21 +8,21 @@ use libc::STDIN_FILENO;
 pub const TURNS: u64 = 4_000_000_000;
 
 // Where the reading stands: the place of the next byte in the buffer, and how many bytes the buffer holds.
-#[derive(Drop)]
+#[derive(Clone, Copy)]
 pub struct Input {
     pub at: usize,
     pub len: usize,
 }
 
 // The next byte of the input, and where the reading stands after it; or the input's end.
-#[derive(Drop)]
+#[derive(Clone, Copy)]
 pub enum Next {
     Byte(u8, Input),
     End,
 }
 
 // A line of the script, and where the reading stands after it. The last line is not whole if it has no line end.
-#[derive(Drop)]
+#[derive(Clone, Copy)]
 pub struct Got {
     pub whole: bool,
     pub line: Line,
@@ -30,7 +30,7 @@ pub struct Got {
 }
 
 // How many bytes of a text are kept, and where the reading stands after it.
-#[derive(Drop)]
+#[derive(Clone, Copy)]
 pub struct Took {
     pub len: usize,
     pub input: Input,

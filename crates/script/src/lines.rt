@@ -10,7 +10,7 @@ pub const MOST: usize = 200;
 const ROOM: usize = 201;
 
 // The bytes so far, and how many they are.
-#[derive(Drop)]
+#[derive(Clone, Copy)]
 pub struct Line {
     pub bytes: [u8; ROOM],
     pub len: usize,

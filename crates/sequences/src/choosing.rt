@@ -16,14 +16,14 @@ use tables::readers::mark_of;
 use tables::steps::{meets_goal, state_after};
 
 // A list judged up to the first moment a goal holds: after how many steps, and at what cost; or it is out.
-#[derive(Drop)]
+#[derive(Clone, Copy)]
 pub enum Reached {
     After(usize, u32),
     Out,
 }
 
 // The opening part that is chosen of two lists: of which list, of how many steps, at what cost; no part; or why the input was refused.
-#[derive(Drop)]
+#[derive(Clone, Copy)]
 pub enum Choice {
     FirstPart(usize, u32),
     SecondPart(usize, u32),
@@ -32,7 +32,7 @@ pub enum Choice {
 }
 
 // The cheaper list, with the cost up to its first goal moment; neither; or why the input was refused.
-#[derive(Drop)]
+#[derive(Clone, Copy)]
 pub enum Cheaper {
     First(u32),
     Second(u32),

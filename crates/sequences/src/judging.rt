@@ -14,7 +14,7 @@ use tables::readers::mark_of;
 use tables::steps::{meets_goal, state_after};
 
 // A sequence passed, at its cost; or why it didn't.
-#[derive(Drop)]
+#[derive(Clone, Copy)]
 pub enum Judged {
     Passed(u32),
     Refused(Refusal),

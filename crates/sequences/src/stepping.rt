@@ -12,7 +12,7 @@ use tables::readers::{byte_at, cost_at};
 use tables::steps::{can_store, may_run};
 
 // What a step answers: it was taken, at its cost; there is no such operator; it may not run; it stores beyond the quota.
-#[derive(Drop)]
+#[derive(Clone, Copy)]
 pub enum Stepped {
     Ran(u32),
     NoSuch,

@@ -24,7 +24,7 @@ pub const NO_COST: u32 = 4294967295;
 pub const NO_OP: u8 = 255;
 
 // A least cost, and the lowest operator that attains it.
-#[derive(Drop)]
+#[derive(Clone, Copy)]
 pub struct Pick {
     pub cost: u32,
     pub op: u8,

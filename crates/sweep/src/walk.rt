@@ -13,7 +13,7 @@ use tables::readers::{DOM_ROW, byte_at, eff_row, row_at};
 use tables::steps::{may_run, value_after};
 
 // What an operator does at a state: a step to a state, or none.
-#[derive(Drop)]
+#[derive(Clone, Copy)]
 pub enum Step {
     To(StateNo),
     Stop,

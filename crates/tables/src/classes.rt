@@ -10,14 +10,14 @@ ghost use Rattle.tables.specs.Task.{was};
 use crate::readers::row_at;
 
 // The classes of a row as a mask, or a class beyond them all.
-#[derive(Drop)]
+#[derive(Clone, Copy)]
 pub enum Mask {
     Bits(u32),
     Beyond,
 }
 
 // What a variable's classes are: so many with none missing; or one is missing, or outside.
-#[derive(Drop)]
+#[derive(Clone, Copy)]
 pub enum Classes {
     Count(u32),
     Missing,

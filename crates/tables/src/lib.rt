@@ -7,7 +7,7 @@ pub mod readers;
 pub mod steps;
 
 // How many variables, operators and maps the task has; the edition of its text, and the quota of stored tests, which edition 1 hasn't: there it isn't read.
-#[derive(Drop)]
+#[derive(Clone, Copy)]
 pub struct Counts {
     pub vars: u32,
     pub ops: u32,

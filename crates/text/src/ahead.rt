@@ -18,7 +18,7 @@ use crate::{Ctrl, Seen, Turn};
 use meaning::limits::COST_MOST;
 
 // How far was read ahead, and whose number is due there.
-#[derive(Drop)]
+#[derive(Clone, Copy)]
 pub struct Ahead {
     pub at: usize,
     pub turn: Turn,
@@ -26,7 +26,7 @@ pub struct Ahead {
 }
 
 // How far the items of a loop reach, the next of them, and the classes seen.
-#[derive(Drop)]
+#[derive(Clone, Copy)]
 pub struct Items {
     pub at: usize,
     pub next: u32,

@@ -25,7 +25,7 @@ use tables::Counts;
 use whole::read_by_machine;
 
 // Why a reading stopped: off form, out of range, not rising, a class missing, too many states, an idle operator.
-#[derive(Drop)]
+#[derive(Clone, Copy)]
 pub enum Halt {
     Going,
     Form,
@@ -37,7 +37,7 @@ pub enum Halt {
 }
 
 // Where in the text: the part of the line, the field, the place in its keyword, and the line's row among those of its kind.
-#[derive(Drop)]
+#[derive(Clone, Copy)]
 pub struct Spot {
     pub part: u32,
     pub field: u32,
@@ -46,14 +46,14 @@ pub struct Spot {
 }
 
 // The digits read of a number: what kind of run they are, and their value.
-#[derive(Drop)]
+#[derive(Clone, Copy)]
 pub struct Digits {
     pub run: u32,
     pub val: u32,
 }
 
 // Whose number it is: the variable, the least variable allowed, the place in a row.
-#[derive(Drop)]
+#[derive(Clone, Copy)]
 pub struct Turn {
     pub var: u32,
     pub least: u32,
@@ -61,14 +61,14 @@ pub struct Turn {
 }
 
 // Of a map: the classes seen of the variable as a mask, and the abstract states of the variables before it.
-#[derive(Drop)]
+#[derive(Clone, Copy)]
 pub struct Seen {
     pub mask: u32,
     pub prod: u32,
 }
 
 // Where the reading stands between two bytes. The one field that is no word stands last: before others it would leave a gap, and each copy would be in pieces.
-#[derive(Drop)]
+#[derive(Clone, Copy)]
 pub struct Ctrl {
     pub line: u32,
     pub spot: Spot,

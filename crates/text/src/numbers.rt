@@ -11,7 +11,7 @@ use meaning::limits::COST_MOST;
 pub const NO_DIGIT: u32 = 10;
 
 // Where the digits of a number end, and their value.
-#[derive(Drop)]
+#[derive(Clone, Copy)]
 pub struct Run {
     pub at: usize,
     pub val: u32,

@@ -17,7 +17,7 @@ use tables::steps::value_after;
 pub const TURNS_ROOM: usize = 192;
 
 // An operator turned round: what is taken off the number of the state after it, what is put on, and how many offsets there are.
-#[derive(Drop)]
+#[derive(Clone, Copy)]
 pub struct Turned {
     pub drop: u32,
     pub lift: u32,

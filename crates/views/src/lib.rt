@@ -18,14 +18,14 @@ use sweep::rounds::{NO_COST, NO_OP};
 use tables::Counts;
 
 // The answer of `distances`: the count of rounds, or why not.
-#[derive(Drop)]
+#[derive(Clone, Copy)]
 pub enum DistancesAnswer {
     Rounds(u32),
     Refused(Refusal),
 }
 
 // The answer of `distance_at`: the distance, none, or why not.
-#[derive(Drop)]
+#[derive(Clone, Copy)]
 pub enum DistanceAnswer {
     Of(u32),
     Nowhere,
@@ -33,7 +33,7 @@ pub enum DistanceAnswer {
 }
 
 // The answer of `best_at`: the operator to take, none, or why not.
-#[derive(Drop)]
+#[derive(Clone, Copy)]
 pub enum BestAnswer {
     Take(u32),
     Halt,
@@ -41,7 +41,7 @@ pub enum BestAnswer {
 }
 
 // The answer of `bound`: the sum, none, or why not.
-#[derive(Drop)]
+#[derive(Clone, Copy)]
 pub enum BoundAnswer {
     Of(u64),
     Nowhere,

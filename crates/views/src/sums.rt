@@ -13,7 +13,7 @@ use sweep::rounds::NO_COST;
 use tables::Counts;
 
 // A sum under way: whether all maps so far said a number, and then their total.
-#[derive(Drop)]
+#[derive(Clone, Copy)]
 pub struct Sum {
     pub all: bool,
     pub total: u64,
