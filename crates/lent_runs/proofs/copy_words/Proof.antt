@@ -9,18 +9,18 @@ use native.Mathlib.Omega.{arith}
 use Rattle.lent_runs.proofs.copy_words.Statement.{statement}
 use Rattle.lent_runs.proofs.copy_words.Tie as tie
 
-abbrev invariant-loop : tie.invariant-loop
+abbrev invariant-loop : tie.invariant-loop-k
 invariant-loop from i to₀ j n k₀ to k = (k ≤ n) × (to ≡ placed (λ m. get_or from (i + m) 0) j to₀ k)
 
-abbrev decreases-loop : tie.decreases-loop
+abbrev decreases-loop : tie.decreases-loop-k
 decreases-loop from i to₀ j n k₀ to k = n - k
 
-loop-holds : tie.Need-loop-init invariant-loop decreases-loop
+loop-holds : tie.Need-loop-k-init invariant-loop decreases-loop
 unfolding placed
 loop-holds c = (omega arith, refl)
 
-pub copy-words-spec : {M : Type 1} → statement M
-copy-words-spec =
+pub copy_words_spec : {M : Type 1} → statement M
+copy_words_spec =
     tie.close
     (tie.spec
     invariant-loop
@@ -31,9 +31,9 @@ copy-words-spec =
     (λ c. search rules)
     (λ c. search rules)
     (λ c. search rules)
-    (λ c. omega (arith, placed_length _ _ _ _ _ c.before.before.loop.invariant.1))
+    (λ c. omega (arith, placed_length _ _ _ _ _ c.before.before.loop-k.invariant.1))
     (λ c. search rules)
     (λ c. search rules)
-    (λ c. (omega arith, placed_next _ _ _ _ _ _ c.before.before.loop.invariant.1 refl))
-    (λ c. placed_length _ _ _ _ _ c.before.loop.invariant.1)
-    (λ c. placed_end _ _ _ _ _ _ c.before.loop.invariant.1 (omega arith) (omega arith)))
+    (λ c. (omega arith, placed_next _ _ _ _ _ _ c.before.before.loop-k.invariant.1 refl))
+    (λ c. placed_length _ _ _ _ _ c.before.loop-k.invariant.1)
+    (λ c. placed_end _ _ _ _ _ _ c.before.loop-k.invariant.1 (omega arith) (omega arith)))

@@ -7,19 +7,19 @@ use native.Mathlib.Omega.{arith}
 use Rattle.lent_runs.proofs.put_words.Statement.{statement}
 use Rattle.lent_runs.proofs.put_words.Tie as tie
 
-slice-aggregate-copy-words : tie.Need-slice-aggregate-copy-words
+slice-aggregate-copy-words : tie.Need-slice_bounds-copy_words-end
 slice-aggregate-copy-words c = search rules
 
-slice-aggregate-copy-words-2 : tie.Need-slice-aggregate-copy-words-2
+slice-aggregate-copy-words-2 : tie.Need-slice_bounds-copy_words-end-2
 slice-aggregate-copy-words-2 c = search rules
 
 returns : tie.Need-returns
 unfolding most_steps
-returns c = words_put _ _ _ _ c.before.before.before.before.before.before.before.copy-words.ensures c.before.before.copy-words2.ensures
+returns c = words_put _ _ _ _ c.before.before.before.before.before.before.before.copy_words.ensures c.before.before.copy_words-2.ensures
 
-pub put-words-spec : {M : Type 1} → statement M
+pub put_words_spec : {M : Type 1} → statement M
 unfolding most_steps
-put-words-spec =
+put_words_spec =
     tie.close
     (tie.spec
     slice-aggregate-copy-words

@@ -12,11 +12,11 @@ returns c =
     let now = columns.before.before.before in
     let log = now.before.before.before in
     let start = log.before.before.before in
-    run_taken _ _ _ _ _ _ start.copy-bytes.ensures log.copy-words.ensures now.copy-bytes2.ensures columns.copy-words2.ensures
+    run_taken _ _ _ _ _ _ start.copy_bytes.ensures log.copy_words.ensures now.copy_bytes-2.ensures columns.copy_words-2.ensures
 
-pub run-in-spec : {M : Type 1} → statement M
+pub run_in_spec : {M : Type 1} → statement M
 unfolding most_steps
-run-in-spec =
+run_in_spec =
     tie.close
     (tie.spec
     (λ c. search rules)

@@ -6,11 +6,11 @@ use native.Mathlib.Omega.{arith}
 use Rattle.lent_runs.proofs.run_short.Statement.{statement}
 use Rattle.lent_runs.proofs.run_short.Tie as tie
 
-returns-2 : tie.Need-returns-2
+returns-2 : tie.Need-returns
 unfolding most_steps
 returns-2 c = short_words _ _ _ (omega arith) refl
 
-pub run-short-spec : {M : Type 1} → statement M
-run-short-spec = tie.close (tie.spec
+pub run_short_spec : {M : Type 1} → statement M
+run_short_spec = tie.close (tie.spec
     (λ c. short_bytes _ _ (omega arith))
     returns-2)

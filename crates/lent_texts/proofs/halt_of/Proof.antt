@@ -4,22 +4,22 @@ use Rattle.lent_texts.specs.Lent.{halt_of}
 use Rattle.lent_texts.proofs.halt_of.Statement.{statement}
 use Rattle.lent_texts.proofs.halt_of.Tie as tie
 
-returns-7 : tie.Need-returns-7
+returns-7 : tie.Need-returns-in_default
 unfolding halt_of
 returns-7 c =
-    let late = c.match.rest in
+    let late = c.in-0.rest in
     let early = late.0.0.0 in
     simp (ne_eqb _ _ early.0.0.1, ne_eqb _ _ early.0.1, ne_eqb _ _ early.1, ne_eqb _ _ late.0.0.1, ne_eqb _ _ late.0.1, ne_eqb _ _ late.1)
 
-pub halt-of-spec : {M : Type 1} → statement M
+pub halt_of_spec : {M : Type 1} → statement M
 unfolding halt_of
-halt-of-spec =
+halt_of_spec =
     tie.close
     (tie.spec
-    (λ c. simp c.match.keys1)
-    (λ c. simp c.match.keys2)
-    (λ c. simp c.match.keys3)
-    (λ c. simp c.match.keys4)
-    (λ c. simp c.match.keys5)
-    (λ c. simp c.match.keys6)
+    (λ c. simp c.in-0.keys1)
+    (λ c. simp c.in-0.keys2)
+    (λ c. simp c.in-0.keys3)
+    (λ c. simp c.in-0.keys4)
+    (λ c. simp c.in-0.keys5)
+    (λ c. simp c.in-0.keys6)
     returns-7)

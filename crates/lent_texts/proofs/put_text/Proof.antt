@@ -11,10 +11,10 @@ returns : tie.Need-returns
 unfolding words_of
 returns c =
     let a = c.before.before.before.before in
-    rw (c.before.ended-word.ensures, c.halt-word.ensures) (written_so a.args.s a.args.words.now a.requires)
+    rw (c.before.ended_word.ensures, c.halt_word.ensures) (written_so a.args.s a.args.words.now a.requires)
 
-pub put-text-spec : {M : Type 1} → statement M
-put-text-spec =
+pub put_text_spec : {M : Type 1} → statement M
+put_text_spec =
     tie.close
     (tie.spec
     (λ c κs. search rules)

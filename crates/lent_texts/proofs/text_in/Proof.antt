@@ -6,10 +6,10 @@ use Rattle.lent_texts.proofs.text_in.Tie as tie
 
 returns : tie.Need-returns
 unfolding so_far_in
-returns c = simp c.before.before.halt-of.ensures
+returns c = simp c.before.before.halt_of.ensures
 
-pub text_in-spec : {M : Type 1} → statement M
-text_in-spec =
+pub text_in_spec : {M : Type 1} → statement M
+text_in_spec =
     tie.close
     (tie.spec
     (λ c. search rules)

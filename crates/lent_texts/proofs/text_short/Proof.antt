@@ -4,6 +4,6 @@ use Rattle.lent_texts.specs.Lent.{text_short}
 use Rattle.lent_texts.proofs.text_short.Statement.{statement}
 use Rattle.lent_texts.proofs.text_short.Tie as tie
 
-pub text-short-spec : {M : Type 1} → statement M
+pub text_short_spec : {M : Type 1} → statement M
 unfolding text_short
-text-short-spec = tie.close (tie.spec (λ c. search rules))
+text_short_spec = tie.close (tie.spec (λ c. search rules))

@@ -11,19 +11,19 @@ use Rattle.maps.proofs.Makes.{made_none, made_more}
 use Rattle.maps.proofs.share_row.Statement.{statement}
 use Rattle.maps.proofs.share_row.Tie as tie
 
-abbrev invariant-loop : tie.invariant-loop
+abbrev invariant-loop : tie.invariant-loop-o
 invariant-loop shares map prices₀ o₀ prices o = (o ≤ most_ops) × (length prices ≡ most_ops) × Made (λ u x. x ≡ share_at shares map u) o prices₀ prices
 
-abbrev decreases-loop : tie.decreases-loop
+abbrev decreases-loop : tie.decreases-loop-o
 decreases-loop shares map prices₀ o₀ prices o = most_ops - o
 
-loop-again : tie.Need-loop-preserved invariant-loop decreases-loop
+loop-again : tie.Need-loop-o-preserved invariant-loop decreases-loop
 loop-again c =
-    let l = c.before.before.loop in
-    (search rules, search rules, made_more l.invariant.2 (omega (arith, l.invariant.1)) c.share-at.ensures)
+    let l = c.before.before.loop-o in
+    (search rules, search rules, made_more l.invariant.2 (omega (arith, l.invariant.1)) c.share_at.ensures)
 
-pub share-row-spec : {M : Type 1} → statement M
-share-row-spec =
+pub share_row_spec : {M : Type 1} → statement M
+share_row_spec =
     tie.close
     (tie.spec
     invariant-loop
@@ -36,4 +36,4 @@ share-row-spec =
     (λ c. search rules)
     (λ c. search rules)
     loop-again
-    (λ c o h. c.before.loop.invariant.2.made o (omega (arith, c.loop-test.false))))
+    (λ c o h. c.before.loop-o.invariant.2.made o (omega (arith, c.loop-o-test.false))))

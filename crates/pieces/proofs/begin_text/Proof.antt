@@ -9,7 +9,7 @@ use Rattle.pieces.proofs.begin_text.Tie as tie
 
 returns : tie.Need-returns
 unfolding begun_text
-returns c = ap (λ (k : Ctrl). so_far k 0 false) c.start-of-text.ensures
+returns c = ap (λ (k : Ctrl). so_far k 0 false) c.start_of_text.ensures
 
-pub begin-text-spec : {M : Type 1} → statement M
-begin-text-spec = tie.close (tie.spec (λ c κs. search rules) returns)
+pub begin_text_spec : {M : Type 1} → statement M
+begin_text_spec = tie.close (tie.spec (λ c κs. search rules) returns)

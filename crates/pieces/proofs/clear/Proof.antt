@@ -5,7 +5,7 @@ use Rattle.pieces.proofs.clear.Statement.{statement}
 use Rattle.pieces.proofs.clear.Tie as tie
 
 returns : tie.Need-returns
-returns c = cleared _ _ c.before.before.clear-bytes.ensures
+returns c = cleared _ _ c.before.before.clear_bytes.ensures
 
 pub clear_spec : {M : Type 1} → statement M
 clear_spec = tie.close (tie.spec (λ c κs. search rules) (λ c. search rules) returns)

@@ -9,29 +9,29 @@ use Rattle.quick.proofs.Imaging.{at_image}
 use Rattle.quick.proofs.at_image.Statement.{statement}
 use Rattle.quick.proofs.at_image.Tie as tie
 
-abbrev start : tie.After-share-row → tie.Start
+abbrev start : tie.After-share_row-prices → tie.Start
 start c = c.before.before.before.before
 
-abbrev row : tie.After-state-index → tie.After-share-row
+abbrev row : tie.After-state_index-a → tie.After-share_row-prices
 row c = c.before.before.before.before.before.before.before.before
 
 -- the place that is read is that of the state's image, one of the map's
-inside : (c : tie.After-state-index) → c.state-index.result < most_states
+inside : (c : tie.After-state_index-a) → c.state_index-a.result < most_states
 inside c =
     let s = start (row c) in
     let a = s.args in
     let below = image_below a.c a.facts.now a.shares.now a.map s.pre.0 s.pre.1 a.s.now s.pre.3 in
-    omega (arith, below, s.pre.0.few_states a.map s.pre.1, c.state-index.ensures, c.before.image-of.ensures)
+    omega (arith, below, s.pre.0.few_states a.map s.pre.1, c.state_index-a.ensures, c.before.image_of.ensures)
 
-view-quick-requires : tie.Need-view-quick-requires
+view-quick-requires : tie.Need-view_quick-requires
 view-quick-requires c κs =
     let r = c.before.before.before in
     let a = (start r).args in
     let pre = (start r).requires in
-    let prices = shares_priced a.c a.shares.now a.map r.share-row.result pre.0.ops r.share-row.ensures pre.2 in
+    let prices = shares_priced a.c a.shares.now a.map r.share_row-prices.result pre.0.ops r.share_row-prices.ensures pre.2 in
     ((pre.0, pre.1, prices), (omega arith, omega arith))
 
-image-of-requires : tie.Need-image-of-requires
+image-of-requires : tie.Need-image_of-requires
 image-of-requires c κs = let pre = (start c.before.before.before.before.before.before).requires in (pre.0, pre.1, pre.3)
 
 returns : tie.Need-returns
@@ -39,13 +39,13 @@ returns c =
     let r = row c in
     let a = (start r).args in
     let pre = (start r).pre in
-    let tables = c.before.before.before.before.view-quick.ensures in
-    at_image a.c a.facts.now a.shares.now a.map pre.0 pre.1 r.share-row.result a.s.now _
-    (λ o l. r.share-row.ensures o (omega (arith, pre.0.ops))) tables.0 tables.1 pre.3
-    (c.state-index.ensures ∙ c.before.image-of.ensures) refl refl
+    let tables = c.before.before.before.before.view_quick.ensures in
+    at_image a.c a.facts.now a.shares.now a.map pre.0 pre.1 r.share_row-prices.result a.s.now _
+    (λ o l. r.share_row-prices.ensures o (omega (arith, pre.0.ops))) tables.0 tables.1 pre.3
+    (c.state_index-a.ensures ∙ c.before.image_of.ensures) refl refl
 
-pub at-image-spec : {M : Type 1} → statement M
-at-image-spec =
+pub at_image_spec : {M : Type 1} → statement M
+at_image_spec =
     tie.close
     (tie.spec
     (λ c κs. search rules)

@@ -9,13 +9,13 @@ use Rattle.quick.proofs.quick_in.Statement.{statement}
 use Rattle.quick.proofs.quick_in.Tie as tie
 
 -- what was handed in; and from the run, and from the goals, what stands before them
-abbrev handed : tie.After-lay-fits → tie.Start
+abbrev handed : tie.After-lay_fits → tie.Start
 handed c = c.before.before.before.before.before.before.before.before.before.before
 
-abbrev laid : tie.After-turn-all → tie.After-lay-fits
+abbrev laid : tie.After-turn_all → tie.After-lay_fits
 laid c = c.before.before.before.before.before
 
-abbrev turned : tie.After-start → tie.After-turn-all
+abbrev turned : tie.After-start → tie.After-turn_all
 turned c = c.before.before.before.before.before.before.before.before
 
 abbrev begun : tie.After-run → tie.After-start
@@ -24,7 +24,7 @@ begun c = c.before.before.before.before.before.before.before.before.before.befor
 abbrev from-run : tie.After-run → tie.Start
 from-run c = handed (laid (turned (begun c)))
 
-turn-all-requires : tie.Need-turn-all-requires
+turn-all-requires : tie.Need-turn_all-requires
 turn-all-requires c κs =
     let pre = (handed c.before.before.before.before).requires.0 in
     (pre.0, pre.2, omega arith, pre.4)
@@ -35,7 +35,7 @@ start-requires c κs =
     let s = handed rows in
     let pre = s.pre.0 in
     let none = s.pre.1.0 in (
-      (pre.0, pre.2, rows.lay-fits.ensures.0, omega (arith, rows.lay-fits.ensures.1, pre.3)),
+      (pre.0, pre.2, rows.lay_fits.ensures.0, omega (arith, rows.lay_fits.ensures.1, pre.3)),
       λ prices.
           fresh (space_of s.args.c s.args.facts.now prices) (walkable_closed s.args.c s.args.facts.now prices pre.0) pre.0.few
           (omega (arith, pre.2, none.0)) (omega (arith, pre.2, none.1)) (λ a l. none.2 a (omega (arith, pre.2))),
@@ -52,16 +52,16 @@ run-requires c κs =
         walk = pre.0;
         priced = pre.1;
         states = pre.2;
-        fit = rows.lay-fits.ensures.0;
-        rows = omega (arith, rows.lay-fits.ensures.1, pre.3);
-        backs = turns.turn-all.ensures.0;
-        room = turns.turn-all.ensures.1.0;
-        lists = omega (arith, turns.turn-all.ensures.1.1, pre.4);
+        fit = rows.lay_fits.ensures.0;
+        rows = omega (arith, rows.lay_fits.ensures.1, pre.3);
+        backs = turns.turn_all.ensures.0;
+        room = turns.turn_all.ensures.1.0;
+        lists = omega (arith, turns.turn_all.ensures.1.1, pre.4);
       },
       run_upto pre.2 (goals.start.ensures s.args.prices.now),
     )
 
-write-distances-requires : tie.Need-write-distances-requires
+write-distances-requires : tie.Need-write_distances-requires
 write-distances-requires c κs =
     let ran = c.before.before.before.before.before.before.before in
     let pre = (from-run ran).requires in
@@ -69,7 +69,7 @@ write-distances-requires c κs =
     let R = ran.run.ensures.0 in
     (omega (arith, is, pre.0.0.few), omega (arith, is, R.size_L), pre.1.1.0, λ a l. R.high a (omega (arith, is)))
 
-write-steps-requires : tie.Need-write-steps-requires
+write-steps-requires : tie.Need-write_steps-requires
 write-steps-requires c κs =
     let ran = c.before.before.before.before.before.before.before.before.before.before.before.before in
     let pre = (from-run ran).requires in
@@ -82,10 +82,10 @@ returns c =
     let s = from-run ran in
     let pre = s.pre.0 in
     let ended = run_ended s.args.c s.args.facts.now s.args.prices.now pre.0 pre.1 ran.run.ensures.0 ran.run.ensures.1 in
-    (distances_shown ended pre.2 c.before.before.before.before.before.before.before.write-distances.ensures, steps_copied ended pre.2 c.before.before.write-steps.ensures)
+    (distances_shown ended pre.2 c.before.before.before.before.before.before.before.write_distances.ensures, steps_copied ended pre.2 c.before.before.write_steps.ensures)
 
-pub quick-in-spec : {M : Type 1} → statement M
-quick-in-spec =
+pub quick_in_spec : {M : Type 1} → statement M
+quick_in_spec =
     tie.close
     (tie.spec
     (λ c κs. let pre = c.before.before.before.before.before.before.before.before.before.requires.0 in (pre.0, omega (arith, pre.2, pre.3)))
@@ -98,8 +98,8 @@ quick-in-spec =
     run-requires
     write-distances-requires
     write-steps-requires
-    (λ c. omega (arith, (laid (turned (begun c.before.before.before.before.before.before.before.before.before.before.before.before.before.before.before))).lay-fits.ensures.1))
-    (λ c. omega (arith, (turned (begun c.before.before.before.before.before.before.before.before.before.before.before.before.before.before.before)).turn-all.ensures.1.1))
+    (λ c. omega (arith, (laid (turned (begun c.before.before.before.before.before.before.before.before.before.before.before.before.before.before.before))).lay_fits.ensures.1))
+    (λ c. omega (arith, (turned (begun c.before.before.before.before.before.before.before.before.before.before.before.before.before.before.before)).turn_all.ensures.1.1))
     (λ c. let ran = c.before.before.before.before.before.before.before.before.before.before.before.before.before.before.before in omega (arith, (begun ran).start.auto, ran.run.auto))
     (λ c. let ran = c.before.before.before.before.before.before.before.before.before.before.before.before.before.before.before in omega (arith, (begun ran).start.auto, ran.run.auto))
     (λ c. search rules)

@@ -4,7 +4,7 @@ use Rattle.quick.proofs.Beginning.{none_yet, rooms_fit}
 use Rattle.quick.proofs.quick_small.Statement.{statement}
 use Rattle.quick.proofs.quick_small.Tie as tie
 
-quick-in-requires : tie.Need-quick-in-requires
+quick-in-requires : tie.Need-quick_in-requires
 quick-in-requires c κs =
     let s = c.before.before.before.before.before.before.before.before.before.before in
     let pre = s.requires in
@@ -12,8 +12,8 @@ quick-in-requires c κs =
     let fit = rooms_fit 64 n s.args.c.ops pre.3 pre.0.ops in
     ((pre.0, pre.1, pre.2, fit.0, fit.1), (none_yet 64 n pre.3, (pre.4, pre.5)))
 
-pub quick-small-spec : {M : Type 1} → statement M
-quick-small-spec =
+pub quick_small_spec : {M : Type 1} → statement M
+quick_small_spec =
     tie.close
     (tie.spec
     (λ c. search rules)

@@ -6,16 +6,16 @@ use Rattle.scan.proofs.Walks.{hands_on, goes_on}
 use Rattle.scan.proofs.charges_fault.Statement.{statement}
 use Rattle.scan.proofs.charges_fault.Tie as tie
 
-returns : tie.Need-returns
+returns : tie.Need-returns-in_default
 unfolding shares_fault split_fault
-returns c = let e = c.enum-told2.given in hands_on _ _ _ e.0.0 c.before.before.shares-fault.ensures e.1
+returns c = let e = c.enum_told-in_default-1.given in hands_on _ _ _ e.0.0 c.before.before.shares_fault-charged.ensures e.1
 
-returns-2 : tie.Need-returns-2
+returns-2 : tie.Need-returns
 unfolding shares_fault split_fault
-returns-2 c = c.split-fault.ensures ∙ goes_on _ _ _ c.before.before.before.shares-fault.ensures c.before.enum_told.given.1
+returns-2 c = c.split_fault.ensures ∙ goes_on _ _ _ c.before.before.before.shares_fault-charged.ensures c.before.enum_told-1.given.1
 
-pub charges-fault-spec : {M : Type 1} → statement M
-charges-fault-spec =
+pub charges_fault_spec : {M : Type 1} → statement M
+charges_fault_spec =
     tie.close
     (tie.spec
     (λ c κs. search rules)

@@ -6,16 +6,16 @@ use Rattle.scan.proofs.Walks.{hands_on, goes_on}
 use Rattle.scan.proofs.dom_fault.Statement.{statement}
 use Rattle.scan.proofs.dom_fault.Tie as tie
 
-returns : tie.Need-returns
+returns : tie.Need-returns-in_default
 unfolding facts_fault
-returns c = let e = c.enum-told2.given in hands_on _ _ _ e.0.0 c.before.before.variables-fault.ensures e.1
+returns c = let e = c.enum_told-in_default-1.given in hands_on _ _ _ e.0.0 c.before.before.variables_fault-doms.ensures e.1
 
-returns-2 : tie.Need-returns-2
+returns-2 : tie.Need-returns
 unfolding facts_fault
-returns-2 c = c.init-fault.ensures ∙ goes_on _ _ _ c.before.before.before.variables-fault.ensures c.before.enum_told.given.1
+returns-2 c = c.init_fault.ensures ∙ goes_on _ _ _ c.before.before.before.variables_fault-doms.ensures c.before.enum_told-1.given.1
 
-pub dom-fault-spec : {M : Type 1} → statement M
-dom-fault-spec =
+pub dom_fault_spec : {M : Type 1} → statement M
+dom_fault_spec =
     tie.close
     (tie.spec
     (λ c κs. search rules)

@@ -6,27 +6,27 @@ use Rattle.scan.specs.Inside.Parts.{head_fault}
 use Rattle.scan.proofs.head_fault.Statement.{statement}
 use Rattle.scan.proofs.head_fault.Tie as tie
 
-returns : tie.Need-returns
+returns : tie.Need-returns-then-not-lies_within
 unfolding head_fault
-returns c = let w = c.before.lies_within in sym (rw (sym w.ensures ∙ not-true w.result c.if1.true))
+returns c = let w = c.before.lies_within in sym (rw (sym w.ensures ∙ not-true w.result c.if-not-lies_within.true))
 
-returns-2 : tie.Need-returns-2
+returns-2 : tie.Need-returns-then-not-lies_within-2
 unfolding head_fault
 returns-2 c =
     let e = c.before.before.before.lies_within in
-    let w = c.before.lies-within2 in
-    sym (rw (sym e.ensures ∙ not-false e.result c.before.before.if1.false, sym w.ensures ∙ not-true w.result c.if2.true))
+    let w = c.before.lies_within-2 in
+    sym (rw (sym e.ensures ∙ not-false e.result c.before.before.if-not-lies_within.false, sym w.ensures ∙ not-true w.result c.if-not-lies_within-2.true))
 
-returns-3 : tie.Need-returns-3
+returns-3 : tie.Need-returns
 unfolding head_fault
 returns-3 c =
     let e = c.before.before.before.before.lies_within in
-    let w = c.before.before.lies-within2 in
-    c.dom-fault.ensures
-    ∙ sym (rw (sym e.ensures ∙ not-false e.result c.before.before.before.if1.false, sym w.ensures ∙ not-false w.result c.before.if2.false))
+    let w = c.before.before.lies_within-2 in
+    c.dom_fault.ensures
+    ∙ sym (rw (sym e.ensures ∙ not-false e.result c.before.before.before.if-not-lies_within.false, sym w.ensures ∙ not-false w.result c.before.if-not-lies_within-2.false))
 
-pub head-fault-spec : {M : Type 1} → statement M
-head-fault-spec =
+pub head_fault_spec : {M : Type 1} → statement M
+head_fault_spec =
     tie.close
     (tie.spec
     (λ c κs. search rules)

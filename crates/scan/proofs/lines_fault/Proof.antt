@@ -29,22 +29,22 @@ spelled c facts costs = task_of (tables c facts costs [])
 abbrev said : ℕ → ℕ → ℕ → Refusal
 said e o v = OutOfRange (line_of_op e o)
 
-abbrev Facts : tie.invariant-loop2
+abbrev Facts : tie.invariant-loop-v
 Facts c facts costs vars ops maps o line v₀ v = (v ≤ vars) × (each (tests (facts_fit facts o) (said c.edition o)) v 0 ≡ Clean)
 
-abbrev decreases-facts : tie.decreases-loop2
+abbrev decreases-facts : tie.decreases-loop-v
 decreases-facts c facts costs vars ops maps o line v₀ v = vars - v
 
-abbrev Ops : tie.invariant-loop
+abbrev Ops : tie.invariant-loop-o
 Ops c facts costs vars ops maps o₀ o = (o ≤ ops) × (each (operator_fault (spelled c facts costs)) o 0 ≡ Clean)
 
-abbrev decreases-ops : tie.decreases-loop
+abbrev decreases-ops : tie.decreases-loop-o
 decreases-ops c facts costs vars ops maps o₀ o = ops - o
 
-abbrev Maps : tie.invariant-loop3
+abbrev Maps : tie.invariant-loop-m
 Maps c facts costs vars ops maps m₀ m = (m ≤ maps) × (each (map_fault (spelled c facts costs)) m 0 ≡ Clean)
 
-abbrev decreases-maps : tie.decreases-loop3
+abbrev decreases-maps : tie.decreases-loop-m
 decreases-maps c facts costs vars ops maps m₀ m = maps - m
 
 abbrev Scan : tie.invariant-scan
@@ -56,137 +56,137 @@ decreases-scan c facts costs vars ops maps = 0
 -- ---- at the walk over the operators: the task, and the test of the operator's facts
 
 abbrev AtOps : Type 0
-AtOps = tie.At-loop Facts decreases-facts Ops decreases-ops Maps decreases-maps Scan decreases-scan
+AtOps = tie.At-loop-o Facts decreases-facts Ops decreases-ops Maps decreases-maps Scan decreases-scan
 
 abbrev task : AtOps → Task
 task l = let a = l.before.before.before.before.args in spelled a.c a.facts.now a.costs.now
 
 abbrev fit : AtOps → ℕ → Bool
-fit l = facts_fit l.before.before.before.before.args.facts.now l.loop.o
+fit l = facts_fit l.before.before.before.before.args.facts.now l.loop-o.o
 
 few : (l : AtOps) → (task l).sas.ops ≤ most_ops
 few l = let x = l.before.before.before.before in few_ops (spelled x.args.c x.args.facts.now []) x.pre
 
 -- ---- in an operator: a fault of it is the first of all; its cost is in range; then its facts decide, and then whether it is idle
 
-stops : (x : tie.After-op-line Facts decreases-facts Ops decreases-ops Maps decreases-maps Scan decreases-scan) (r : ℕ → Refusal)
+stops : (x : tie.After-op_line-line Facts decreases-facts Ops decreases-ops Maps decreases-maps Scan decreases-scan) (r : ℕ → Refusal)
     → let l = x.before.before in
-    operator_fault (task l) l.loop.o ≡ Fault (r (line_of_op (task l).edition l.loop.o)) → Fault (r x.op-line.result) ≡ lines_fault (task l)
+    operator_fault (task l) l.loop-o.o ≡ Fault (r (line_of_op (task l).edition l.loop-o.o)) → Fault (r x.op_line-line.result) ≡ lines_fault (task l)
 stops x r h =
     let l = x.before.before in
-    ap (λ (n : ℕ). Fault (r n)) x.op-line.ensures
-    ∙ sym (operator_decides (task l) l.loop.o (r (line_of_op (task l).edition l.loop.o)) l.loop.invariant.1 x.before.loop-test.true h)
+    ap (λ (n : ℕ). Fault (r n)) x.op_line-line.ensures
+    ∙ sym (operator_decides (task l) l.loop-o.o (r (line_of_op (task l).edition l.loop-o.o)) l.loop-o.invariant.1 x.before.loop-o-test.true h)
 
-cheap : (x : tie.Else1 Facts decreases-facts Ops decreases-ops Maps decreases-maps Scan decreases-scan) → let l = x.before.before.before.before in (task l).sas.cost l.loop.o ≤ most_cost
-cheap x = omega (arith, x.before.cost-at.ensures, x.if1.false)
+cheap : (x : tie.Else-cost_at-gt-COST_MOST Facts decreases-facts Ops decreases-ops Maps decreases-maps Scan decreases-scan) → let l = x.before.before.before.before in (task l).sas.cost l.loop-o.o ≤ most_cost
+cheap x = omega (arith, x.before.cost_at.ensures, x.if-cost_at-gt-COST_MOST.false)
 
 -- its facts are in range
-fitting : (x : tie.After-mark-of Facts decreases-facts Ops decreases-ops Maps decreases-maps Scan decreases-scan)
+fitting : (x : tie.After-mark_of Facts decreases-facts Ops decreases-ops Maps decreases-maps Scan decreases-scan)
     → let l = x.before.before.before.before.before.before.before in
-    each (tests (fit l) (said (task l).edition l.loop.o)) (task l).sas.vars 0 ≡ Clean
+    each (tests (fit l) (said (task l).edition l.loop-o.o)) (task l).sas.vars 0 ≡ Clean
 fitting x =
     let i = x.before.before in
     let l = i.before.before.before.before.before in
-    walk_end (tests (fit l) (said (task l).edition l.loop.o)) (task l).sas.vars i.loop2.v i.loop2.invariant.1 (omega arith) (omega arith)
+    walk_end (tests (fit l) (said (task l).edition l.loop-o.o)) (task l).sas.vars i.loop-v.v i.loop-v.invariant.1 (omega arith) (omega arith)
 
-ended : (x : tie.After-is-idle Facts decreases-facts Ops decreases-ops Maps decreases-maps Scan decreases-scan)
+ended : (x : tie.After-is_idle Facts decreases-facts Ops decreases-ops Maps decreases-maps Scan decreases-scan)
     → let l = x.before.before.before.before.before.before.before.before.before in
-    operator_fault (task l) l.loop.o ≡ unless (not x.is-idle.result) (IdleOperator (line_of_op (task l).edition l.loop.o))
+    operator_fault (task l) l.loop-o.o ≡ unless (not x.is_idle.result) (IdleOperator (line_of_op (task l).edition l.loop-o.o))
 ended x =
     let k = x.before.before in
     let i = k.before.before in
     let l = i.before.before.before.before.before in
     let a = l.before.before.before.before.args in
-    idle_decides (task l) l.loop.o (cheap i.before) (fitting k) (omega (arith, k.mark_of.ensures, x.before.if3.false))
-    (x.is-idle.ensures ∙ is_idle_is (tables a.c a.facts.now a.costs.now []) l.loop.o)
+    idle_decides (task l) l.loop-o.o (cheap i.before) (fitting k) (omega (arith, k.mark_of.ensures, x.before.if-mark_of-gt-MARK_MOST.false))
+    (x.is_idle.ensures ∙ is_idle_is (tables a.c a.facts.now a.costs.now []) l.loop-o.o)
 
 -- ---- after the operators: they are clean; after the count of maps: it is in range
 
-operators : (x : tie.After-loop Facts decreases-facts Ops decreases-ops Maps decreases-maps Scan decreases-scan) → let T = task x.before in each (operator_fault T) T.sas.ops 0 ≡ Clean
+operators : (x : tie.After-loop-o Facts decreases-facts Ops decreases-ops Maps decreases-maps Scan decreases-scan) → let T = task x.before in each (operator_fault T) T.sas.ops 0 ≡ Clean
 operators x =
     let l = x.before in
-    walk_end (operator_fault (task l)) (task l).sas.ops l.loop.o l.loop.invariant.1 (omega arith) (omega arith)
+    walk_end (operator_fault (task l)) (task l).sas.ops l.loop-o.o l.loop-o.invariant.1 (omega arith) (omega arith)
 
-counted : (x : tie.Else5 Facts decreases-facts Ops decreases-ops Maps decreases-maps Scan decreases-scan) → within 1 most_maps (task x.before.before.before).maps ≡ true
-counted x = sym x.before.lies_within.ensures ∙ not-false x.before.lies_within.result x.if5.false
+counted : (x : tie.Else-not-lies_within Facts decreases-facts Ops decreases-ops Maps decreases-maps Scan decreases-scan) → within 1 most_maps (task x.before.before.before).maps ≡ true
+counted x = sym x.before.lies_within.ensures ∙ not-false x.before.lies_within.result x.if-not-lies_within.false
 
 -- ---- the needs
 
-loop2-again : tie.Need-loop2-preserved Facts decreases-facts Ops decreases-ops Maps decreases-maps Scan decreases-scan
+loop2-again : tie.Need-loop-v-preserved Facts decreases-facts Ops decreases-ops Maps decreases-maps Scan decreases-scan
 loop2-again c =
     let i = c.before.before.before in
     let l = i.before.before.before.before.before in
-    let w = c.before.facts-fit in
-    (omega arith, tests_more (fit l) (said (task l).edition l.loop.o) i.loop2.v i.loop2.invariant.1 (sym w.ensures ∙ not-false w.result c.if2.false))
+    let w = c.before.facts_fit in
+    (omega arith, tests_more (fit l) (said (task l).edition l.loop-o.o) i.loop-v.v i.loop-v.invariant.1 (sym w.ensures ∙ not-false w.result c.if-not-facts_fit.false))
 
-loop-again : tie.Need-loop-preserved Facts decreases-facts Ops decreases-ops Maps decreases-maps Scan decreases-scan
+loop-again : tie.Need-loop-o-preserved Facts decreases-facts Ops decreases-ops Maps decreases-maps Scan decreases-scan
 loop-again c =
     let l = c.before.before.before.before.before.before.before.before.before.before in
-    (omega arith, walk_more (operator_fault (task l)) l.loop.o l.loop.invariant.1 (ended c.before ∙ rw c.if4.false refl))
+    (omega arith, walk_more (operator_fault (task l)) l.loop-o.o l.loop-o.invariant.1 (ended c.before ∙ rw c.if-is_idle.false refl))
 
-map-fault-requires : tie.Need-map-fault-requires Facts decreases-facts Ops decreases-ops Maps decreases-maps Scan decreases-scan
+map-fault-requires : tie.Need-map_fault-map-requires Facts decreases-facts Ops decreases-ops Maps decreases-maps Scan decreases-scan
 map-fault-requires c κs =
     let l = c.before.before.before.before.before in
     (l.before.before.before.before.requires, omega (arith, within_says 1 most_maps (task l).maps (counted c.before.before)))
 
-loop3-again : tie.Need-loop3-preserved Facts decreases-facts Ops decreases-ops Maps decreases-maps Scan decreases-scan
+loop3-again : tie.Need-loop-m-preserved Facts decreases-facts Ops decreases-ops Maps decreases-maps Scan decreases-scan
 unfolding map_fault classes_fault
 loop3-again c =
     let i = c.before.before.before.before in
     let T = task i.before.before.before.before in
-    (omega arith, walk_more (map_fault T) i.loop3.m i.loop3.invariant.1 (sym c.before.before.map-fault.ensures ∙ c.enum_told.given.1))
+    (omega arith, walk_more (map_fault T) i.loop-m.m i.loop-m.invariant.1 (sym c.before.before.map_fault-map.ensures ∙ c.enum_told-1.given.1))
 
-returns : tie.Need-returns Facts decreases-facts Ops decreases-ops Maps decreases-maps Scan decreases-scan
+returns : tie.Need-returns-then-cost_at-gt-COST_MOST Facts decreases-facts Ops decreases-ops Maps decreases-maps Scan decreases-scan
 returns c =
     let x = c.before.before in
-    stops x OutOfRange (cost_decides (task x.before.before) x.before.before.loop.o (omega (arith, c.before.cost-at.ensures, c.if1.true)))
+    stops x OutOfRange (cost_decides (task x.before.before) x.before.before.loop-o.o (omega (arith, c.before.cost_at.ensures, c.if-cost_at-gt-COST_MOST.true)))
 
-returns-2 : tie.Need-returns-2 Facts decreases-facts Ops decreases-ops Maps decreases-maps Scan decreases-scan
+returns-2 : tie.Need-returns-then-not-facts_fit Facts decreases-facts Ops decreases-ops Maps decreases-maps Scan decreases-scan
 returns-2 c =
     let i = c.before.before.before in
     let l = i.before.before.before.before.before in
-    let w = c.before.facts-fit in
-    let no = sym w.ensures ∙ not-true w.result c.if2.true in
-    let out = tests_here (fit l) (said (task l).edition l.loop.o) (task l).sas.vars i.loop2.v i.loop2.invariant.1 c.before.before.loop2-test.true no in
-    stops i.before.before.before OutOfRange (fact_decides (task l) l.loop.o (cheap i.before) (said (task l).edition l.loop.o 0) out)
+    let w = c.before.facts_fit in
+    let no = sym w.ensures ∙ not-true w.result c.if-not-facts_fit.true in
+    let out = tests_here (fit l) (said (task l).edition l.loop-o.o) (task l).sas.vars i.loop-v.v i.loop-v.invariant.1 c.before.before.loop-v-test.true no in
+    stops i.before.before.before OutOfRange (fact_decides (task l) l.loop-o.o (cheap i.before) (said (task l).edition l.loop-o.o 0) out)
 
-returns-3 : tie.Need-returns-3 Facts decreases-facts Ops decreases-ops Maps decreases-maps Scan decreases-scan
+returns-3 : tie.Need-returns-then-mark_of-gt-MARK_MOST Facts decreases-facts Ops decreases-ops Maps decreases-maps Scan decreases-scan
 returns-3 c =
     let k = c.before in
     let i = k.before.before in
     let l = i.before.before.before.before.before in
-    stops i.before.before.before OutOfRange (mark_decides (task l) l.loop.o (cheap i.before) (fitting k) (omega (arith, k.mark_of.ensures, c.if3.true)))
+    stops i.before.before.before OutOfRange (mark_decides (task l) l.loop-o.o (cheap i.before) (fitting k) (omega (arith, k.mark_of.ensures, c.if-mark_of-gt-MARK_MOST.true)))
 
-returns-4 : tie.Need-returns-4 Facts decreases-facts Ops decreases-ops Maps decreases-maps Scan decreases-scan
+returns-4 : tie.Need-returns-then-is_idle Facts decreases-facts Ops decreases-ops Maps decreases-maps Scan decreases-scan
 returns-4 c =
-    stops c.before.before.before.before.before.before.before.before IdleOperator (ended c.before ∙ rw c.if4.true refl)
+    stops c.before.before.before.before.before.before.before.before IdleOperator (ended c.before ∙ rw c.if-is_idle.true refl)
 
-returns-5 : tie.Need-returns-5 Facts decreases-facts Ops decreases-ops Maps decreases-maps Scan decreases-scan
+returns-5 : tie.Need-returns-then-not-lies_within Facts decreases-facts Ops decreases-ops Maps decreases-maps Scan decreases-scan
 returns-5 c =
     let x = c.before.before.before in
     let w = c.before.before.lies_within in
-    ap (λ (n : ℕ). Fault (OutOfRange n)) c.maps-line.ensures
-    ∙ sym (count_decides (task x.before) (operators x) (sym w.ensures ∙ not-true w.result c.before.if5.true))
+    ap (λ (n : ℕ). Fault (OutOfRange n)) c.maps_line.ensures
+    ∙ sym (count_decides (task x.before) (operators x) (sym w.ensures ∙ not-true w.result c.before.if-not-lies_within.true))
 
-returns-6 : tie.Need-returns-6 Facts decreases-facts Ops decreases-ops Maps decreases-maps Scan decreases-scan
+returns-6 : tie.Need-returns-in_default Facts decreases-facts Ops decreases-ops Maps decreases-maps Scan decreases-scan
 unfolding map_fault classes_fault
 returns-6 c =
     let i = c.before.before.before.before in
     let T = task i.before.before.before.before in
-    let found = c.before.before.map-fault in
-    let e = c.enum-told2.given in
-    let here = walk_here (map_fault T) T.maps i.loop3.m e.0.0 i.loop3.invariant.1 c.before.before.before.loop3-test.true (sym found.ensures ∙ e.1) in
+    let found = c.before.before.map_fault-map in
+    let e = c.enum_told-in_default-1.given in
+    let here = walk_here (map_fault T) T.maps i.loop-m.m e.0.0 i.loop-m.invariant.1 c.before.before.before.loop-m-test.true (sym found.ensures ∙ e.1) in
     sym (maps_decide T (operators i.before.before.before) found.result (counted i.before) (here ∙ sym e.1))
 
-returns-7 : tie.Need-returns-7 Facts decreases-facts Ops decreases-ops Maps decreases-maps Scan decreases-scan
+returns-7 : tie.Need-returns-after-loop-m Facts decreases-facts Ops decreases-ops Maps decreases-maps Scan decreases-scan
 returns-7 c =
     let i = c.before in
     let T = task i.before.before.before.before in
-    let all = walk_end (map_fault T) T.maps i.loop3.m i.loop3.invariant.1 (omega arith) (omega arith) in
+    let all = walk_end (map_fault T) T.maps i.loop-m.m i.loop-m.invariant.1 (omega arith) (omega arith) in
     sym (maps_decide T (operators i.before.before.before) Clean (counted i.before) all)
 
-pub lines-fault-spec : {M : Type 1} → statement M
-lines-fault-spec =
+pub lines_fault_spec : {M : Type 1} → statement M
+lines_fault_spec =
     tie.close
     (tie.spec
     Facts
@@ -201,7 +201,7 @@ lines-fault-spec =
     (λ c. let a = c.before.before.before.args in (omega arith, walk_none (operator_fault (spelled a.c a.facts.now a.costs.now))))
     (λ c κs. omega (arith, few c.before))
     (λ c κs. search rules)
-    (λ c. let l = c.before.before.before.before in (omega arith, walk_none (tests (fit l) (said (task l).edition l.loop.o))))
+    (λ c. let l = c.before.before.before.before in (omega arith, walk_none (tests (fit l) (said (task l).edition l.loop-o.o))))
     (λ c κs. omega (arith, few c.before.before.before.before.before.before))
     (λ c. search rules)
     (λ c. search rules)

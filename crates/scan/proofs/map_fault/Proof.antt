@@ -32,16 +32,16 @@ ruleOf facts m line v = row_fault (class_at facts m v) (dom_at facts v) line
 abbrev counts : List ℕ → ℕ → ℕ → ℕ
 counts facts m v = count_of (class_at facts m v) (dom_at facts v)
 
-abbrev invariant-loop : tie.invariant-loop
+abbrev invariant-loop : tie.invariant-loop-v
 invariant-loop facts m line vars states₀ v₀ states v = (v ≤ vars) × (each (ruleOf facts m line) v 0 ≡ Clean) × (states ≡ size (counts facts m) v) × (states ≤ 8 ^ v)
 
-abbrev decreases-loop : tie.decreases-loop
+abbrev decreases-loop : tie.decreases-loop-v
 decreases-loop facts m line vars states₀ v₀ states v = vars - v
 
 -- ---- what is handed in, at the loop
 
 abbrev At : Type 0
-At = tie.At-loop invariant-loop decreases-loop
+At = tie.At-loop-v invariant-loop decreases-loop
 
 abbrev facts : At → List ℕ
 facts l = l.before.before.before.args.facts.now
@@ -53,88 +53,88 @@ abbrev task : At → Task
 task l = task_of (tables l.before.before.before.args.c (facts l) [] [])
 
 abbrev rule : At → ℕ → Found
-rule l = ruleOf (facts l) (map l) l.before.map-line.result
+rule l = ruleOf (facts l) (map l) l.before.map_line-line.result
 
 head : (l : At) → head_fault (task l) ≡ Clean
 head l = l.before.before.before.requires.0
 
 -- ---- what is found in a variable's row, and that a fault of it is the map's
 
-abbrev at : tie.After-classes-of invariant-loop decreases-loop → At
+abbrev at : tie.After-classes_of-found invariant-loop decreases-loop → At
 at x = x.before.before.before.before
 
-told : (x : tie.After-classes-of invariant-loop decreases-loop) {k : Classes} → x.classes-of.result ≡ k → rule (at x) (at x).loop.v ≡ fault_in k (at x).before.map-line.result
-told x p = found_fault (facts (at x)) x.classes-of.ensures x.before.class-row.ensures x.before.before.word_of.ensures (at x).before.map-line.result p
+told : (x : tie.After-classes_of-found invariant-loop decreases-loop) {k : Classes} → x.classes_of-found.result ≡ k → rule (at x) (at x).loop-v.v ≡ fault_in k (at x).before.map_line-line.result
+told x p = found_fault (facts (at x)) x.classes_of-found.ensures x.before.class_row.ensures x.before.before.word_of.ensures (at x).before.map_line-line.result p
 
-stops : (x : tie.After-classes-of invariant-loop decreases-loop) (r : Refusal) → rule (at x) (at x).loop.v ≡ Fault r → Fault r ≡ map_fault (task (at x)) (map (at x))
+stops : (x : tie.After-classes_of-found invariant-loop decreases-loop) (r : Refusal) → rule (at x) (at x).loop-v.v ≡ Fault r → Fault r ≡ map_fault (task (at x)) (map (at x))
 unfolding classes_fault
 stops x r p =
     let l = at x in
-    classes_decide (task l) (map l) l.before.map-line.ensures r
-    (walk_here (rule l) (task l).sas.vars l.loop.v r l.loop.inv.1 x.before.before.before.loop-test.true p)
+    classes_decide (task l) (map l) l.before.map_line-line.ensures r
+    (walk_here (rule l) (task l).sas.vars l.loop-v.v r l.loop-v.inv.1 x.before.before.before.loop-v-test.true p)
 
-count : (c : tie.After-known-told invariant-loop decreases-loop)
+count : (c : tie.In-Count invariant-loop decreases-loop)
     → let l = at c.before.before.before in
-    let k = c.before.found.given.0.0 in
-    (k ≡ counts (facts l) (map l) l.loop.v) × (k ≤ most_values)
+    let k = c.before.found-1.given.0.0 in
+    (k ≡ counts (facts l) (map l) l.loop-v.v) × (k ≤ most_values)
 count c =
     let x = c.before.before.before in
     let l = at x in
-    let q = found_count (facts l) x.classes-of.ensures x.before.class-row.ensures x.before.before.word_of.ensures c.before.found.given.0.0 c.before.found.given.1 in
-    (q.0, omega (arith, q.1, few_values (task l) (head l) l.loop.v x.before.before.before.loop-test.true))
+    let q = found_count (facts l) x.classes_of-found.ensures x.before.class_row.ensures x.before.before.word_of.ensures c.before.found-1.given.0.0 c.before.found-1.given.1 in
+    (q.0, omega (arith, q.1, few_values (task l) (head l) l.loop-v.v x.before.before.before.loop-v-test.true))
 
 -- where the walk has ended, all variables are clean and their counts multiply to the map's states
-ended : (c : tie.After-loop invariant-loop decreases-loop)
-    → unless (leb c.before.loop.states most_states) (TooManyStates c.before.before.map-line.result) ≡ map_fault (task c.before) (map c.before)
+ended : (c : tie.After-loop-v invariant-loop decreases-loop)
+    → unless (leb c.before.loop-v.states most_states) (TooManyStates c.before.before.map_line-line.result) ≡ map_fault (task c.before) (map c.before)
 unfolding classes_fault
 ended c =
     let l = c.before in
-    let all : l.loop.v ≡ (task l).sas.vars = omega arith in
-    states_decide (task l) (map l) l.before.map-line.ensures (walk_end (rule l) (task l).sas.vars l.loop.v l.loop.invariant.1 (omega arith) (omega arith))
-    (l.loop.invariant.2 ∙ ap (size (counts (facts l) (map l))) all)
+    let all : l.loop-v.v ≡ (task l).sas.vars = omega arith in
+    states_decide (task l) (map l) l.before.map_line-line.ensures (walk_end (rule l) (task l).sas.vars l.loop-v.v l.loop-v.invariant.1 (omega arith) (omega arith))
+    (l.loop-v.invariant.2 ∙ ap (size (counts (facts l) (map l))) all)
 
 -- ---- the needs
 
-classes-of-requires : tie.Need-classes-of-requires invariant-loop decreases-loop
+classes-of-requires : tie.Need-classes_of-found-requires invariant-loop decreases-loop
 classes-of-requires c κs =
     let l = c.before.before.before in
-    omega (arith, c.before.word_of.ensures, few_values (task l) (head l) l.loop.v c.before.before.loop-test.true)
+    omega (arith, c.before.word_of.ensures, few_values (task l) (head l) l.loop-v.v c.before.before.loop-v-test.true)
 
 mul-states : tie.Need-overflow-mul-states invariant-loop decreases-loop
 mul-states c =
     let l = at c.before.before.before in
-    omega (arith, product_fits l.loop.states c.before.found.given.0.0 l.loop.v l.loop.inv.3 (count c).1 (omega (arith, few_vars (task l) (head l))))
+    omega (arith, product_fits l.loop-v.states c.before.found-1.given.0.0 l.loop-v.v l.loop-v.inv.3 (count c).1 (omega (arith, few_vars (task l) (head l))))
 
-returns : tie.Need-returns invariant-loop decreases-loop
-returns c = let x = c.before.before in stops x (ClassMissing (at x).before.map-line.result) (told x c.enum_told.given.1)
+returns : tie.Need-returns-in-Missing invariant-loop decreases-loop
+returns c = let x = c.before.before in stops x (ClassMissing (at x).before.map_line-line.result) (told x c.enum_told-1.given.1)
 
-returns-2 : tie.Need-returns-2 invariant-loop decreases-loop
-returns-2 c = let x = c.before.before in stops x (OutOfRange (at x).before.map-line.result) (told x c.enum-told2.given.1)
+returns-2 : tie.Need-returns-in-Outside invariant-loop decreases-loop
+returns-2 c = let x = c.before.before in stops x (OutOfRange (at x).before.map_line-line.result) (told x c.enum_told-in-Outside-1.given.1)
 
-loop-again : tie.Need-loop-preserved invariant-loop decreases-loop
+loop-again : tie.Need-loop-v-preserved invariant-loop decreases-loop
 loop-again c =
     let x = c.before.before.before in
-    let run = (at x).loop in (
+    let run = (at x).loop-v in (
       omega arith,
-      walk_more (rule (at x)) run.v run.inv.1 (told x c.before.found.given.1),
+      walk_more (rule (at x)) run.v run.inv.1 (told x c.before.found-1.given.1),
       rw add-one (ap₂ ◌*◌ run.inv.2 (count c).0),
-      product_more run.states c.before.found.given.0.0 run.v run.inv.3 (count c).1,
+      product_more run.states c.before.found-1.given.0.0 run.v run.inv.3 (count c).1,
     )
 
-returns-3 : tie.Need-returns-3 invariant-loop decreases-loop
-returns-3 c = rw (lt-leb c.before.before.loop.states most_states c.if1.true) at (ended c.before)
+returns-3 : tie.Need-returns-then-states-gt-STATES_MOST invariant-loop decreases-loop
+returns-3 c = rw (lt-leb c.before.before.loop-v.states most_states c.if-states-gt-STATES_MOST.true) at (ended c.before)
 
-returns-4 : tie.Need-returns-4 invariant-loop decreases-loop
-returns-4 c = rw (le-leb c.before.before.loop.states most_states c.if1.false) at (ended c.before)
+returns-4 : tie.Need-returns invariant-loop decreases-loop
+returns-4 c = rw (le-leb c.before.before.loop-v.states most_states c.if-states-gt-STATES_MOST.false) at (ended c.before)
 
-pub map-fault-spec : {M : Type 1} → statement M
-map-fault-spec =
+pub map_fault_spec : {M : Type 1} → statement M
+map_fault_spec =
     tie.close
     (tie.spec
     invariant-loop
     decreases-loop
     (λ c κs. (few_ops (task_of (tables c.before.args.c c.before.args.facts.now [] [])) c.before.requires.0, omega arith))
-    (λ c. (omega arith, walk_none (ruleOf c.before.before.args.facts.now c.before.before.args.m c.map-line.result), refl, omega arith))
+    (λ c. (omega arith, walk_none (ruleOf c.before.before.args.facts.now c.before.before.args.m c.map_line-line.result), refl, omega arith))
     (λ c κs. search rules)
     (λ c κs. (omega arith, omega (arith, few_vars (task c.before.before) (head c.before.before))))
     classes-of-requires

@@ -9,13 +9,13 @@ use Rattle.meaning.specs.Limits.{most_ops}
 use Rattle.scan.proofs.ops_fault.Statement.{statement}
 use Rattle.scan.proofs.ops_fault.Tie as tie
 
-returns : tie.Need-returns
+returns : tie.Need-returns-then-c-gt-OPS_MOST
 returns c =
     let a = c.before.before.before.before.args.c in
-    ap (λ (n : ℕ). Fault (OutOfRange n)) c.ops-line.ensures ∙ sym (rw (lt-leb a.ops most_ops c.before.if1.true))
+    ap (λ (n : ℕ). Fault (OutOfRange n)) c.ops_line.ensures ∙ sym (rw (lt-leb a.ops most_ops c.before.if-c-gt-OPS_MOST.true))
 
-returns-2 : tie.Need-returns-2
-returns-2 c = sym (rw (le-leb c.before.before.before.args.c.ops most_ops c.if1.false))
+returns-2 : tie.Need-returns
+returns-2 c = sym (rw (le-leb c.before.before.before.args.c.ops most_ops c.if-c-gt-OPS_MOST.false))
 
-pub ops-fault-spec : {M : Type 1} → statement M
-ops-fault-spec = tie.close (tie.spec (λ c κs. search rules) returns returns-2)
+pub ops_fault_spec : {M : Type 1} → statement M
+ops_fault_spec = tie.close (tie.spec (λ c κs. search rules) returns returns-2)

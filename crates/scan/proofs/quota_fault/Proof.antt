@@ -8,15 +8,15 @@ use Rattle.tables.specs.Layout.{quota_of}
 use Rattle.scan.proofs.quota_fault.Statement.{statement}
 use Rattle.scan.proofs.quota_fault.Tie as tie
 
-returns : tie.Need-returns
+returns : tie.Need-returns-then-quota_of-gt-QUOTA_MOST
 returns c =
     let q = quota_of c.before.before.before.args.c in
-    sym (rw (lt-leb q most_quota (omega (arith, c.before.quota-of.ensures, c.if1.true))))
+    sym (rw (lt-leb q most_quota (omega (arith, c.before.quota_of.ensures, c.if-quota_of-gt-QUOTA_MOST.true))))
 
-returns-2 : tie.Need-returns-2
+returns-2 : tie.Need-returns
 returns-2 c =
     let q = quota_of c.before.before.before.before.args.c in
-    c.ops-fault.ensures ∙ sym (rw (le-leb q most_quota (omega (arith, c.before.before.quota-of.ensures, c.before.if1.false))))
+    c.ops_fault.ensures ∙ sym (rw (le-leb q most_quota (omega (arith, c.before.before.quota_of.ensures, c.before.if-quota_of-gt-QUOTA_MOST.false))))
 
-pub quota-fault-spec : {M : Type 1} → statement M
-quota-fault-spec = tie.close (tie.spec (λ c κs. search rules) returns (λ c κs. search rules) returns-2)
+pub quota_fault_spec : {M : Type 1} → statement M
+quota_fault_spec = tie.close (tie.spec (λ c κs. search rules) returns (λ c κs. search rules) returns-2)

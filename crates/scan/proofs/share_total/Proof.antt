@@ -13,30 +13,30 @@ use Rattle.scan.proofs.share_total.Tie as tie
 abbrev charge : List ℕ → ℕ → ℕ → ℕ
 charge shares o m = share_at shares m o
 
-abbrev invariant-loop : tie.invariant-loop
+abbrev invariant-loop : tie.invariant-loop-m
 invariant-loop maps shares o total₀ m₀ total m = (m ≤ maps) × (total ≡ sum (charge shares o.0) m) × (total ≤ m * 4294967295)
 
-abbrev decreases-loop : tie.decreases-loop
+abbrev decreases-loop : tie.decreases-loop-m
 decreases-loop maps shares o total₀ m₀ total m = maps - m
 
-loop-holds : tie.Need-loop-init invariant-loop decreases-loop
+loop-holds : tie.Need-loop-m-init invariant-loop decreases-loop
 loop-holds c = (omega arith, refl, omega arith)
 
-loop-again : tie.Need-loop-preserved invariant-loop decreases-loop
+loop-again : tie.Need-loop-m-preserved invariant-loop decreases-loop
 loop-again c =
-    let run = c.before.before.loop in
-    let share-at = c.share-at in
+    let run = c.before.before.loop-m in
+    let share-at = c.share_at in
     (omega arith, rw add-one (ap₂ ◌+◌ run.invariant.1 share-at.ensures), omega arith)
 
 returns : tie.Need-returns invariant-loop decreases-loop
 returns c =
-    let run = c.before.loop in
+    let run = c.before.loop-m in
     let args = c.before.before.before.args in
     let all : run.m ≡ args.maps = omega arith in
     run.invariant.1 ∙ ap (sum (charge args.shares.now args.o.0)) all
 
-pub share-total-spec : {M : Type 1} → statement M
-share-total-spec =
+pub share_total_spec : {M : Type 1} → statement M
+share_total_spec =
     tie.close
     (tie.spec
     invariant-loop

@@ -27,47 +27,47 @@ passes costs shares maps o = leb (total shares maps o) (cost_at costs o)
 abbrev said : ℕ → ℕ → Refusal
 said e o = SharesAboveCost (line_of_op e o)
 
-abbrev invariant-loop : tie.invariant-loop
+abbrev invariant-loop : tie.invariant-loop-o
 invariant-loop costs shares e ops maps o₀ o = (o ≤ ops) × (each (tests (passes costs shares maps) (said e)) o 0 ≡ Clean)
 
-abbrev decreases-loop : tie.decreases-loop
+abbrev decreases-loop : tie.decreases-loop-o
 decreases-loop costs shares e ops maps o₀ o = ops - o
 
 -- at the loop: what an operator is charged and costs, and the test of it
-abbrev charged : tie.At-loop invariant-loop decreases-loop → ℕ
-charged l = let a = l.before.before.before.args in total a.shares.now a.c.maps l.loop.o
+abbrev charged : tie.At-loop-o invariant-loop decreases-loop → ℕ
+charged l = let a = l.before.before.before.args in total a.shares.now a.c.maps l.loop-o.o
 
-abbrev cost : tie.At-loop invariant-loop decreases-loop → ℕ
-cost l = cost_at l.before.before.before.args.costs.now l.loop.o
+abbrev cost : tie.At-loop-o invariant-loop decreases-loop → ℕ
+cost l = cost_at l.before.before.before.args.costs.now l.loop-o.o
 
-abbrev test : tie.At-loop invariant-loop decreases-loop → ℕ → Bool
+abbrev test : tie.At-loop-o invariant-loop decreases-loop → ℕ → Bool
 test l = let a = l.before.before.before.args in passes a.costs.now a.shares.now a.c.maps
 
-abbrev says : tie.At-loop invariant-loop decreases-loop → ℕ → Refusal
+abbrev says : tie.At-loop-o invariant-loop decreases-loop → ℕ → Refusal
 says l = said l.before.before.before.args.c.edition
 
-returns : tie.Need-returns invariant-loop decreases-loop
+returns : tie.Need-returns-then-cost-share_total invariant-loop decreases-loop
 unfolding split_fault
 returns c =
     let l = c.before.before.before.before.before in
-    let high = lt-leb (charged l) (cost l) (omega (arith, c.before.before.share-total.ensures, c.before.before.before.cost-at.ensures, c.before.if1.true)) in
-    ap (λ (n : ℕ). Fault (SharesAboveCost n)) c.op-line.ensures
-    ∙ sym (tests_here (test l) (says l) l.before.before.before.args.c.ops l.loop.o l.loop.invariant.1 c.before.before.before.before.loop-test.true high)
+    let high = lt-leb (charged l) (cost l) (omega (arith, c.before.before.share_total.ensures, c.before.before.before.cost_at-cost.ensures, c.before.if-cost-share_total.true)) in
+    ap (λ (n : ℕ). Fault (SharesAboveCost n)) c.op_line.ensures
+    ∙ sym (tests_here (test l) (says l) l.before.before.before.args.c.ops l.loop-o.o l.loop-o.invariant.1 c.before.before.before.before.loop-o-test.true high)
 
-loop-again : tie.Need-loop-preserved invariant-loop decreases-loop
+loop-again : tie.Need-loop-o-preserved invariant-loop decreases-loop
 loop-again c =
     let l = c.before.before.before.before in
-    let low = le-leb (charged l) (cost l) (omega (arith, c.before.share-total.ensures, c.before.before.cost-at.ensures, c.if1.false)) in
-    (omega arith, tests_more (test l) (says l) l.loop.o l.loop.invariant.1 low)
+    let low = le-leb (charged l) (cost l) (omega (arith, c.before.share_total.ensures, c.before.before.cost_at-cost.ensures, c.if-cost-share_total.false)) in
+    (omega arith, tests_more (test l) (says l) l.loop-o.o l.loop-o.invariant.1 low)
 
-returns-2 : tie.Need-returns-2 invariant-loop decreases-loop
+returns-2 : tie.Need-returns invariant-loop decreases-loop
 unfolding split_fault
 returns-2 c =
     let l = c.before in
-    sym (walk_end (tests (test l) (says l)) l.before.before.before.args.c.ops l.loop.o l.loop.invariant.1 (omega arith) (omega arith))
+    sym (walk_end (tests (test l) (says l)) l.before.before.before.args.c.ops l.loop-o.o l.loop-o.invariant.1 (omega arith) (omega arith))
 
-pub split-fault-spec : {M : Type 1} → statement M
-split-fault-spec =
+pub split_fault_spec : {M : Type 1} → statement M
+split_fault_spec =
     tie.close
     (tie.spec
     invariant-loop

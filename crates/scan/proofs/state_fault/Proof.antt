@@ -19,49 +19,49 @@ use Rattle.scan.proofs.state_fault.Tie as tie
 abbrev inside : List ℕ → List ℕ → ℕ → Bool
 inside facts s v = ltb (get_or s v 0) (dom_at facts v)
 
-abbrev invariant-loop : tie.invariant-loop
+abbrev invariant-loop : tie.invariant-loop-v
 invariant-loop facts s vars v₀ v = (v ≤ vars) × (each (tests (inside facts s) ValueOutside) v 0 ≡ Clean)
 
-abbrev decreases-loop : tie.decreases-loop
+abbrev decreases-loop : tie.decreases-loop-v
 decreases-loop facts s vars v₀ v = vars - v
 
 -- at the loop: the test of a value, and that there is a place a variable; and what a turn is told
 abbrev At : Type 0
-At = tie.At-loop invariant-loop decreases-loop
+At = tie.At-loop-v invariant-loop decreases-loop
 
 abbrev test : At → ℕ → Bool
 test l = let a = l.before.before.before.before.args in inside a.facts.now a.s.now
 
 long : (l : At) → let a = l.before.before.before.before.args in leb a.c.vars (length a.s.now) ≡ true
-long l = let a = l.before.before.before.before.args in le-leb a.c.vars (length a.s.now) l.before.if1.false
+long l = let a = l.before.before.before.before.args in le-leb a.c.vars (length a.s.now) l.before.if-s-vars.false
 
-told : (x : tie.After-value-fits invariant-loop decreases-loop) → let l = x.before.before.before in test l l.loop.v ≡ x.value-fits.result
-told x = cc (x.value-fits.ensures, x.before.byte_at.ensures)
+told : (x : tie.After-value_fits invariant-loop decreases-loop) → let l = x.before.before.before in test l l.loop-v.v ≡ x.value_fits.result
+told x = cc (x.value_fits.ensures, x.before.byte_at.ensures)
 
-returns : tie.Need-returns invariant-loop decreases-loop
+returns : tie.Need-returns-then-s-vars invariant-loop decreases-loop
 unfolding state_fault
-returns c = let a = c.before.before.before.args in sym (rw (lt-leb a.c.vars (length a.s.now) c.if1.true))
+returns c = let a = c.before.before.before.args in sym (rw (lt-leb a.c.vars (length a.s.now) c.if-s-vars.true))
 
-returns-2 : tie.Need-returns-2 invariant-loop decreases-loop
+returns-2 : tie.Need-returns-then-not-value_fits invariant-loop decreases-loop
 unfolding state_fault
 returns-2 c =
     let l = c.before.before.before.before in
-    let out = told c.before ∙ not-true c.before.value-fits.result c.if2.true in
-    sym (rw (long l, tests_here (test l) ValueOutside l.before.before.before.before.args.c.vars l.loop.v l.loop.invariant.1 (omega arith) out))
+    let out = told c.before ∙ not-true c.before.value_fits.result c.if-not-value_fits.true in
+    sym (rw (long l, tests_here (test l) ValueOutside l.before.before.before.before.args.c.vars l.loop-v.v l.loop-v.invariant.1 (omega arith) out))
 
-loop-again : tie.Need-loop-preserved invariant-loop decreases-loop
+loop-again : tie.Need-loop-v-preserved invariant-loop decreases-loop
 loop-again c =
     let l = c.before.before.before.before in
-    (omega arith, tests_more (test l) ValueOutside l.loop.v l.loop.invariant.1 (told c.before ∙ not-false c.before.value-fits.result c.if2.false))
+    (omega arith, tests_more (test l) ValueOutside l.loop-v.v l.loop-v.invariant.1 (told c.before ∙ not-false c.before.value_fits.result c.if-not-value_fits.false))
 
-returns-3 : tie.Need-returns-3 invariant-loop decreases-loop
+returns-3 : tie.Need-returns invariant-loop decreases-loop
 unfolding state_fault
 returns-3 c =
     let l = c.before in
-    sym (rw (long l, walk_end (tests (test l) ValueOutside) l.before.before.before.before.args.c.vars l.loop.v l.loop.invariant.1 (omega arith) (omega arith)))
+    sym (rw (long l, walk_end (tests (test l) ValueOutside) l.before.before.before.before.args.c.vars l.loop-v.v l.loop-v.invariant.1 (omega arith) (omega arith)))
 
-pub state-fault-spec : {M : Type 1} → statement M
-state-fault-spec =
+pub state_fault_spec : {M : Type 1} → statement M
+state_fault_spec =
     tie.close
     (tie.spec
     invariant-loop

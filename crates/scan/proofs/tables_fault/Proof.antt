@@ -6,16 +6,16 @@ use Rattle.scan.specs.Scan.{roomy, tables_fault}
 use Rattle.scan.proofs.tables_fault.Statement.{statement}
 use Rattle.scan.proofs.tables_fault.Tie as tie
 
-returns : tie.Need-returns
+returns : tie.Need-returns-then-not-has_room
 unfolding tables_fault roomy
-returns c = let w = c.before.has_room in sym (rw (sym w.ensures ∙ not-true w.result c.if1.true))
+returns c = let w = c.before.has_room in sym (rw (sym w.ensures ∙ not-true w.result c.if-not-has_room.true))
 
-returns-2 : tie.Need-returns-2
+returns-2 : tie.Need-returns
 unfolding tables_fault roomy
-returns-2 c = let w = c.before.before.has_room in c.task-fault.ensures ∙ sym (rw (sym w.ensures ∙ not-false w.result c.before.if1.false))
+returns-2 c = let w = c.before.before.has_room in c.task_fault.ensures ∙ sym (rw (sym w.ensures ∙ not-false w.result c.before.if-not-has_room.false))
 
-pub tables-fault-spec : {M : Type 1} → statement M
-tables-fault-spec =
+pub tables_fault_spec : {M : Type 1} → statement M
+tables_fault_spec =
     tie.close
     (tie.spec
     (λ c κs. search rules)

@@ -11,29 +11,29 @@ use Rattle.scan.proofs.task_fault.Statement.{statement}
 use Rattle.scan.proofs.task_fault.Tie as tie
 
 -- the task handed in
-abbrev task : tie.After-head-fault → Task
+abbrev task : tie.After-head_fault-head → Task
 task x = let a = x.before.before.before.before.args in task_of (tables a.c a.facts.now a.costs.now a.shares.now)
 
-returns : tie.Need-returns
+returns : tie.Need-returns-in_default
 unfolding head_fault facts_fault
 returns c =
     let x = c.before.before in
-    let e = c.enum-told2.given in
-    hands_on (head_fault (task x)) (body_fault (task x)) _ e.0.0 x.head-fault.ensures e.1 ∙ sym (in_parts (task x))
+    let e = c.enum_told-in_default-1.given in
+    hands_on (head_fault (task x)) (body_fault (task x)) _ e.0.0 x.head_fault-head.ensures e.1 ∙ sym (in_parts (task x))
 
-returns-2 : tie.Need-returns-2
+returns-2 : tie.Need-returns
 unfolding head_fault facts_fault
 returns-2 c =
     let x = c.before.before.before in
-    c.body-fault.ensures ∙ goes_on (head_fault (task x)) (body_fault (task x)) _ x.head-fault.ensures c.before.enum_told.given.1 ∙ sym (in_parts (task x))
+    c.body_fault.ensures ∙ goes_on (head_fault (task x)) (body_fault (task x)) _ x.head_fault-head.ensures c.before.enum_told-1.given.1 ∙ sym (in_parts (task x))
 
-pub task-fault-spec : {M : Type 1} → statement M
-task-fault-spec =
+pub task_fault_spec : {M : Type 1} → statement M
+task_fault_spec =
     tie.close
     (tie.spec
     (λ c κs. search rules)
     (λ c. search rules)
     (λ c. search rules)
     returns
-    (λ c κs. sym c.before.before.head-fault.ensures ∙ c.enum_told.given.1)
+    (λ c κs. sym c.before.before.head_fault-head.ensures ∙ c.enum_told-1.given.1)
     returns-2)

@@ -6,10 +6,10 @@ use Rattle.sequences.proofs.cheaper.Statement.{statement}
 use Rattle.sequences.proofs.cheaper.Tie as tie
 
 returns : tie.Need-returns
-returns c = c.named.ensures ∙ ap named_of c.before.choice-of.ensures
+returns c = c.named.ensures ∙ ap named_of c.before.choice_of.ensures
 
-pub cheaper-spec : {M : Type 1} → statement M
-cheaper-spec = tie.close (tie.spec
+pub cheaper_spec : {M : Type 1} → statement M
+cheaper_spec = tie.close (tie.spec
     (λ c κs. search rules)
     (λ c κs. search rules)
     returns)

@@ -14,17 +14,17 @@ use Rattle.sequences.proofs.opening.Statement.{statement}
 use Rattle.sequences.proofs.opening.Tie as tie
 
 -- once the choice is made, an answer that is the opening part of what it says is the answer
-abbrev start : tie.After-choice-of → tie.Start
+abbrev start : tie.After-choice_of-d → tie.Start
 start x = x.before.before.before.before.before.before.before
 
-made : (x : tie.After-choice-of) {r : Bor (List ℕ)} (d : Choice) → x.choice-of.result ≡ d
+made : (x : tie.After-choice_of-d) {r : Bor (List ℕ)} (d : Choice) → x.choice_of-d.result ≡ d
     → let a = (start x).args in Opening r (list_of d a.a a.b) (steps_of d) → OpeningOf (tables a.c a.facts.now a.costs.now a.shares.now) a.s.now a.a a.b r
 made x d e o =
     let a = (start x).args in
-    opening_of (tables a.c a.facts.now a.costs.now a.shares.now) a.s.now a.a a.b d x.choice-of.ensures e o
+    opening_of (tables a.c a.facts.now a.costs.now a.shares.now) a.s.now a.a a.b d x.choice_of-d.ensures e o
 
-pub opening-spec : {M : Type 1} → statement M
-opening-spec =
+pub opening_spec : {M : Type 1} → statement M
+opening_spec =
     tie.close
     (tie.spec
     (λ c κs. search rules)
@@ -36,7 +36,7 @@ opening-spec =
     (λ c κs. search rules)
     (λ c. search rules)
     (λ c κs. search rules)
-    (λ c. made c.before.before.before.before (FirstPart _ _) c.before.before.d.given.1 c.front.ensures)
-    (λ c. made c.before.before.before.before (SecondPart _ _) c.before.before.d2.given.1 c.front2.ensures)
-    (λ c. made c.before.before.before NoPart c.before.enum_told.given.1 c.front3.ensures)
-    (λ c. made c.before.before.before (Unread _) c.before.enum-told2.given.1 c.front4.ensures))
+    (λ c. made c.before.before.before.before (FirstPart _ _) c.before.before.d-1.given.1 c.front.ensures)
+    (λ c. made c.before.before.before.before (SecondPart _ _) c.before.before.d-in-SecondPart-1.given.1 c.front-in-SecondPart.ensures)
+    (λ c. made c.before.before.before NoPart c.before.enum_told-1.given.1 c.front-in-NoPart.ensures)
+    (λ c. made c.before.before.before (Unread _) c.before.enum_told-in-Unread-1.given.1 c.front-in-Unread.ensures))

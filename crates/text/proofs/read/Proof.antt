@@ -9,7 +9,7 @@ returns : tie.Need-returns
 returns c =
     let run = c.before.before.before.before.before.before in
     let text = run.before.before.before.before.before.before.before in
-    run.read-by-machine.ensures ∙ read_is _ _ _ _ (λ i h. (text.shared-slice-known.given i).fits)
+    run.read_by_machine.ensures ∙ read_is _ _ _ _ (λ i h. (text.shared_slice_known-1.given i).fits)
 
 pub read_spec : {M : Type 1} → statement M
 read_spec =

@@ -5,13 +5,13 @@ use Rattle.sweep.proofs.Picking.{advised_none, advised_op}
 use Rattle.views.proofs.as_best.Statement.{statement}
 use Rattle.views.proofs.as_best.Tie as tie
 
-returns : tie.Need-returns
-returns c = sym (ap best_said (advised_none c.before.args.op c.if1.true))
+returns : tie.Need-returns-then-op-eq-NO_OP
+returns c = sym (ap best_said (advised_none c.before.args.op c.if-op-eq-NO_OP.true))
 
-returns-2 : tie.Need-returns-2
-returns-2 c = sym (ap best_said (advised_op c.before.args.op c.if1.false))
+returns-2 : tie.Need-returns-else-op-eq-NO_OP
+returns-2 c = sym (ap best_said (advised_op c.before.args.op c.if-op-eq-NO_OP.false))
 
-pub as-best-spec : {M : Type 1} → statement M
-as-best-spec = tie.close (tie.spec
+pub as_best_spec : {M : Type 1} → statement M
+as_best_spec = tie.close (tie.spec
     returns
     returns-2)

@@ -5,13 +5,13 @@ use Rattle.sweep.proofs.Saids.{said_none, said_fin}
 use Rattle.views.proofs.as_distance.Statement.{statement}
 use Rattle.views.proofs.as_distance.Tie as tie
 
-returns : tie.Need-returns
-returns c = sym (ap distance_said (said_none c.before.args.distance c.if1.true))
+returns : tie.Need-returns-then-distance-eq-NO_COST
+returns c = sym (ap distance_said (said_none c.before.args.distance c.if-distance-eq-NO_COST.true))
 
-returns-2 : tie.Need-returns-2
-returns-2 c = sym (ap distance_said (said_fin c.before.args.distance c.if1.false))
+returns-2 : tie.Need-returns-else-distance-eq-NO_COST
+returns-2 c = sym (ap distance_said (said_fin c.before.args.distance c.if-distance-eq-NO_COST.false))
 
-pub as-distance-spec : {M : Type 1} → statement M
-as-distance-spec = tie.close (tie.spec
+pub as_distance_spec : {M : Type 1} → statement M
+as_distance_spec = tie.close (tie.spec
     returns
     returns-2)

@@ -15,27 +15,27 @@ abbrev t : tie.Start → Tables
 t c = tables c.args.c c.args.facts.now c.args.costs.now c.args.shares.now
 
 -- where the tables have no fault, the map decides
-decides : (c : tie.After-enum-told) → let s = c.before.before.before.before.before.before in no_such_map (t s) s.args.map ≡ asked_fault (t s) s.args.map
+decides : (c : tie.In-Clean) → let s = c.before.before.before.before.before.before in no_such_map (t s) s.args.map ≡ asked_fault (t s) s.args.map
 unfolding asked_fault
 decides c =
     let f = c.before.before in
     let s = f.before.before.before.before in
-    goes_on (tables_fault (t s)) (no_such_map (t s) s.args.map) f.tables-fault.result f.tables-fault.ensures c.enum_told.given.1
+    goes_on (tables_fault (t s)) (no_such_map (t s) s.args.map) f.tables_fault-found.result f.tables_fault-found.ensures c.enum_told-1.given.1
 
-returns : tie.Need-returns
+returns : tie.Need-returns-in_default
 unfolding asked_fault
 returns c =
     let f = c.before.before in
     let s = f.before.before.before.before in
-    let e = c.enum-told2.given in
-    hands_on (tables_fault (t s)) (no_such_map (t s) s.args.map) f.tables-fault.result e.0.0 f.tables-fault.ensures e.1
+    let e = c.enum_told-in_default-1.given in
+    hands_on (tables_fault (t s)) (no_such_map (t s) s.args.map) f.tables_fault-found.result e.0.0 f.tables_fault-found.ensures e.1
 
-pub asked-fault-spec : {M : Type 1} → statement M
-asked-fault-spec =
+pub asked_fault_spec : {M : Type 1} → statement M
+asked_fault_spec =
     tie.close (tie.spec
     (λ c κs. search rules)
     (λ c. search rules)
     (λ c. search rules)
     returns
-    (λ c. map_there (t c.before.before.before.before.before.before.before.before) _ c.if1.true ∙ decides c.before.before)
-    (λ c. map_missing (t c.before.before.before.before.before.before.before.before) _ c.if1.false ∙ decides c.before.before))
+    (λ c. map_there (t c.before.before.before.before.before.before.before.before) _ c.if-map-c.true ∙ decides c.before.before)
+    (λ c. map_missing (t c.before.before.before.before.before.before.before.before) _ c.if-map-c.false ∙ decides c.before.before))

@@ -14,29 +14,29 @@ use Rattle.views.proofs.best_at.Tie as tie
 abbrev t : tie.Start → Tables
 t c = tables c.args.c c.args.facts.now c.args.costs.now c.args.shares.now
 
-abbrev start : tie.After-distance-fault → tie.Start
+abbrev start : tie.After-distance_fault-found → tie.Start
 start c = c.before.before.before.before.before
 
-clean : (c : tie.After-enum-told) → let s = start c.before.before in distance_fault (t s) s.args.map s.args.s.now ≡ Clean
-clean c = sym c.before.before.distance-fault.ensures ∙ c.enum_told.given.1
+clean : (c : tie.In-Clean) → let s = start c.before.before in distance_fault (t s) s.args.map s.args.s.now ≡ Clean
+clean c = sym c.before.before.distance_fault-found.ensures ∙ c.enum_told-1.given.1
 
-at-image-requires : tie.Need-at-image-requires
+at-image-requires : tie.Need-at_image-p-requires
 at-image-requires c κs = let s = start c.before.before in image_asked (t s) s.args.map s.args.s.now (clean c)
 
-returns : tie.Need-returns
+returns : tie.Need-returns-in-Fault
 returns c =
     let f = c.before.before.before in
-    let e = c.before.found.given in
-    given_best_refused (t (start f)) (start f).args.map (start f).args.s.now e.0.0 (sym f.distance-fault.ensures ∙ e.1)
+    let e = c.before.found-1.given in
+    given_best_refused (t (start f)) (start f).args.map (start f).args.s.now e.0.0 (sym f.distance_fault-found.ensures ∙ e.1)
 
-returns-2 : tie.Need-returns-2
+returns-2 : tie.Need-returns-in-Clean
 returns-2 c =
     let s = start c.before.before.before.before in
-    let p = c.before.at_image in
-    given_best (t s) s.args.map s.args.s.now (advised p.result.op) (clean c.before.before) p.ensures.op c.as-best.ensures
+    let p = c.before.at_image-p in
+    given_best (t s) s.args.map s.args.s.now (advised p.result.op) (clean c.before.before) p.ensures.op c.as_best.ensures
 
-pub best-at-spec : {M : Type 1} → statement M
-best-at-spec =
+pub best_at_spec : {M : Type 1} → statement M
+best_at_spec =
     tie.close
     (tie.spec
     (λ c κs. search rules)

@@ -14,31 +14,31 @@ use Rattle.views.proofs.bound.Tie as tie
 abbrev t : tie.Start → Tables
 t c = tables c.args.c c.args.facts.now c.args.costs.now c.args.shares.now
 
-abbrev start : tie.After-input-fault → tie.Start
+abbrev start : tie.After-input_fault-found → tie.Start
 start c = c.before.before.before.before.before
 
-clean : (c : tie.After-enum-told) → let s = start c.before.before in input_fault (t s) s.args.s.now ≡ Clean
-clean c = sym c.before.before.input-fault.ensures ∙ c.enum_told.given.1
+clean : (c : tie.In-Clean) → let s = start c.before.before in input_fault (t s) s.args.s.now ≡ Clean
+clean c = sym c.before.before.input_fault-found.ensures ∙ c.enum_told-1.given.1
 
-sum-of-requires : tie.Need-sum-of-requires
+sum-of-requires : tie.Need-sum_of-requires
 sum-of-requires c κs =
     let s = start c.before.before in
     let q = bound_clean (t s) s.args.s.now (clean c) in
     (valid_unpriced (t s) q.0, (λ m lm o l. q.0.shares m o lm l), q.1)
 
-returns : tie.Need-returns
+returns : tie.Need-returns-in-Fault
 returns c =
     let f = c.before.before.before in
-    let e = c.before.found.given in
-    given_bound_refused (t (start f)) (start f).args.s.now e.0.0 (sym f.input-fault.ensures ∙ e.1)
+    let e = c.before.found-1.given in
+    given_bound_refused (t (start f)) (start f).args.s.now e.0.0 (sym f.input_fault-found.ensures ∙ e.1)
 
-returns-2 : tie.Need-returns-2
+returns-2 : tie.Need-returns-in-Clean
 returns-2 c =
     let s = start c.before.before.before.before in
-    given_bound (t s) s.args.s.now (clean c.before.before) c.before.sum_of.ensures c.as-bound.ensures
+    given_bound (t s) s.args.s.now (clean c.before.before) c.before.sum_of.ensures c.as_bound.ensures
 
-pub bound-spec : {M : Type 1} → statement M
-bound-spec =
+pub bound_spec : {M : Type 1} → statement M
+bound_spec =
     tie.close
     (tie.spec
     (λ c κs. search rules)

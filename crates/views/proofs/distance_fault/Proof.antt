@@ -8,24 +8,24 @@ use Rattle.scan.proofs.Walks.{hands_on, goes_on}
 use Rattle.views.proofs.distance_fault.Statement.{statement}
 use Rattle.views.proofs.distance_fault.Tie as tie
 
-returns : tie.Need-returns
+returns : tie.Need-returns-in_default
 unfolding distance_fault
 returns c =
     let a = c.before.before.before.before.before.before.before.args in
-    let asked-fault = c.before.before.asked-fault in
+    let asked-fault = c.before.before.asked_fault-found in
     let t = tables a.c a.facts.now a.costs.now a.shares.now in
-    hands_on (asked_fault t a.map) (state_fault a.c a.facts.now a.s.now) asked-fault.result c.enum-told2.given.0.0 asked-fault.ensures c.enum-told2.given.1
+    hands_on (asked_fault t a.map) (state_fault a.c a.facts.now a.s.now) asked-fault.result c.enum_told-in_default-1.given.0.0 asked-fault.ensures c.enum_told-in_default-1.given.1
 
-returns-2 : tie.Need-returns-2
+returns-2 : tie.Need-returns
 unfolding distance_fault
 returns-2 c =
     let a = c.before.before.before.before.before.before.before.before.args in
-    let asked-fault = c.before.before.before.asked-fault in
+    let asked-fault = c.before.before.before.asked_fault-found in
     let t = tables a.c a.facts.now a.costs.now a.shares.now in
-    c.state-fault.ensures ∙ goes_on (asked_fault t a.map) (state_fault a.c a.facts.now a.s.now) asked-fault.result asked-fault.ensures c.before.enum_told.given.1
+    c.state_fault.ensures ∙ goes_on (asked_fault t a.map) (state_fault a.c a.facts.now a.s.now) asked-fault.result asked-fault.ensures c.before.enum_told-1.given.1
 
-pub distance-fault-spec : {M : Type 1} → statement M
-distance-fault-spec =
+pub distance_fault_spec : {M : Type 1} → statement M
+distance_fault_spec =
     tie.close
     (tie.spec
     (λ c κs. search rules)

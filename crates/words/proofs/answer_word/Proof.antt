@@ -3,8 +3,8 @@ use borrow.Author.Rules.{rules}
 use Rattle.words.proofs.answer_word.Statement.{statement}
 use Rattle.words.proofs.answer_word.Tie as tie
 
-pub answer-word-spec : {M : Type 1} → statement M
-answer-word-spec =
+pub answer_word_spec : {M : Type 1} → statement M
+answer_word_spec =
     tie.close
     (tie.spec
     (λ c. search rules)
@@ -15,4 +15,4 @@ answer-word-spec =
     (λ c κs. search rules)
     (λ c. search rules)
     (λ c. search rules)
-    (λ c. rw c.before.before.a.given.1 c.refused-word.ensures))
+    (λ c. rw c.before.before.a-1.given.1 c.refused_word.ensures))

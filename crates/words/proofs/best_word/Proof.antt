@@ -3,8 +3,8 @@ use borrow.Author.Rules.{rules}
 use Rattle.words.proofs.best_word.Statement.{statement}
 use Rattle.words.proofs.best_word.Tie as tie
 
-pub best-word-spec : {M : Type 1} → statement M
-best-word-spec =
+pub best_word_spec : {M : Type 1} → statement M
+best_word_spec =
     tie.close
     (tie.spec
     (λ c. search rules)
@@ -13,6 +13,6 @@ best-word-spec =
     (λ c κs. search rules)
     (λ c. search rules)
     (λ c κs. search rules)
-    (λ c. rw c.before.before.a.given.1 c.word.ensures)
+    (λ c. rw c.before.before.a-1.given.1 c.word.ensures)
     (λ c. search rules)
-    (λ c. rw c.before.before.a2.given.1 c.refused-word.ensures))
+    (λ c. rw c.before.before.a-in-Refused-1.given.1 c.refused_word.ensures))

@@ -3,8 +3,8 @@ use borrow.Author.Rules.{rules}
 use Rattle.words.proofs.cheaper_word.Statement.{statement}
 use Rattle.words.proofs.cheaper_word.Tie as tie
 
-pub cheaper-word-spec : {M : Type 1} → statement M
-cheaper-word-spec =
+pub cheaper_word_spec : {M : Type 1} → statement M
+cheaper_word_spec =
     tie.close
     (tie.spec
     (λ c. search rules)
@@ -15,7 +15,7 @@ cheaper-word-spec =
     (λ c κs. search rules)
     (λ c. search rules)
     (λ c κs. search rules)
-    (λ c. rw c.before.before.a.given.1 c.word.ensures)
-    (λ c. rw c.before.before.a2.given.1 c.word2.ensures)
+    (λ c. rw c.before.before.a-1.given.1 c.word.ensures)
+    (λ c. rw c.before.before.a-in-Second-1.given.1 c.word-in-Second.ensures)
     (λ c. search rules)
-    (λ c. rw c.before.before.a3.given.1 c.refused-word.ensures))
+    (λ c. rw c.before.before.a-in-Refused-1.given.1 c.refused_word.ensures))

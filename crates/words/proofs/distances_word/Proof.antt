@@ -3,13 +3,13 @@ use borrow.Author.Rules.{rules}
 use Rattle.words.proofs.distances_word.Statement.{statement}
 use Rattle.words.proofs.distances_word.Tie as tie
 
-pub distances-word-spec : {M : Type 1} → statement M
-distances-word-spec =
+pub distances_word_spec : {M : Type 1} → statement M
+distances_word_spec =
     tie.close
     (tie.spec
     (λ c. search rules)
     (λ c κs. search rules)
     (λ c. search rules)
     (λ c κs. search rules)
-    (λ c. rw c.before.before.a.given.1 c.word.ensures)
-    (λ c. rw c.before.before.a2.given.1 c.refused-word.ensures))
+    (λ c. rw c.before.before.a-1.given.1 c.word.ensures)
+    (λ c. rw c.before.before.a-in-Refused-1.given.1 c.refused_word.ensures))

@@ -3,8 +3,8 @@ use borrow.Author.Rules.{rules}
 use Rattle.words.proofs.found_word.Statement.{statement}
 use Rattle.words.proofs.found_word.Tie as tie
 
-pub found-word-spec : {M : Type 1} → statement M
-found-word-spec =
+pub found_word_spec : {M : Type 1} → statement M
+found_word_spec =
     tie.close
     (tie.spec
     (λ c. search rules)
@@ -12,4 +12,4 @@ found-word-spec =
     (λ c. search rules)
     (λ c κs. search rules)
     (λ c. search rules)
-    (λ c. rw c.before.before.found.given.1 c.refused-word.ensures))
+    (λ c. rw c.before.before.found-1.given.1 c.refused_word.ensures))

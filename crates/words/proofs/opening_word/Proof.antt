@@ -7,14 +7,14 @@ use Rattle.words.proofs.opening_word.Tie as tie
 
 cast-word : tie.Need-overflow-cast-word
 unfolding most_steps
-cast-word c = omega (arith, rw c.before.d.given.1 at c.before.before.before.requires)
+cast-word c = omega (arith, rw c.before.d-1.given.1 at c.before.before.before.requires)
 
 cast-word-2 : tie.Need-overflow-cast-word-2
 unfolding most_steps
-cast-word-2 c = omega (arith, rw c.before.d2.given.1 at c.before.before.before.requires)
+cast-word-2 c = omega (arith, rw c.before.d-in-SecondPart-1.given.1 at c.before.before.before.requires)
 
-pub opening-word-spec : {M : Type 1} → statement M
-opening-word-spec =
+pub opening_word_spec : {M : Type 1} → statement M
+opening_word_spec =
     tie.close
     (tie.spec
     (λ c. search rules)
@@ -27,7 +27,7 @@ opening-word-spec =
     (λ c κs. search rules)
     (λ c. search rules)
     (λ c κs. search rules)
-    (λ c. rw c.before.before.d.given.1 c.word.ensures)
-    (λ c. rw c.before.before.d2.given.1 c.word2.ensures)
-    (λ c. rw c.before.enum_told.given.1 c.word3.ensures)
-    (λ c. rw c.before.enum-told2.given.1 c.word4.ensures))
+    (λ c. rw c.before.before.d-1.given.1 c.word.ensures)
+    (λ c. rw c.before.before.d-in-SecondPart-1.given.1 c.word-in-SecondPart.ensures)
+    (λ c. rw c.before.enum_told-1.given.1 c.word-in-NoPart.ensures)
+    (λ c. rw c.before.enum_told-in-Unread-1.given.1 c.word-in-Unread.ensures))

@@ -18,15 +18,15 @@ returns c =
     let dom = init.before.before.before.before.before in
     let vars = dom.before.before.before.before.before in
     let first = vars.before.before.before.before.before in
-    let head = after (after (after first.put_count.ensures vars.put-count2.ensures) dom.put-values.ensures) init.put-values2.ensures in
-    let front = after (after head goal.put-goal.ensures) quota.put-quota.ensures in
-    let body = after (after front number.put-count3.ensures) ops.put-ops.ensures in
-    after (after (after body count.put-count4.ensures) maps.put-maps.ensures) c.before.before.put-split.ensures
+    let head = after (after (after first.put_count-next.ensures vars.put_count-next-2.ensures) dom.put_values-next.ensures) init.put_values-next-2.ensures in
+    let front = after (after head goal.put_goal-next.ensures) quota.put_quota-next.ensures in
+    let body = after (after front number.put_count-next-3.ensures) ops.put_ops-next.ensures in
+    after (after (after body count.put_count-next-4.ensures) maps.put_maps-next.ensures) c.before.before.put_split.ensures
 
-same_length : tie.Need-same-length
+same_length : tie.Need-shape_of-out
 same_length c = kept_long (returns c)
 
-put-ops-requires : tie.Need-put-ops-requires
+put-ops-requires : tie.Need-put_ops-next-requires
 put-ops-requires c κs =
     let quota = c.before.before.before.before.before.before.before.before in
     let goal = quota.before.before.before.before in
@@ -34,7 +34,7 @@ put-ops-requires c κs =
     let first = dom.before.before.before.before.before.before.before.before.before.before in
     first.before.before.before.before.before.before.before.requires.1
 
-put-maps-requires : tie.Need-put-maps-requires
+put-maps-requires : tie.Need-put_maps-next-requires
 put-maps-requires c κs =
     let ops = c.before.before.before.before.before.before.before.before in
     let quota = ops.before.before.before.before.before.before.before.before.before in
@@ -43,8 +43,8 @@ put-maps-requires c κs =
     let p = dom.before.before.before.before.before.before.before.before.before.before.before.before.before.before.before.before.before.requires in
     (p.0, p.2)
 
-pub put-task-spec : {M : Type 1} → statement M
-put-task-spec =
+pub put_task_spec : {M : Type 1} → statement M
+put_task_spec =
     tie.close
     (tie.spec
     (λ c. search rules)

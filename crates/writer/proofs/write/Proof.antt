@@ -24,37 +24,37 @@ laid t {b = b} e h p =
     let l = e.leaves ∙ pen_over b (text_of t) (omega (arith, text_short_lem t p)) in
     (ap (λ (q : Pen). q.at) l, ap (λ (q : Pen). q.bytes) l)
 
-returns-2 : tie.Need-returns-2
+returns-2 : tie.Need-returns-in-Fault
 returns-2 c =
     let found = c.before.before.before in
-    sym (fault_told _ _ found.before.if1.false _ (sym found.tables-fault.ensures ∙ c.before.found.given.1))
+    sym (fault_told _ _ found.before.if-out-lt-BYTES_MOST.false _ (sym found.tables_fault-found.ensures ∙ c.before.found-1.given.1))
 
-put-task-requires : tie.Need-put-task-requires
+put-task-requires : tie.Need-put_task-requires
 put-task-requires c κs =
-    let s = tables_small _ (sym c.before.before.before.tables-fault.ensures ∙ c.before.enum_told.given.1) in
+    let s = tables_small _ (sym c.before.before.before.tables_fault-found.ensures ∙ c.before.enum_told-1.given.1) in
     (s.vars, s.ops, s.maps)
 
 cast-t13 : tie.Need-overflow-cast-t13
 cast-t13 c =
     let told = c.before.before.before.before in
     let found = told.before.before in
-    let clean = sym found.tables-fault.ensures ∙ told.enum_told.given.1 in
-    let e = (laid _ c.before.before.put-task.ensures found.before.if1.false clean).0 in
+    let clean = sym found.tables_fault-found.ensures ∙ told.enum_told-1.given.1 in
+    let e = (laid _ c.before.before.put_task.ensures found.before.if-out-lt-BYTES_MOST.false clean).0 in
     record { fits = omega (arith, text_short_lem _ clean) }
 
-returns-3 : tie.Need-returns-3
+returns-3 : tie.Need-returns
 returns-3 c =
     let told = c.before.before.before.before in
     let found = told.before.before in
-    let clean = sym found.tables-fault.ensures ∙ told.enum_told.given.1 in
-    let e = laid _ c.before.before.put-task.ensures found.before.if1.false clean in
-    ap₂ (λ (n : ℕ) (o : List ℕ). page (Length n) o) e.0 e.1 ∙ sym (tables_written _ _ found.before.if1.false clean)
+    let clean = sym found.tables_fault-found.ensures ∙ told.enum_told-1.given.1 in
+    let e = laid _ c.before.before.put_task.ensures found.before.if-out-lt-BYTES_MOST.false clean in
+    ap₂ (λ (n : ℕ) (o : List ℕ). page (Length n) o) e.0 e.1 ∙ sym (tables_written _ _ found.before.if-out-lt-BYTES_MOST.false clean)
 
 pub write_spec : {M : Type 1} → statement M
 write_spec =
     tie.close
     (tie.spec
-    (λ c. sym (short_buffer _ _ c.if1.true))
+    (λ c. sym (short_buffer _ _ c.if-out-lt-BYTES_MOST.true))
     (λ c κs. search rules)
     (λ c. search rules)
     returns-2

@@ -4,13 +4,13 @@ use lib.Seq.{length_front}
 use Rattle.cut_texts.proofs.from_lines.take.Statement.{statement}
 use Rattle.cut_texts.proofs.from_lines.take.Tie as tie
 
-slice-aggregate-put-bytes : tie.Need-slice-aggregate-put-bytes
+slice-aggregate-put-bytes : tie.Need-slice_bounds-put_bytes-end
 slice-aggregate-put-bytes c =
     let called = c.before.before.before.before.before.before.before.before in
     let measured = called.before.before.before.before in
     let copied = measured.before.before.before.before in
-    let kept = length_front copied.load-bytes.new.1.1.0 called.take-piece.new.1.0 measured.least.result called.take-piece.auto.1.0 in
-    sym (kept ∙ copied.load-bytes.auto.1.1.0)
+    let kept = length_front copied.load_bytes.new.1.1.0 called.take_piece-taken.new.1.0 measured.least-n.result called.take_piece-taken.auto.1.0 in
+    sym (kept ∙ copied.load_bytes.auto.1.1.0)
 
 pub take_spec : {M : Type 1} → statement M
 take_spec =

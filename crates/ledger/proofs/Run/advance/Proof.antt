@@ -19,9 +19,9 @@ book-requires : tie.Need-book-requires
 book-requires c κs =
     let x = c.before.before.before.before.before.before.before.before in
     let pre = x.requires in
-    (pre.0, pre.1, column_room x.args.t1.len x.args.t1.columns pre.2 pre.3)
+    (pre.0, pre.1, column_room x.args.t1.len x.args.t1.columns-1 pre.2 pre.3)
 
-element-write-self : tie.Need-element-write-self
+element-write-self : tie.Need-bounds-self-at
 unfolding most_steps
 element-write-self c = omega (arith, c.before.before.before.before.before.before.before.before.before.requires.2)
 
@@ -33,8 +33,8 @@ returns : tie.Need-returns
 unfolding advanced onward
 returns c = rw (c.before.before.step.ensures, c.book.ensures) refl
 
-pub advance-spec : {M : Type 1} → statement M
-advance-spec =
+pub advance_spec : {M : Type 1} → statement M
+advance_spec =
     tie.close
     (tie.spec
     (λ c. search rules)

@@ -8,39 +8,39 @@ use mathlib.Core.Path.{◌∙◌, sym}
 use Rattle.ledger.proofs.Run.answer.Statement.{statement}
 use Rattle.ledger.proofs.Run.answer.Tie as tie
 
-is-run-requires : tie.Need-is-run-requires
-is-run-requires c κs = sym c.before.before.tables-fault.ensures ∙ c.enum_told.given.1
+is-run-requires : tie.Need-is_run-requires
+is-run-requires c κs = sym c.before.before.tables_fault-found.ensures ∙ c.enum_told-1.given.1
 
-returns : tie.Need-returns
+returns : tie.Need-returns-then-not-is_run
 returns c =
     let x = c.before.before in
-    answered_not_a_run _ _ _ _ (sym x.before.before.tables-fault.ensures ∙ x.enum_told.given.1)
-    (sym c.before.is_run_lem.ensures ∙ not-true c.before.is_run_lem.result c.if1.true)
+    answered_not_a_run _ _ _ _ (sym x.before.before.tables_fault-found.ensures ∙ x.enum_told-1.given.1)
+    (sym c.before.is_run_lem.ensures ∙ not-true c.before.is_run_lem.result c.if-not-is_run.true)
 
 judge-requires : tie.Need-judge-requires
 judge-requires c κs =
     let x = c.before.before in
-    let clean = sym x.before.before.tables-fault.ensures ∙ x.enum_told.given.1 in
+    let clean = sym x.before.before.tables_fault-found.ensures ∙ x.enum_told-1.given.1 in
     let valid = clean_valid _ clean in (
       valid.vars.1,
       valid.ops,
       (clean_room _ clean).0,
-      (run_tested _ _ (sym c.before.is_run_lem.ensures ∙ not-false c.before.is_run_lem.result c.if1.false)).len,
+      (run_tested _ _ (sym c.before.is_run_lem.ensures ∙ not-false c.before.is_run_lem.result c.if-not-is_run.false)).len,
     )
 
-returns-2 : tie.Need-returns-2
+returns-2 : tie.Need-returns-else-not-is_run
 returns-2 c =
     let y = c.before in
     let x = y.before.before in
     c.judge.ensures
-    ∙ answered_judged _ _ _ _ (sym x.before.before.tables-fault.ensures ∙ x.enum_told.given.1)
-    (sym y.before.is_run_lem.ensures ∙ not-false y.before.is_run_lem.result y.if1.false)
+    ∙ answered_judged _ _ _ _ (sym x.before.before.tables_fault-found.ensures ∙ x.enum_told-1.given.1)
+    (sym y.before.is_run_lem.ensures ∙ not-false y.before.is_run_lem.result y.if-not-is_run.false)
 
-returns-3 : tie.Need-returns-3
-returns-3 c = answered_fault _ _ _ _ _ (sym c.before.before.before.tables-fault.ensures ∙ c.before.found.given.1)
+returns-3 : tie.Need-returns-in-Fault
+returns-3 c = answered_fault _ _ _ _ _ (sym c.before.before.before.tables_fault-found.ensures ∙ c.before.found-1.given.1)
 
-pub answer-spec : {M : Type 1} → statement M
-answer-spec =
+pub answer_spec : {M : Type 1} → statement M
+answer_spec =
     tie.close
     (tie.spec
     (λ c κs. search rules)

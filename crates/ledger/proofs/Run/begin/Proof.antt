@@ -7,21 +7,21 @@ use Rattle.ledger.proofs.Run.begin.Statement.{statement}
 use Rattle.ledger.proofs.Run.begin.Tie as tie
 
 copy-requires : tie.Need-copy-requires
-copy-requires c κs = few_vars _ _ (sym c.before.before.input-fault.ensures ∙ c.enum_told.given.1)
+copy-requires c κs = few_vars _ _ (sym c.before.before.input_fault-found.ensures ∙ c.enum_told-1.given.1)
 
-returns : tie.Need-returns
+returns : tie.Need-returns-in-Clean
 returns c =
     let x = c.before.before in
-    begun_clean _ _ _ (sym x.before.before.input-fault.ensures ∙ x.enum_told.given.1)
-    (c.fresh.ensures ∙ ap fresh c.before.copy.ensures)
+    begun_clean _ _ _ (sym x.before.before.input_fault-found.ensures ∙ x.enum_told-1.given.1)
+    (c.fresh-run.ensures ∙ ap fresh c.before.copy.ensures)
 
-returns-2 : tie.Need-returns-2
+returns-2 : tie.Need-returns-in-Fault
 returns-2 c =
     let x = c.before.before in
-    begun_fault _ _ _ _ (sym x.before.before.input-fault.ensures ∙ x.found.given.1) c.fresh2.ensures
+    begun_fault _ _ _ _ (sym x.before.before.input_fault-found.ensures ∙ x.found-1.given.1) c.fresh-run-in-Fault.ensures
 
-pub begin-spec : {M : Type 1} → statement M
-begin-spec =
+pub begin_spec : {M : Type 1} → statement M
+begin_spec =
     tie.close
     (tie.spec
     (λ c κs. search rules)

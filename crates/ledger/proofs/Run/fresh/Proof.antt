@@ -9,6 +9,6 @@ returns : tie.Need-returns
 unfolding fresh at_start most_steps
 returns c = refl
 
-pub fresh-spec : {M : Type 1} → statement M
-fresh-spec = tie.close (tie.spec
+pub fresh_spec : {M : Type 1} → statement M
+fresh_spec = tie.close (tie.spec
     returns)

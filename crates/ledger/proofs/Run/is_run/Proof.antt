@@ -11,42 +11,42 @@ use Rattle.ledger.proofs.Run.is_run.Tie as tie
 
 -- ---- the places: a test was passed
 
-abbrev after-start : tie.Else3 → tie.Else2
+abbrev after-start : tie.Else-not-zeros_from → tie.Else-not-start_in
 after-start c = c.before.before.before.before.before
 
-abbrev after-len : tie.Else2 → tie.Else1
+abbrev after-len : tie.Else-not-start_in → tie.Else-len-gt-STEPS_MOST
 after-len c = c.before.before.before
 
-abbrev replayed-at : tie.Else4 → tie.After-replay
+abbrev replayed-at : tie.Else-not-t → tie.After-replay-t
 replayed-at c = c.before.before
 
-abbrev after-zeros : tie.After-replay → tie.Else3
+abbrev after-zeros : tie.After-replay-t → tie.Else-not-zeros_from
 after-zeros c = c.before.before.before.before
 
 -- ---- the needs
 
-returns : tie.Need-returns
+returns : tie.Need-returns-then-len-gt-STEPS_MOST
 unfolding most_steps
-returns c = run_long _ _ c.if1.true
+returns c = run_long _ _ c.if-len-gt-STEPS_MOST.true
 
-returns-2 : tie.Need-returns-2
-returns-2 c = let x = c.before.start-in in run_outside _ _ (sym x.ensures ∙ not-true x.result c.if2.true)
+returns-2 : tie.Need-returns-then-not-start_in
+returns-2 c = let x = c.before.start_in in run_outside _ _ (sym x.ensures ∙ not-true x.result c.if-not-start_in.true)
 
-returns-3 : tie.Need-returns-3
-returns-3 c = let x = c.before.zeros-from in run_used _ _ (sym x.ensures ∙ not-true x.result c.if3.true)
+returns-3 : tie.Need-returns-then-not-zeros_from
+returns-3 c = let x = c.before.zeros_from in run_used _ _ (sym x.ensures ∙ not-true x.result c.if-not-zeros_from.true)
 
-replay-requires : tie.Need-replay-requires
+replay-requires : tie.Need-replay-t-requires
 unfolding most_steps
 replay-requires c κs =
     let x = after-len (after-start c.before.before.before) in
     let start = x.before.before.before.before in
-    (start.pre, x.if1.left, omega (arith, x.if1.left, c.replay-arg2.given))
+    (start.pre, x.if-len-gt-STEPS_MOST.left, omega (arith, x.if-len-gt-STEPS_MOST.left, c.replay-arg-2-1.given))
 
-returns-4 : tie.Need-returns-4
+returns-4 : tie.Need-returns-then-not-t
 unfolding given
-returns-4 c = let x = c.before.before.replay in run_stuck _ _ _ x.ensures (not-true x.result.ok c.if4.true)
+returns-4 c = let x = c.before.before.replay-t in run_stuck _ _ _ x.ensures (not-true x.result.ok c.if-not-t.true)
 
-returns-5 : tie.Need-returns-5
+returns-5 : tie.Need-returns
 unfolding given most_steps
 returns-5 c =
     let x4 = c.before in
@@ -54,14 +54,14 @@ returns-5 c =
     let x3 = after-zeros r in
     let x2 = after-start x3 in
     let x1 = after-len x2 in
-    run_stands _ _ _ r.replay.ensures _ x1.if1.left
-    (sym x2.before.start-in.ensures ∙ not-false x2.before.start-in.result x2.if2.left)
-    (sym x3.before.zeros-from.ensures ∙ not-false x3.before.zeros-from.result x3.if3.left)
-    (not-false r.replay.result.ok x4.if4.false)
+    run_stands _ _ _ r.replay-t.ensures _ x1.if-len-gt-STEPS_MOST.left
+    (sym x2.before.start_in.ensures ∙ not-false x2.before.start_in.result x2.if-not-start_in.left)
+    (sym x3.before.zeros_from.ensures ∙ not-false x3.before.zeros_from.result x3.if-not-zeros_from.left)
+    (not-false r.replay-t.result.ok x4.if-not-t.false)
     c.stands_at.ensures
 
-pub is-run-spec : {M : Type 1} → statement M
-is-run-spec =
+pub is_run_spec : {M : Type 1} → statement M
+is_run_spec =
     tie.close
     (tie.spec
     (λ c. search rules)

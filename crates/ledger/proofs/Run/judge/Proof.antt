@@ -6,32 +6,32 @@ use native.Mathlib.Omega.{arith}
 use Rattle.ledger.proofs.Run.judge.Statement.{statement}
 use Rattle.ledger.proofs.Run.judge.Tie as tie
 
-returns : tie.Need-returns
-returns c = judged-none _ _ _ _ _ c.if1.true
+returns : tie.Need-returns-then-c-op
+returns c = judged-none _ _ _ _ _ c.if-c-op.true
 
-returns-2 : tie.Need-returns-2
-returns-2 c = judged-zero _ _ _ _ _ c.before.if1.false c.if2.true
+returns-2 : tie.Need-returns-then-number-eq0
+returns-2 c = judged-zero _ _ _ _ _ c.before.if-c-op.false c.if-number-eq0.true
 
 add-if3 : tie.Need-overflow-add-if3
 unfolding most_steps
 add-if3 c = omega (arith, c.before.before.before.before.before.before.requires.1)
 
-returns-3 : tie.Need-returns-3
-returns-3 c = judged-beyond _ _ _ _ _ c.before.before.before.if1.false c.before.before.if2.false c.if3.true
+returns-3 : tie.Need-returns-then-self-number
+returns-3 c = judged-beyond _ _ _ _ _ c.before.before.before.if-c-op.false c.before.before.if-number-eq0.false c.if-self-number.true
 
-returns-4 : tie.Need-returns-4
+returns-4 : tie.Need-returns-then-number-self
 returns-4 c =
     let x = c.before.before.before.before.before in
-    judged-old _ _ _ _ _ x.before.if1.false x.if2.false _ c.before.if4.true c.old-step.ensures
+    judged-old _ _ _ _ _ x.before.if-c-op.false x.if-number-eq0.false _ c.before.if-number-self.true c.old_step.ensures
 
-returns-5 : tie.Need-returns-5
+returns-5 : tie.Need-returns
 returns-5 c =
     let y = c.before.before.before in
     let x = y.before.before in
-    judged-next _ _ _ _ _ x.before.if1.false x.if2.false _ y.if3.false c.before.if4.false c.next-step.ensures
+    judged-next _ _ _ _ _ x.before.if-c-op.false x.if-number-eq0.false _ y.if-self-number.false c.before.if-number-self.false c.next_step.ensures
 
-pub judge-spec : {M : Type 1} → statement M
-judge-spec =
+pub judge_spec : {M : Type 1} → statement M
+judge_spec =
     tie.close
     (tie.spec
     returns

@@ -6,18 +6,18 @@ use native.Mathlib.Omega.{arith}
 use Rattle.ledger.proofs.Run.old_step.Statement.{statement}
 use Rattle.ledger.proofs.Run.old_step.Tie as tie
 
-element-copy-out-if1 : tie.Need-element-copy-out-if1
+element-copy-out-if1 : tie.Need-bounds-self-at
 unfolding most_steps
 element-copy-out-if1 c = omega (arith, c.requires.2)
 
-returns : tie.Need-returns
-returns c = old-same _ _ _ c.if1.true
+returns : tie.Need-returns-then-self-at
+returns c = old-same _ _ _ c.if-self-at.true
 
-returns-2 : tie.Need-returns-2
-returns-2 c = old_other _ _ _ c.if1.false
+returns-2 : tie.Need-returns
+returns-2 c = old_other _ _ _ c.if-self-at.false
 
-pub old-step-spec : {M : Type 1} → statement M
-old-step-spec = tie.close (tie.spec
+pub old_step_spec : {M : Type 1} → statement M
+old_step_spec = tie.close (tie.spec
     (λ c. search rules)
     (λ c. search rules)
     (λ c. search rules)

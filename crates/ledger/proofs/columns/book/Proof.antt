@@ -15,25 +15,25 @@ use Rattle.tables.proofs.Laws.{filled_end, filled_still}
 use Rattle.scan.proofs.Validity.{clean_valid, clean_room}
 use Rattle.ledger.specs.Ledger.{booked_at}
 use Rattle.ledger.proofs.Gains.{booked_turn, booked_rest, booked_end, column_still}
-use Rattle.ledger.proofs.columns.book.Statement.{statement}
-use Rattle.ledger.proofs.columns.book.Tie as tie
+use Rattle.ledger.proofs.columns-1.book.Statement.{statement}
+use Rattle.ledger.proofs.columns-1.book.Tie as tie
 
-abbrev invariant-loop : tie.invariant-loop
+abbrev invariant-loop : tie.invariant-loop-m
 invariant-loop c facts costs shares columns₀ op o shared₀ m₀ columns shared m =
     (m ≤ c.maps) × (columns ≡ overwritten (booked_at (task_of (tables c facts costs shares)) columns₀ o) columns₀ m)
     × (shared ≡ sum (λ m. share_at shares m o) m)
 
-abbrev decreases-loop : tie.decreases-loop
+abbrev decreases-loop : tie.decreases-loop-m
 decreases-loop c facts costs shares columns₀ op o shared₀ m₀ columns shared m = c.maps - m
 
-loop-holds : tie.Need-loop-init invariant-loop decreases-loop
+loop-holds : tie.Need-loop-m-init invariant-loop decreases-loop
 unfolding overwritten
 loop-holds c = (omega arith, refl, refl)
 
 -- ---- the places
 
 abbrev Loop : Type 0
-Loop = tie.At-loop invariant-loop decreases-loop
+Loop = tie.At-loop-m invariant-loop decreases-loop
 
 abbrev first : Loop → tie.Start invariant-loop decreases-loop
 first x = x.before.before.before.before.before
@@ -50,99 +50,99 @@ valid x = clean_valid (T x) (first x).pre.0
 
 -- ---- in a turn
 
-module _ (x : Loop) (turn : x.loop.m < (first x).args.c.maps) where
-  a-map : x.loop.m < unshared
+module _ (x : Loop) (turn : x.loop-m.m < (first x).args.c.maps) where
+  a-map : x.loop-m.m < unshared
   a-map = omega (arith, (valid x).maps.1)
 
-  within : share_place x.loop.m (first x).args.op.0 < length (first x).args.shares.now
+  within : share_place x.loop-m.m (first x).args.op.0 < length (first x).args.shares.now
   within = omega (arith, a-map, (clean_room (T x) (first x).pre.0).2, (first x).pre.1, (valid x).ops)
 
   -- what the map's column has, and what the shares are together, fit with one share more
   abbrev share : ℕ
-  share = share_at (first x).args.shares.now x.loop.m (first x).args.op.0
+  share = share_at (first x).args.shares.now x.loop-m.m (first x).args.op.0
 
-  column_fits : get_or x.loop.columns x.loop.m 0 + share < 4294967296
+  column_fits : get_or x.loop-m.columns-1 x.loop-m.m 0 + share < 4294967296
   column_fits =
       omega (
         arith,
-        filled_still _ _ _ _ x.loop.inv.1,
-        (valid x).shares x.loop.m (first x).args.op.0 turn (first x).pre.1,
-        (first x).pre.2 x.loop.m (omega (arith, a-map)),
+        filled_still _ _ _ _ x.loop-m.inv.1,
+        (valid x).shares x.loop-m.m (first x).args.op.0 turn (first x).pre.1,
+        (first x).pre.2 x.loop-m.m (omega (arith, a-map)),
       )
 
-  shared-fits : x.loop.shared + share < 4294967296
+  shared-fits : x.loop-m.shared + share < 4294967296
   shared-fits =
       omega (
         arith,
-        x.loop.inv.2,
-        shares_fit (task x) (valid x) (first x).args.op.0 (first x).pre.1 x.loop.m turn,
+        x.loop-m.inv.2,
+        shares_fit (task x) (valid x) (first x).args.op.0 (first x).pre.1 x.loop-m.m turn,
         (valid x).costs (first x).args.op.0 (first x).pre.1,
       )
 
-loop-again : tie.Need-loop-preserved invariant-loop decreases-loop
+loop-again : tie.Need-loop-m-preserved invariant-loop decreases-loop
 loop-again c =
     let x = c.before.before.before.before in
     let o = (first x).args.op.0 in (
       omega arith,
-      booked_turn (task x) (first x).args.columns.now x.loop.columns o x.loop.m _ x.loop.invariant.1 (sym (gain_map (task x) x.loop.m o (omega arith))),
-      sum_more _ x.loop.m _ _ x.loop.invariant.2 refl,
+      booked_turn (task x) (first x).args.columns-1.now x.loop-m.columns-1 o x.loop-m.m _ x.loop-m.invariant.1 (sym (gain_map (task x) x.loop-m.m o (omega arith))),
+      sum_more _ x.loop-m.m _ _ x.loop-m.invariant.2 refl,
     )
 
 -- ---- after the maps
 
-module _ (x : Loop) (done : (first x).args.c.maps ≤ x.loop.m) where
+module _ (x : Loop) (done : (first x).args.c.maps ≤ x.loop-m.m) where
   abbrev o : ℕ
   o = (first x).args.op.0
 
-  all_shares : x.loop.shared ≡ sum (λ m. (task x).share m o) (first x).args.c.maps
-  all_shares = sum_end _ (first x).args.c.maps x.loop.m _ x.loop.inv.2 x.loop.inv.0 done
+  all_shares : x.loop-m.shared ≡ sum (λ m. (task x).share m o) (first x).args.c.maps
+  all_shares = sum_end _ (first x).args.c.maps x.loop-m.m _ x.loop-m.inv.2 x.loop-m.inv.0 done
 
   a-cost : o < length (first x).args.costs.now
   a-cost = omega (arith, (clean_room (T x) (first x).pre.0).1, (first x).pre.1, (valid x).ops)
 
-  shares-within : x.loop.shared ≤ cost_at (first x).args.costs.now o
+  shares-within : x.loop-m.shared ≤ cost_at (first x).args.costs.now o
   shares-within = omega (arith, all_shares, (valid x).split o (first x).pre.1)
 
-  unshared-fits : get_or x.loop.columns unshared 0 + (cost_at (first x).args.costs.now o - x.loop.shared) < 4294967296
+  unshared-fits : get_or x.loop-m.columns-1 unshared 0 + (cost_at (first x).args.costs.now o - x.loop-m.shared) < 4294967296
   unshared-fits =
-      let few : x.loop.m ≤ unshared = omega (arith, x.loop.inv.0, (valid x).maps.1) in
+      let few : x.loop-m.m ≤ unshared = omega (arith, x.loop-m.inv.0, (valid x).maps.1) in
       omega (
         arith,
-        column_still (task x) (first x).args.columns.now x.loop.columns o x.loop.m unshared few x.loop.inv.1,
+        column_still (task x) (first x).args.columns-1.now x.loop-m.columns-1 o x.loop-m.m unshared few x.loop-m.inv.1,
         (valid x).costs o (first x).pre.1,
         (first x).pre.2 unshared (omega arith),
       )
 
   -- with the rest booked only the stored tests are left
   abbrev with_rest : List ℕ
-  with_rest = set x.loop.columns unshared (get_or x.loop.columns unshared 0 + (cost_at (first x).args.costs.now o - x.loop.shared))
+  with_rest = set x.loop-m.columns-1 unshared (get_or x.loop-m.columns-1 unshared 0 + (cost_at (first x).args.costs.now o - x.loop-m.shared))
 
-  rest-booked : with_rest ≡ overwritten (booked_at (task x) (first x).args.columns.now o) (first x).args.columns.now stored_tests
+  rest-booked : with_rest ≡ overwritten (booked_at (task x) (first x).args.columns-1.now o) (first x).args.columns-1.now stored_tests
   rest-booked =
-      booked_rest (task x) (first x).args.columns.now x.loop.columns o _ (valid x).maps.1
-      (filled_end _ _ _ (first x).args.c.maps x.loop.m x.loop.inv.1 x.loop.inv.0 done)
+      booked_rest (task x) (first x).args.columns-1.now x.loop-m.columns-1 o _ (valid x).maps.1
+      (filled_end _ _ _ (first x).args.c.maps x.loop-m.m x.loop-m.inv.1 x.loop-m.inv.0 done)
       (rest_is (task x) o _ _ refl all_shares)
 
   stored-fits : get_or with_rest stored_tests 0 + (task x).mark o < 4294967296
   stored-fits =
       omega (
         arith,
-        column_still (task x) (first x).args.columns.now with_rest o stored_tests stored_tests (omega arith) rest-booked,
+        column_still (task x) (first x).args.columns-1.now with_rest o stored_tests stored_tests (omega arith) rest-booked,
         (valid x).marks o (first x).pre.1,
         (first x).pre.2 stored_tests (omega arith),
       )
 
-abbrev marked : tie.After-mark-of invariant-loop decreases-loop → Loop
+abbrev marked : tie.After-mark_of invariant-loop decreases-loop → Loop
 marked c = c.before.before.before.before.before.before
 
 returns : tie.Need-returns invariant-loop decreases-loop
 returns c =
     let x = marked c in
-    booked_end (task x) (first x).args.columns.now _ (first x).args.op.0 _ (valid x).maps.1 (rest-booked x c.before.before.before.before.if1.false)
+    booked_end (task x) (first x).args.columns-1.now _ (first x).args.op.0 _ (valid x).maps.1 (rest-booked x c.before.before.before.before.loop-m-test.false)
     c.mark_of.ensures
 
-pub book-spec : {M : Type 1} → statement M
-book-spec =
+pub book_spec : {M : Type 1} → statement M
+book_spec =
     tie.close
     (tie.spec
     invariant-loop
@@ -150,27 +150,27 @@ book-spec =
     (λ c. search rules)
     loop-holds
     (λ c. search rules)
-    (λ c. omega (arith, within c.before.before c.if1.true, a-map c.before.before c.if1.true))
-    (λ c. omega (arith, within c.before.before c.if1.true, a-map c.before.before c.if1.true, (first c.before.before).pre.1, (valid c.before.before).ops))
-    (λ c. omega (arith, a-map c.before.before c.if1.true, (first c.before.before).pre.1, (valid c.before.before).ops))
-    (λ c. within c.before.before.before c.before.if1.true)
-    (λ c. omega (arith, a-map c.before.before.before c.before.if1.true))
-    (λ c. omega (arith, a-map c.before.before.before c.before.if1.true))
-    (λ c. omega (arith, column_fits c.before.before.before.before c.before.before.if1.true))
-    (λ c. omega (arith, a-map c.before.before.before.before c.before.before.if1.true))
-    (λ c. omega (arith, a-map c.before.before.before.before c.before.before.if1.true))
-    (λ c. omega (arith, shared-fits c.before.before.before.before c.before.before.if1.true))
-    (λ c. omega (arith, a-map c.before.before.before.before c.before.before.if1.true))
+    (λ c. omega (arith, within c.before.before c.loop-m-test.true, a-map c.before.before c.loop-m-test.true))
+    (λ c. omega (arith, within c.before.before c.loop-m-test.true, a-map c.before.before c.loop-m-test.true, (first c.before.before).pre.1, (valid c.before.before).ops))
+    (λ c. omega (arith, a-map c.before.before c.loop-m-test.true, (first c.before.before).pre.1, (valid c.before.before).ops))
+    (λ c. within c.before.before.before c.before.loop-m-test.true)
+    (λ c. omega (arith, a-map c.before.before.before c.before.loop-m-test.true))
+    (λ c. omega (arith, a-map c.before.before.before c.before.loop-m-test.true))
+    (λ c. omega (arith, column_fits c.before.before.before.before c.before.before.loop-m-test.true))
+    (λ c. omega (arith, a-map c.before.before.before.before c.before.before.loop-m-test.true))
+    (λ c. omega (arith, a-map c.before.before.before.before c.before.before.loop-m-test.true))
+    (λ c. omega (arith, shared-fits c.before.before.before.before c.before.before.loop-m-test.true))
+    (λ c. omega (arith, a-map c.before.before.before.before c.before.before.loop-m-test.true))
     (λ c. search rules)
     loop-again
     (λ c. search rules)
     (λ c. omega (arith, (first c.before.before.before).pre.1, (valid c.before.before.before).ops))
-    (λ c. a-cost c.before.before.before.before c.before.before.if1.false)
-    (λ c. shares-within c.before.before.before.before c.before.before.if1.false)
-    (λ c. omega (arith, unshared-fits c.before.before.before.before c.before.before.if1.false))
+    (λ c. a-cost c.before.before.before.before c.before.before.loop-m-test.false)
+    (λ c. shares-within c.before.before.before.before c.before.before.loop-m-test.false)
+    (λ c. omega (arith, unshared-fits c.before.before.before.before c.before.before.loop-m-test.false))
     (λ c. search rules)
     (λ c. search rules)
     (λ c κs. search rules)
-    (λ c. omega (arith, stored-fits (marked c) c.before.before.before.before.if1.false, c.mark_of.ensures))
+    (λ c. omega (arith, stored-fits (marked c) c.before.before.before.before.loop-m-test.false, c.mark_of.ensures))
     (λ c. search rules)
     returns)

@@ -12,37 +12,37 @@ use native.Mathlib.Omega.{arith}
 use Rattle.ledger.proofs.compare.same_bytes.Statement.{statement}
 use Rattle.ledger.proofs.compare.same_bytes.Tie as tie
 
-abbrev invariant-loop : tie.invariant-loop
+abbrev invariant-loop : tie.invariant-loop-i
 invariant-loop a b i₀ i = (i ≤ most_vars) × (every (same_at a b) i ≡ true)
 
-abbrev decreases-loop : tie.decreases-loop
+abbrev decreases-loop : tie.decreases-loop-i
 decreases-loop a b i₀ i = most_vars - i
 
-loop-holds : tie.Need-loop-init invariant-loop decreases-loop
+loop-holds : tie.Need-loop-i-init invariant-loop decreases-loop
 loop-holds c = (omega arith, refl)
 
-returns : tie.Need-returns invariant-loop decreases-loop
+returns : tie.Need-returns-then-a-i invariant-loop decreases-loop
 unfolding same_to
 returns c =
     let l = c.before.before.before.before in
     let a = l.before.args in
-    sym (every_false (same_at a.a.now a.b.now) most_vars l.loop.i (omega arith) (ne_eqb _ _ c.if1.true))
+    sym (every_false (same_at a.a.now a.b.now) most_vars l.loop-i.i (omega arith) (ne_eqb _ _ c.if-a-i.true))
 
-loop-again : tie.Need-loop-preserved invariant-loop decreases-loop
+loop-again : tie.Need-loop-i-preserved invariant-loop decreases-loop
 loop-again c =
     let l = c.before.before.before.before in
     let a = l.before.args in
-    (omega arith, every_more (same_at a.a.now a.b.now) l.loop.i l.loop.invariant.1 (eq-eqb _ _ c.if1.false))
+    (omega arith, every_more (same_at a.a.now a.b.now) l.loop-i.i l.loop-i.invariant.1 (eq-eqb _ _ c.if-a-i.false))
 
-returns-2 : tie.Need-returns-2 invariant-loop decreases-loop
+returns-2 : tie.Need-returns invariant-loop decreases-loop
 unfolding same_to
 returns-2 c =
     let l = c.before in
     let a = l.before.args in
-    every_end (same_at a.a.now a.b.now) most_vars l.loop.i l.loop.invariant.1 (omega arith) (omega arith)
+    every_end (same_at a.a.now a.b.now) most_vars l.loop-i.i l.loop-i.invariant.1 (omega arith) (omega arith)
 
-pub same-bytes-spec : {M : Type 1} → statement M
-same-bytes-spec =
+pub same_bytes_spec : {M : Type 1} → statement M
+same_bytes_spec =
     tie.close
     (tie.spec
     invariant-loop

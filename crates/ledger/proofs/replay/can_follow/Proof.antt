@@ -5,14 +5,14 @@ use Rattle.ledger.proofs.Answers.{follow-stuck, follow-quota}
 use Rattle.ledger.proofs.replay.can_follow.Statement.{statement}
 use Rattle.ledger.proofs.replay.can_follow.Tie as tie
 
-returns : tie.Need-returns
-returns c = let x = c.before.before in follow-quota _ _ _ _ _ (sym x.can-run.ensures ∙ c.before.if1.true) c.within-quota.ensures
+returns : tie.Need-returns-then-can_run
+returns c = let x = c.before.before in follow-quota _ _ _ _ _ (sym x.can_run.ensures ∙ c.before.if-can_run.true) c.within_quota.ensures
 
-returns-2 : tie.Need-returns-2
-returns-2 c = follow-stuck _ _ _ _ (sym c.before.can-run.ensures ∙ c.if1.false)
+returns-2 : tie.Need-returns
+returns-2 c = follow-stuck _ _ _ _ (sym c.before.can_run.ensures ∙ c.if-can_run.false)
 
-pub can-follow-spec : {M : Type 1} → statement M
-can-follow-spec = tie.close (tie.spec
+pub can_follow_spec : {M : Type 1} → statement M
+can_follow_spec = tie.close (tie.spec
     (λ c κs. search rules)
     (λ c κs. search rules)
     returns

@@ -8,8 +8,8 @@ use Rattle.ledger.proofs.replay.within_quota.Tie as tie
 returns : tie.Need-returns
 returns c = c.can_store.ensures ∙ sym (within-stored _ _ _ _)
 
-pub within-quota-spec : {M : Type 1} → statement M
-within-quota-spec = tie.close (tie.spec
+pub within_quota_spec : {M : Type 1} → statement M
+within_quota_spec = tie.close (tie.spec
     (λ c. search rules)
     (λ c κs. search rules)
     returns)

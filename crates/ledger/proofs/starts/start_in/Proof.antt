@@ -12,42 +12,42 @@ use native.Mathlib.Omega.{arith}
 use Rattle.ledger.proofs.starts.start_in.Statement.{statement}
 use Rattle.ledger.proofs.starts.start_in.Tie as tie
 
-abbrev invariant-loop : tie.invariant-loop
+abbrev invariant-loop : tie.invariant-loop-v
 invariant-loop c facts s v₀ v = (v ≤ most_vars) × (every (starts_at c facts s) v ≡ true)
 
-abbrev decreases-loop : tie.decreases-loop
+abbrev decreases-loop : tie.decreases-loop-v
 decreases-loop c facts s v₀ v = most_vars - v
 
-loop-holds : tie.Need-loop-init invariant-loop decreases-loop
+loop-holds : tie.Need-loop-v-init invariant-loop decreases-loop
 loop-holds c = (omega arith, refl)
 
-returns : tie.Need-returns invariant-loop decreases-loop
+returns : tie.Need-returns-then-not-start_at invariant-loop decreases-loop
 unfolding start_in
 returns c =
     let l = c.before.before.before in
     let a = l.before.before.args in
     sym
-    (every_false (starts_at a.c a.facts.now a.t3) most_vars l.loop.v (omega arith)
-    (sym c.before.start-at.ensures ∙ not-true c.before.start-at.result c.if1.true))
+    (every_false (starts_at a.c a.facts.now a.t3) most_vars l.loop-v.v (omega arith)
+    (sym c.before.start_at.ensures ∙ not-true c.before.start_at.result c.if-not-start_at.true))
 
-loop-again : tie.Need-loop-preserved invariant-loop decreases-loop
+loop-again : tie.Need-loop-v-preserved invariant-loop decreases-loop
 loop-again c =
     let l = c.before.before.before in
     let a = l.before.before.args in (
       omega arith,
-      every_more (starts_at a.c a.facts.now a.t3) l.loop.v l.loop.invariant.1
-          (sym c.before.start-at.ensures ∙ not-false c.before.start-at.result c.if1.false),
+      every_more (starts_at a.c a.facts.now a.t3) l.loop-v.v l.loop-v.invariant.1
+          (sym c.before.start_at.ensures ∙ not-false c.before.start_at.result c.if-not-start_at.false),
     )
 
-returns-2 : tie.Need-returns-2 invariant-loop decreases-loop
+returns-2 : tie.Need-returns invariant-loop decreases-loop
 unfolding start_in
 returns-2 c =
     let l = c.before in
     let a = l.before.before.args in
-    every_end (starts_at a.c a.facts.now a.t3) most_vars l.loop.v l.loop.invariant.1 (omega arith) (omega arith)
+    every_end (starts_at a.c a.facts.now a.t3) most_vars l.loop-v.v l.loop-v.invariant.1 (omega arith) (omega arith)
 
-pub start-in-spec : {M : Type 1} → statement M
-start-in-spec =
+pub start_in_spec : {M : Type 1} → statement M
+start_in_spec =
     tie.close
     (tie.spec
     invariant-loop

@@ -1,10 +1,10 @@
 -- `parts::lay_steps` meets its contract: a row that is laid of all parts says where each operator leads and whether the goal is met. Assumes nothing.
 use borrow.Author.Rules.{rules}
 use Rattle.maps.proofs.Parting.{parts_blank, parted_laid}
-use Rattle.maps.proofs.parts.lay_steps.Statement.{statement}
-use Rattle.maps.proofs.parts.lay_steps.Tie as tie
+use Rattle.maps.proofs.parts-1.lay_steps.Statement.{statement}
+use Rattle.maps.proofs.parts-1.lay_steps.Tie as tie
 
-parts-of-requires : tie.Need-parts-of-requires
+parts-of-requires : tie.Need-parts_of-requires
 parts-of-requires c κs =
     let pre = c.before.before.before.requires in
     (pre.0, pre.1, parts_blank)
@@ -12,11 +12,11 @@ parts-of-requires c κs =
 returns : tie.Need-returns
 returns c =
     let lay = c.before.before.lay in
-    let parts-of = c.before.before.before.before.before.before.parts-of in
+    let parts-of = c.before.before.before.before.before.before.parts_of in
     (parted_laid c.before.before.before.before.before.before.before.before.before.before.requires.0 parts-of.ensures lay.ensures.0, lay.ensures.1)
 
-pub lay-steps-spec : {M : Type 1} → statement M
-lay-steps-spec =
+pub lay_steps_spec : {M : Type 1} → statement M
+lay_steps_spec =
     tie.close
     (tie.spec
     (λ c. search rules)

@@ -17,14 +17,14 @@ adds c = ap (λ (y : ℕ). y * c.before.before.args.stride) (c.wide.ensures.0 �
 small : (c : tie.After-wide) → c.wide.result * c.before.before.args.stride < most_states
 small c = omega (arith, adds c, c.before.before.requires)
 
-returns : tie.Need-returns
-returns c = omega (arith, adds c.before.before, ap fails_if (sym c.before.fact-holds.ensures ∙ c.if1.true))
+returns : tie.Need-returns-then-fact_holds
+returns c = omega (arith, adds c.before.before, ap fails_if (sym c.before.fact_holds.ensures ∙ c.if-fact_holds.true))
 
-returns-2 : tie.Need-returns-2
-returns-2 c = omega (arith, adds c.before.before, ap fails_if (sym c.before.fact-holds.ensures ∙ c.if1.false))
+returns-2 : tie.Need-returns-else-fact_holds
+returns-2 c = omega (arith, adds c.before.before, ap fails_if (sym c.before.fact_holds.ensures ∙ c.if-fact_holds.false))
 
-pub part-of-spec : {M : Type 1} → statement M
-part-of-spec =
+pub part_of_spec : {M : Type 1} → statement M
+part_of_spec =
     tie.close
     (tie.spec
     (λ c κs. search rules)

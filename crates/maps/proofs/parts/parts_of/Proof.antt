@@ -10,48 +10,48 @@ use Rattle.meaning.specs.Numbering.{size}
 use Rattle.tables.specs.Layout.{dom_at}
 use Rattle.maps.specs.Inside.Parts.{Parted}
 use Rattle.maps.proofs.Parting.{strides_small, parted_none, parted_more, parted_end}
-use Rattle.maps.proofs.parts.parts_of.Statement.{statement}
-use Rattle.maps.proofs.parts.parts_of.Tie as tie
+use Rattle.maps.proofs.parts-1.parts_of.Statement.{statement}
+use Rattle.maps.proofs.parts-1.parts_of.Tie as tie
 
-abbrev invariant-loop : tie.invariant-loop
+abbrev invariant-loop : tie.invariant-loop-v
 invariant-loop c facts unit parts₀ vars stride₀ v₀ parts stride v =
     (v ≤ vars) × (stride ≡ unit * size (dom_at facts) v) × Parted c facts unit v parts
 
-abbrev decreases-loop : tie.decreases-loop
+abbrev decreases-loop : tie.decreases-loop-v
 decreases-loop c facts unit parts₀ vars stride₀ v₀ parts stride v = vars - v
 
-abbrev start : tie.In-loop invariant-loop decreases-loop → tie.Start invariant-loop decreases-loop
+abbrev start : tie.In-loop-v invariant-loop decreases-loop → tie.Start invariant-loop decreases-loop
 start c = c.before.before.before.before
 
-abbrev turn : tie.After-wide invariant-loop decreases-loop → tie.In-loop invariant-loop decreases-loop
+abbrev turn : tie.After-wide-stride invariant-loop decreases-loop → tie.In-loop-v invariant-loop decreases-loop
 turn c = c.before.before.before.before.before.before
 
-small : (c : tie.In-loop invariant-loop decreases-loop) → dom_at (start c).args.facts.now c.before.loop.v * c.before.loop.stride ≤ most_states
-small c = strides_small (start c).requires.0 c.loop-test.true (start c).requires.1 c.before.loop.invariant.1
+small : (c : tie.In-loop-v invariant-loop decreases-loop) → dom_at (start c).args.facts.now c.before.loop-v.v * c.before.loop-v.stride ≤ most_states
+small c = strides_small (start c).requires.0 c.loop-v-test.true (start c).requires.1 c.before.loop-v.invariant.1
 
-variable-parts-requires : tie.Need-variable-parts-requires invariant-loop decreases-loop
+variable-parts-requires : tie.Need-variable_parts-requires invariant-loop decreases-loop
 variable-parts-requires c κs =
     let i = c.before.before in
-    ((start i).requires.0, i.loop-test.true, c.before.row_at.ensures, small i, i.before.loop.invariant.2.all)
+    ((start i).requires.0, i.loop-v-test.true, c.before.row_at-k.ensures, small i, i.before.loop-v.invariant.2.all)
 
 -- how many values the variable has
-dom : (c : tie.After-wide invariant-loop decreases-loop) → c.wide.result ≡ dom_at (start (turn c)).args.facts.now (turn c).before.loop.v
-dom c = c.wide.ensures.0 ∙ c.before.before.before.before.before.row_at.ensures
+dom : (c : tie.After-wide-stride invariant-loop decreases-loop) → c.wide-stride.result ≡ dom_at (start (turn c)).args.facts.now (turn c).before.loop-v.v
+dom c = c.wide-stride.ensures.0 ∙ c.before.before.before.before.before.row_at-k.ensures
 
-loop-again : tie.Need-loop-preserved invariant-loop decreases-loop
+loop-again : tie.Need-loop-v-preserved invariant-loop decreases-loop
 loop-again c =
     let i = turn c in
-    let l = i.before.loop in
+    let l = i.before.loop-v in
     let a = (start i).args in
     let stride = ap₂ ◌*◌ l.inv.1 (dom c) ∙ mul_assoc a.unit (size (dom_at a.facts.now) l.v) (dom_at a.facts.now l.v) in (
       search rules,
       rw add-one stride,
-      parted_more l.inv.2 (start i).pre.0 i.loop-test.taken l.inv.1 c.before.before.before.before.before.row_at.ensures
-          c.before.before.before.variable-parts.ensures,
+      parted_more l.inv.2 (start i).pre.0 i.loop-v-test.taken l.inv.1 c.before.before.before.before.before.row_at-k.ensures
+          c.before.before.before.variable_parts.ensures,
     )
 
-pub parts-of-spec : {M : Type 1} → statement M
-parts-of-spec =
+pub parts_of_spec : {M : Type 1} → statement M
+parts_of_spec =
     tie.close
     (tie.spec
     invariant-loop
@@ -60,9 +60,9 @@ parts-of-spec =
     (λ c κs. search rules)
     variable-parts-requires
     (λ c κs. search rules)
-    (λ c. omega (arith, small (turn c), ap (λ (y : ℕ). y * (turn c).before.loop.stride) (dom c)))
+    (λ c. omega (arith, small (turn c), ap (λ (y : ℕ). y * (turn c).before.loop-v.stride) (dom c)))
     (λ c. search rules)
     (λ c. search rules)
     loop-again
-    (λ c. c.before.loop.invariant.2.all.room ∙ sym c.before.before.before.before.requires.2.room)
-    (λ c. parted_end c.before.loop.invariant.2 c.before.loop.invariant.0 c.loop-test.false))
+    (λ c. c.before.loop-v.invariant.2.all.room ∙ sym c.before.before.before.before.requires.2.room)
+    (λ c. parted_end c.before.loop-v.invariant.2 c.before.loop-v.invariant.0 c.loop-v-test.false))

@@ -5,27 +5,27 @@ use mathlib.Core.Path.{sym, ◌∙◌}
 use native.Mathlib.Omega.{arith}
 use Rattle.maps.specs.Inside.Parts.{VariableParts}
 use Rattle.maps.proofs.Parting.{values_none, values_more, values_end}
-use Rattle.maps.proofs.parts.variable_parts.Statement.{statement}
-use Rattle.maps.proofs.parts.variable_parts.Tie as tie
+use Rattle.maps.proofs.parts-1.variable_parts.Statement.{statement}
+use Rattle.maps.proofs.parts-1.variable_parts.Tie as tie
 
-abbrev invariant-loop : tie.invariant-loop
+abbrev invariant-loop : tie.invariant-loop-x
 invariant-loop c facts v k stride parts₀ x₀ parts x = (x ≤ k) × VariableParts c facts v x stride parts₀ parts
 
-abbrev decreases-loop : tie.decreases-loop
+abbrev decreases-loop : tie.decreases-loop-x
 decreases-loop c facts v k stride parts₀ x₀ parts x = k - x
 
-value-parts-requires : tie.Need-value-parts-requires invariant-loop decreases-loop
+value-parts-requires : tie.Need-value_parts-requires invariant-loop decreases-loop
 value-parts-requires c κs =
     let pre = c.before.before.before.before.before.requires in
-    (pre.0, pre.1, omega (arith, c.before.loop-test.true, pre.2), pre.3, c.before.before.loop.invariant.1.all)
+    (pre.0, pre.1, omega (arith, c.before.loop-x-test.true, pre.2), pre.3, c.before.before.loop-x.invariant.1.all)
 
-loop-again : tie.Need-loop-preserved invariant-loop decreases-loop
+loop-again : tie.Need-loop-x-preserved invariant-loop decreases-loop
 loop-again c =
-    let l = c.before.before.before.before.before.loop in
-    (search rules, values_more l.invariant.1 c.before.before.before.before.before.before.before.before.requires.0.ops c.before.before.value-parts.ensures)
+    let l = c.before.before.before.before.before.loop-x in
+    (search rules, values_more l.invariant.1 c.before.before.before.before.before.before.before.before.requires.0.ops c.before.before.value_parts.ensures)
 
-pub variable-parts-spec : {M : Type 1} → statement M
-variable-parts-spec =
+pub variable_parts_spec : {M : Type 1} → statement M
+variable_parts_spec =
     tie.close
     (tie.spec
     invariant-loop
@@ -35,5 +35,5 @@ variable-parts-spec =
     (λ c. search rules)
     (λ c. search rules)
     loop-again
-    (λ c. c.before.loop.invariant.1.all.room ∙ sym c.before.before.before.before.requires.4.room)
-    (λ c. values_end c.before.loop.invariant.1 c.before.loop.invariant.0 c.loop-test.false))
+    (λ c. c.before.loop-x.invariant.1.all.room ∙ sym c.before.before.before.before.requires.4.room)
+    (λ c. values_end c.before.loop-x.invariant.1 c.before.loop-x.invariant.0 c.loop-x-test.false))

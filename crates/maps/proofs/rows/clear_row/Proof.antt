@@ -10,25 +10,25 @@ use Rattle.maps.proofs.Makes.{made_none, made_more}
 use Rattle.maps.proofs.rows.clear_row.Statement.{statement}
 use Rattle.maps.proofs.rows.clear_row.Tie as tie
 
-abbrev invariant-loop : tie.invariant-loop
+abbrev invariant-loop : tie.invariant-loop-o
 invariant-loop t₀ o₀ t o = (o ≤ lanes) × Made (λ a x. x ≡ 0) o t₀ t
 
-abbrev decreases-loop : tie.decreases-loop
+abbrev decreases-loop : tie.decreases-loop-o
 decreases-loop t₀ o₀ t o = lanes - o
 
-slice-write-t : tie.Need-slice-write-t invariant-loop decreases-loop
-slice-write-t c = omega (arith, c.before.loop.invariant.1.size, c.before.before.requires)
+slice-write-t : tie.Need-bounds-t-o invariant-loop decreases-loop
+slice-write-t c = omega (arith, c.before.loop-o.invariant.1.size, c.before.before.requires)
 
-loop-again : tie.Need-loop-preserved invariant-loop decreases-loop
-loop-again c = (search rules, made_more c.before.loop.invariant.1 (slice-write-t c) refl)
+loop-again : tie.Need-loop-o-preserved invariant-loop decreases-loop
+loop-again c = (search rules, made_more c.before.loop-o.invariant.1 (slice-write-t c) refl)
 
 returns : tie.Need-returns invariant-loop decreases-loop
 returns c =
-    let l = c.before.loop in
-    (λ o h. let e : 0 * lanes + o ≡ o = omega arith in ap (λ (i : ℕ). get_or l.t i 0) e ∙ l.invariant.1.made o (omega (arith, c.loop-test.false)), l.invariant.1.size)
+    let l = c.before.loop-o in
+    (λ o h. let e : 0 * lanes + o ≡ o = omega arith in ap (λ (i : ℕ). get_or l.t i 0) e ∙ l.invariant.1.made o (omega (arith, c.loop-o-test.false)), l.invariant.1.size)
 
-pub clear-row-spec : {M : Type 1} → statement M
-clear-row-spec =
+pub clear_row_spec : {M : Type 1} → statement M
+clear_row_spec =
     tie.close
     (tie.spec
     invariant-loop

@@ -8,28 +8,28 @@ use Rattle.maps.proofs.Laying.{LanesLaid, lanes_none, lane_kept, lanes_more, row
 use Rattle.maps.proofs.rows.lay_row.Statement.{statement}
 use Rattle.maps.proofs.rows.lay_row.Tie as tie
 
-abbrev invariant-loop : tie.invariant-loop
+abbrev invariant-loop : tie.invariant-loop-o
 invariant-loop t₀ a b parts at from to o₀ t o = (o ≤ lanes) × LanesLaid a b parts at o t₀ t
 
-abbrev decreases-loop : tie.decreases-loop
+abbrev decreases-loop : tie.decreases-loop-o
 decreases-loop t₀ a b parts at from to o₀ t o = lanes - o
 
 add-t-3 : tie.Need-overflow-add-t-3 invariant-loop decreases-loop
 add-t-3 c =
-    let l = c.before.before.before.loop in
-    let test = c.before.before.loop-test.true in
+    let l = c.before.before.before.loop-o in
+    let test = c.before.before.loop-o-test.true in
     omega (arith, lane_kept l.invariant.1 test, c.before.before.before.before.requires.1 l.o test)
 
-loop-again : tie.Need-loop-preserved invariant-loop decreases-loop
+loop-again : tie.Need-loop-o-preserved invariant-loop decreases-loop
 loop-again c =
-    let l = c.before.before.before.loop in
-    (search rules, lanes_more l.invariant.1 c.before.before.loop-test.true c.before.before.before.before.requires.0.1 refl)
+    let l = c.before.before.before.loop-o in
+    (search rules, lanes_more l.invariant.1 c.before.before.loop-o-test.true c.before.before.before.before.requires.0.1 refl)
 
 returns : tie.Need-returns invariant-loop decreases-loop
-returns c = row_laid c.before.loop.invariant.1 c.before.loop.invariant.0 c.loop-test.false
+returns c = row_laid c.before.loop-o.invariant.1 c.before.loop-o.invariant.0 c.loop-o-test.false
 
-pub lay-row-spec : {M : Type 1} → statement M
-lay-row-spec =
+pub lay_row_spec : {M : Type 1} → statement M
+lay_row_spec =
     tie.close
     (tie.spec
     invariant-loop

@@ -7,31 +7,31 @@ use Rattle.maps.proofs.Laying.{value_none, value_end, row_kept, value_more}
 use Rattle.maps.proofs.rows.lay_value.Statement.{statement}
 use Rattle.maps.proofs.rows.lay_value.Tie as tie
 
-abbrev invariant-loop : tie.invariant-loop
+abbrev invariant-loop : tie.invariant-loop-i
 invariant-loop t₀ len base parts at i₀ t i = (i ≤ len) × ValueLaid len base parts at i t₀ t
 
-abbrev decreases-loop : tie.decreases-loop
+abbrev decreases-loop : tie.decreases-loop-i
 decreases-loop t₀ len base parts at i₀ t i = len - i
 
-lay-row-requires : tie.Need-lay-row-requires invariant-loop decreases-loop
+lay-row-requires : tie.Need-lay_row-requires invariant-loop decreases-loop
 lay-row-requires c κs =
-    let l = c.before.before.loop in
+    let l = c.before.before.loop-i in
     let pre = c.before.before.before.before.before.requires in
-    let test = c.before.loop-test.true in
+    let test = c.before.loop-i-test.true in
     let room = l.invariant.1.size in (
       (omega (arith, pre.0.2), omega (arith, pre.0.2), omega (arith, pre.0.1), omega (arith, pre.0.1), pre.0.3),
       λ o h. omega (arith, row_kept l.invariant.1 pre.0.0 test o h, pre.1 l.i o test h),
     )
 
-loop-again : tie.Need-loop-preserved invariant-loop decreases-loop
+loop-again : tie.Need-loop-i-preserved invariant-loop decreases-loop
 loop-again c =
-    let l = c.before.before.before.before.before.loop in
-    let test = c.before.before.before.before.loop-test.true in
+    let l = c.before.before.before.before.before.loop-i in
+    let test = c.before.before.before.before.loop-i-test.true in
     let pre = c.before.before.before.before.before.before.before.before.requires in
-    (omega arith, value_more l.invariant.1 pre.0.0 test c.before.before.lay-row.ensures)
+    (omega arith, value_more l.invariant.1 pre.0.0 test c.before.before.lay_row.ensures)
 
-pub lay-value-spec : {M : Type 1} → statement M
-lay-value-spec =
+pub lay_value_spec : {M : Type 1} → statement M
+lay_value_spec =
     tie.close
     (tie.spec
     invariant-loop
@@ -43,4 +43,4 @@ lay-value-spec =
     (λ c. search rules)
     loop-again
     (λ c. search rules)
-    (λ c. value_end c.before.loop.invariant.1 c.before.loop.invariant.0 c.loop-test.false))
+    (λ c. value_end c.before.loop-i.invariant.1 c.before.loop-i.invariant.0 c.loop-i-test.false))

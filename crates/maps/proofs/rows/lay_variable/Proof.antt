@@ -8,26 +8,26 @@ use Rattle.maps.proofs.Laying.{Placed, placed, variable_none, variable_end, firs
 use Rattle.maps.proofs.rows.lay_variable.Statement.{statement}
 use Rattle.maps.proofs.rows.lay_variable.Tie as tie
 
-abbrev invariant-loop : tie.invariant-loop
+abbrev invariant-loop : tie.invariant-loop-x
 invariant-loop t₀ len k parts v x₀ base₀ t x base = (x ≤ k) × (base ≡ x * len) × VariableLaid len k parts v x t₀ t
 
-abbrev decreases-loop : tie.decreases-loop
+abbrev decreases-loop : tie.decreases-loop-x
 decreases-loop t₀ len k parts v x₀ base₀ t x base = x
 
 -- the place of the turn's rows
-place : (c : tie.In-loop invariant-loop decreases-loop)
-    → Placed c.before.before.before.before.args.len c.before.before.before.before.args.k c.before.loop.x c.before.loop.base
+place : (c : tie.In-loop-x invariant-loop decreases-loop)
+    → Placed c.before.before.before.before.args.len c.before.before.before.before.args.k c.before.loop-x.x c.before.loop-x.base
 place c =
     let a = c.before.before.before.before.args in
-    let l = c.before.loop in
-    placed a.len a.k l.x l.base c.loop-test.true l.invariant.0 l.invariant.1
+    let l = c.before.loop-x in
+    placed a.len a.k l.x l.base c.loop-x-test.true l.invariant.0 l.invariant.1
 
-lay-value-requires : tie.Need-lay-value-requires invariant-loop decreases-loop
+lay-value-requires : tie.Need-lay_value-requires invariant-loop decreases-loop
 lay-value-requires c κs =
     let a = c.before.before.before.before.before.args in
-    let l = c.before.before.loop in
+    let l = c.before.before.loop-x in
     let pre = c.before.before.before.before.before.requires in
-    let test = c.before.loop-test.true in
+    let test = c.before.loop-x-test.true in
     let p = place c.before in
     let P = pre.0.5 in (
       (
@@ -39,15 +39,15 @@ lay-value-requires c κs =
       λ i o h g. omega (arith, first_kept l.invariant.2 test i o h g, pre.1 i o h g, P.small ((a.v * 8 + (l.x - 1)) * lanes + o)),
     )
 
-loop-again : tie.Need-loop-preserved invariant-loop decreases-loop
+loop-again : tie.Need-loop-x-preserved invariant-loop decreases-loop
 loop-again c =
-    let l = c.before.before.before.before.before.loop in
-    let test = c.before.before.before.before.loop-test.true in
+    let l = c.before.before.before.before.before.loop-x in
+    let test = c.before.before.before.before.loop-x-test.true in
     let p = place c.before.before.before.before in
-    (omega (arith, l.invariant.0), p.next, variable_more l.invariant.2 (omega arith) p.next c.before.before.lay-value.ensures)
+    (omega (arith, l.invariant.0), p.next, variable_more l.invariant.2 (omega arith) p.next c.before.before.lay_value.ensures)
 
-pub lay-variable-spec : {M : Type 1} → statement M
-lay-variable-spec =
+pub lay_variable_spec : {M : Type 1} → statement M
+lay_variable_spec =
     tie.close
     (tie.spec
     invariant-loop
@@ -63,4 +63,4 @@ lay-variable-spec =
     (λ c. search rules)
     loop-again
     (λ c. search rules)
-    (λ c. variable_end c.before.loop.invariant.2 c.loop-test.false))
+    (λ c. variable_end c.before.loop-x.invariant.2 c.loop-x-test.false))

@@ -10,14 +10,14 @@ use Rattle.quick.proofs.Working.{lane_place, op_skip}
 use Rattle.quick.proofs.run.relax_if.Statement.{statement}
 use Rattle.quick.proofs.run.relax_if.Tie as tie
 
-abbrev start : tie.After-slice-known3 → tie.Start
+abbrev start : tie.After-slice_known-3-1 → tie.Start
 start c = c.before.before.before.before.before.before.before.before
 
 -- the lane is in the row, and the row in the table
-lane : (c : tie.After-slice-known3) → ((start c).args.o < lanes) × ((start c).args.b * lanes + (start c).args.o < length (start c).args.fits.now)
+lane : (c : tie.After-slice_known-3-1) → ((start c).args.o < lanes) × ((start c).args.b * lanes + (start c).args.o < length (start c).args.fits.now)
 lane c = let pre = (start c).requires.0 in lane_place pre.0 pre.1 pre.2
 
-relax-op-requires : tie.Need-relax-op-requires
+relax-op-requires : tie.Need-relax_op-requires
 relax-op-requires c κs =
     let then = c.before.before.before in
     let s = start then.before.before in
@@ -27,23 +27,23 @@ relax-op-requires c κs =
         record {
           op = pre.1;
           state = omega (arith, pre.2, pre.0.states);
-          match = sym (pre.0.fit.ops s.args.o s.args.b pre.1 (omega (arith, pre.2, pre.0.states))) ∙ eq-eqb _ 0 then.if1.true;
+          match = sym (pre.0.fit.ops s.args.o s.args.b pre.1 (omega (arith, pre.2, pre.0.states))) ∙ eq-eqb _ 0 then.if-fits-b-eq0.true;
         },
         pre.3,
       ),
       s.pre.1,
     )
 
-returns-2 : tie.Need-returns-2
+returns-2 : tie.Need-returns-else-fits-b-eq0
 returns-2 c =
     let s = start c.before.before in
     let pre = s.pre.0 in
     op_skip pre.0 pre.1
-    (sym (pre.0.fit.ops s.args.o s.args.b pre.1 (omega (arith, pre.2, pre.0.states))) ∙ ne_eqb _ 0 c.if1.false)
+    (sym (pre.0.fit.ops s.args.o s.args.b pre.1 (omega (arith, pre.2, pre.0.states))) ∙ ne_eqb _ 0 c.if-fits-b-eq0.false)
     pre.3 s.pre.1
 
-pub relax-if-spec : {M : Type 1} → statement M
-relax-if-spec =
+pub relax_if_spec : {M : Type 1} → statement M
+relax_if_spec =
     tie.close
     (tie.spec
     (λ c. omega (arith, lane c, (start c).requires.0.2))

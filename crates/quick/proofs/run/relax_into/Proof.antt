@@ -10,29 +10,29 @@ use Rattle.quick.proofs.Working.{relaxed_more, all_none, all_end}
 use Rattle.quick.proofs.run.relax_into.Statement.{statement}
 use Rattle.quick.proofs.run.relax_into.Tie as tie
 
-abbrev invariant-loop : tie.invariant-loop
+abbrev invariant-loop : tie.invariant-loop-o
 invariant-loop c facts prices n fits turns back b label labels₀ t₀ best₀ ops o₀ labels t best o =
     (o ≤ ops) × Relaxed (scaled_of c facts prices) b label (From o) labels₀ t₀ best₀ labels t best
     × (length labels ≡ length labels₀) × (length best ≡ length best₀)
 
-abbrev decreases-loop : tie.decreases-loop
+abbrev decreases-loop : tie.decreases-loop-o
 decreases-loop c facts prices n fits turns back b label labels₀ t₀ best₀ ops o₀ labels t best o = ops - o
 
-relax-if-requires : tie.Need-relax-if-requires invariant-loop decreases-loop
+relax-if-requires : tie.Need-relax_if-requires invariant-loop decreases-loop
 relax-if-requires c κs =
     let i = c.before.before.before in
     let pre = i.before.before.before.before.before.before.before.before.before.before.requires.0 in
-    let before = i.before.loop.invariant.1 in
-    ((pre.0, i.loop-test.true, pre.1, before.held), before.run)
+    let before = i.before.loop-o.invariant.1 in
+    ((pre.0, i.loop-o-test.true, pre.1, before.held), before.run)
 
-loop-again : tie.Need-loop-preserved invariant-loop decreases-loop
+loop-again : tie.Need-loop-o-preserved invariant-loop decreases-loop
 loop-again c =
     let looked = c.before.before.before.before.before.before in
     let i = looked.before.before.before.before in
-    (omega (arith, i.loop-test.true), relaxed_more i.before.loop.invariant.1 looked.relax-if.ensures, search rules, search rules)
+    (omega (arith, i.loop-o-test.true), relaxed_more i.before.loop-o.invariant.1 looked.relax_if.ensures, search rules, search rules)
 
-pub relax-into-spec : {M : Type 1} → statement M
-relax-into-spec =
+pub relax_into_spec : {M : Type 1} → statement M
+relax_into_spec =
     tie.close
     (tie.spec
     invariant-loop
@@ -45,4 +45,4 @@ relax-into-spec =
     (λ c. search rules)
     (λ c. search rules)
     (λ c. search rules)
-    (λ c. all_end c.loop-test.false c.before.loop.invariant.1))
+    (λ c. all_end c.loop-o-test.false c.before.loop-o.invariant.1))

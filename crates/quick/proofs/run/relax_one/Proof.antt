@@ -5,7 +5,7 @@ use Rattle.quick.proofs.Working.{may_offer, from_below, one_relaxed}
 use Rattle.quick.proofs.run.relax_one.Statement.{statement}
 use Rattle.quick.proofs.run.relax_one.Tie as tie
 
-abbrev start : tie.After-offer-arg3 → tie.Start
+abbrev start : tie.After-offer-arg-3-1 → tie.Start
 start c = c.before.before.before.before.before.before.before.before.before.before.before
 
 offer-requires : tie.Need-offer-requires
@@ -21,8 +21,8 @@ returns c =
     let at = pre.1.0 in
     one_relaxed pre.0.0 pre.0.1 pre.0.2 at.0 at.1 at.2 pre.1.1 offered.offer.ensures
 
-pub relax-one-spec : {M : Type 1} → statement M
-relax-one-spec =
+pub relax_one_spec : {M : Type 1} → statement M
+relax_one_spec =
     tie.close
     (tie.spec
     (λ c. let pre = (start c).requires in omega (arith, pre.0.1.op, pre.0.0.walk.ops))

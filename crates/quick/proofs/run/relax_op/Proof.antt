@@ -12,24 +12,24 @@ use Rattle.quick.proofs.Working.{relaxed_more, back_small, turn_places, list_pla
 use Rattle.quick.proofs.run.relax_op.Statement.{statement}
 use Rattle.quick.proofs.run.relax_op.Tie as tie
 
-abbrev invariant-loop : tie.invariant-loop
+abbrev invariant-loop : tie.invariant-loop-i
 invariant-loop c facts prices n fits turns back b o label labels₀ t₀ best₀ new base count at i₀ labels t best i =
     (i ≤ count) × Relaxed (scaled_of c facts prices) b label (Left n turns back b o i) labels₀ t₀ best₀ labels t best
     × (length labels ≡ length labels₀) × (length best ≡ length best₀)
 
-abbrev decreases-loop : tie.decreases-loop
+abbrev decreases-loop : tie.decreases-loop-i
 decreases-loop c facts prices n fits turns back b o label labels₀ t₀ best₀ new base count at i₀ labels t best i = count - i
 
 -- what was handed in, from the price on, and from a turn
-abbrev start : tie.After-cost-at invariant-loop decreases-loop → tie.Start invariant-loop decreases-loop
+abbrev start : tie.After-cost_at invariant-loop decreases-loop → tie.Start invariant-loop decreases-loop
 start c = c.before.before.before.before.before.before.before.before.before
 
-abbrev start-in : tie.In-loop invariant-loop decreases-loop → tie.Start invariant-loop decreases-loop
+abbrev start-in : tie.In-loop-i invariant-loop decreases-loop → tie.Start invariant-loop decreases-loop
 start-in c = c.before.before.before.before.before.before.before.before.before.before.before.before.before.before.before
 
 -- the price is small
-price : (c : tie.After-cost-at invariant-loop decreases-loop) → c.cost-at.result ≤ 1000000
-price c = let s = start c in omega (arith, c.cost-at.ensures, s.pre.0.0.priced s.args.o s.pre.0.1.op)
+price : (c : tie.After-cost_at invariant-loop decreases-loop) → c.cost_at.result ≤ 1000000
+price c = let s = start c in omega (arith, c.cost_at.ensures, s.pre.0.0.priced s.args.o s.pre.0.1.op)
 
 -- the operator's places are there
 places : (s : tie.Start invariant-loop decreases-loop) → (s.args.o < 64) × (128 + s.args.o < length s.args.turns.now)
@@ -50,42 +50,42 @@ base s =
     let small = back_small s.requires.0.0 s.requires.0.1 0 (some s) in
     (small.0, small.1)
 
-inside : (c : tie.In-loop invariant-loop decreases-loop)
-    → (start-in c).args.o * (start-in c).args.n + c.before.loop.i < length (start-in c).args.back.now
-inside c = let s = start-in c in list_place s.pre.0.0 s.pre.0.1 c.before.loop.i c.loop-test.true
+inside : (c : tie.In-loop-i invariant-loop decreases-loop)
+    → (start-in c).args.o * (start-in c).args.n + c.before.loop-i.i < length (start-in c).args.back.now
+inside c = let s = start-in c in list_place s.pre.0.0 s.pre.0.1 c.before.loop-i.i c.loop-i-test.true
 
-relax-one-requires : tie.Need-relax-one-requires invariant-loop decreases-loop
+relax-one-requires : tie.Need-relax_one-requires invariant-loop decreases-loop
 unfolding back_at
 relax-one-requires c κs =
     let i = c.before.before.before.before in
     let s = start-in i in
-    let l = i.before.loop in
+    let l = i.before.loop-i in
     let priced = i.before.before.before.before.before in (
       (s.pre.0.0, s.pre.0.1, l.invariant.1.held),
-      ((i.loop-test.true, refl, omega (arith, priced.scaled-price.ensures, priced.before.cost-at.ensures)), l.invariant.1.run),
+      ((i.loop-i-test.true, refl, omega (arith, priced.scaled_price.ensures, priced.before.cost_at.ensures)), l.invariant.1.run),
     )
 
-loop-again : tie.Need-loop-preserved invariant-loop decreases-loop
+loop-again : tie.Need-loop-i-preserved invariant-loop decreases-loop
 loop-again c =
     let one = c.before.before.before.before.before.before in
     let i = one.before.before.before.before.before in
-    let l = i.before.loop in
-    (omega (arith, i.loop-test.true), relaxed_more l.invariant.1 one.relax-one.ensures, search rules, search rules)
+    let l = i.before.loop-i in
+    (omega (arith, i.loop-i-test.true), relaxed_more l.invariant.1 one.relax_one.ensures, search rules, search rules)
 
 returns : tie.Need-returns invariant-loop decreases-loop
 returns c =
     let pre = c.before.before.before.before.before.before.before.before.before.before.before.before.before.before.before.requires.0 in
-    op_all pre.0 pre.1.op c.loop-test.false c.before.loop.invariant.1
+    op_all pre.0 pre.1.op c.loop-i-test.false c.before.loop-i.invariant.1
 
-pub relax-op-spec : {M : Type 1} → statement M
-relax-op-spec =
+pub relax_op_spec : {M : Type 1} → statement M
+relax_op_spec =
     tie.close
     (tie.spec
     invariant-loop
     decreases-loop
     (λ c κs. search rules)
     (λ c κs. price c)
-    (λ c. omega (arith, c.scaled-price.ensures, price c.before, (start c.before).pre.0.2.finite))
+    (λ c. omega (arith, c.scaled_price.ensures, price c.before, (start c.before).pre.0.2.finite))
     (λ c. omega (arith, places (start c.before)))
     (λ c. omega (arith, places (start c.before.before)))
     (λ c. (base (start c.before.before)).0)
@@ -102,11 +102,11 @@ relax-op-spec =
     (λ c. omega (arith, inside c))
     (λ c. omega (arith, inside c))
     (λ c. inside c.before)
-    (λ c. let s = start-in c.before in omega (arith, c.shared-slice-known9.given (s.args.o * s.args.n + c.before.before.loop.i)))
-    (λ c. let s = start-in c.before in omega (arith, (back_small s.pre.0.0 s.pre.0.1 c.before.before.loop.i c.before.loop-test.true).2))
+    (λ c. let s = start-in c.before in omega (arith, c.shared_slice_known-in-loop-i-1.given (s.args.o * s.args.n + c.before.before.loop-i.i)))
+    (λ c. let s = start-in c.before in omega (arith, (back_small s.pre.0.0 s.pre.0.1 c.before.before.loop-i.i c.before.loop-i-test.true).2))
     relax-one-requires
-    (λ c. let i = c.before.before.before.before.before.before.before.before.before.before.before in omega (arith, i.loop-test.true, few (start-in i)))
-    (λ c. let i = c.before.before.before.before.before.before.before.before.before.before.before in omega (arith, i.loop-test.true))
+    (λ c. let i = c.before.before.before.before.before.before.before.before.before.before.before in omega (arith, i.loop-i-test.true, few (start-in i)))
+    (λ c. let i = c.before.before.before.before.before.before.before.before.before.before.before in omega (arith, i.loop-i-test.true))
     loop-again
     (λ c. search rules)
     (λ c. search rules)

@@ -7,10 +7,10 @@ use Rattle.records.proofs.laying.counted.Statement.{statement}
 use Rattle.records.proofs.laying.counted.Tie as tie
 
 cast-ops : tie.Need-overflow-cast-ops
-cast-ops c = omega (arith, at_most_limit more_ops c.before.args.n, c.at_most.ensures)
+cast-ops c = omega (arith, at_most_limit more_ops c.before.args.n, c.at_most-ops.ensures)
 
 returns : tie.Need-returns
-returns c = rw c.at_most.ensures
+returns c = rw c.at_most-ops.ensures
 
 pub counted_spec : {M : Type 1} → statement M
 counted_spec = tie.close (tie.spec

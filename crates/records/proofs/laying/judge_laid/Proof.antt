@@ -5,19 +5,19 @@ use Rattle.records.proofs.Laws.{judged_laid, judged_short}
 use Rattle.records.proofs.laying.judge_laid.Statement.{statement}
 use Rattle.records.proofs.laying.judge_laid.Tie as tie
 
-returns : tie.Need-returns
+returns : tie.Need-returns-then-room-lt-FACTS_ROOM
 returns c =
     let a = c.before.before.before.before.args in
-    judged_short a.c a.room a.n a.t a.shares.now a.s.now a.ops.now c.if1.true
+    judged_short a.c a.room a.n a.t a.shares.now a.s.now a.ops.now c.if-room-lt-FACTS_ROOM.true
 
-returns-2 : tie.Need-returns-2
+returns-2 : tie.Need-returns
 returns-2 c =
     let a = c.before.before.before.before.before.before.before.before.before.before.args in
     judged_laid a.c c.before.before.before.counted.result a.room a.n a.t a.shares.now a.s.now a.ops.now c.judge.result (omega arith)
     c.before.before.before.counted.ensures c.judge.ensures
 
-pub judge-laid-spec : {M : Type 1} → statement M
-judge-laid-spec =
+pub judge_laid_spec : {M : Type 1} → statement M
+judge_laid_spec =
     tie.close
     (tie.spec
     returns

@@ -8,10 +8,10 @@ returns : tie.Need-returns
 unfolding laid_one
 returns c =
     let x = c.before.before.before in
-    rw (c.with-mark.ensures, c.before.with-row2.ensures, c.before.before.eff-row.ensures, x.with_row.ensures, x.before.pre-row.ensures)
+    rw (c.with_mark.ensures, c.before.with_row-laid.ensures, c.before.before.eff_row.ensures, x.with_row-asked.ensures, x.before.pre_row.ensures)
 
-pub with-record-spec : {M : Type 1} → statement M
-with-record-spec =
+pub with_record_spec : {M : Type 1} → statement M
+with_record_spec =
     tie.close
     (tie.spec
     (λ c. search rules)

@@ -9,30 +9,30 @@ use Rattle.records.proofs.Laws.{row_next, row_end}
 use Rattle.records.proofs.laying.with_row.Statement.{statement}
 use Rattle.records.proofs.laying.with_row.Tie as tie
 
-abbrev invariant-loop : tie.invariant-loop
+abbrev invariant-loop : tie.invariant-loop-v
 invariant-loop row values laid₀ v₀ laid v = (v ≤ most_vars) × (laid ≡ row_laid laid₀ row values v)
 
-abbrev decreases-loop : tie.decreases-loop
+abbrev decreases-loop : tie.decreases-loop-v
 decreases-loop row values laid₀ v₀ laid v = most_vars - v
 
-loop-holds : tie.Need-loop-init invariant-loop decreases-loop
+loop-holds : tie.Need-loop-v-init invariant-loop decreases-loop
 unfolding row_laid
 loop-holds c = (omega arith, refl)
 
-loop-again : tie.Need-loop-preserved invariant-loop decreases-loop
+loop-again : tie.Need-loop-v-preserved invariant-loop decreases-loop
 loop-again c =
     let a = c.before.before.args in
-    let l = c.before.loop in
+    let l = c.before.loop-v in
     (omega arith, row_next a.facts a.t3 l.laid a.row l.v l.invariant.1)
 
 returns : tie.Need-returns invariant-loop decreases-loop
 returns c =
     let a = c.before.before.args in
-    let l = c.before.loop in
+    let l = c.before.loop-v in
     row_end a.facts a.t3 l.laid a.row most_vars l.v l.invariant.1 (omega arith) (omega arith)
 
-pub with-row-spec : {M : Type 1} → statement M
-with-row-spec =
+pub with_row_spec : {M : Type 1} → statement M
+with_row_spec =
     tie.close
     (tie.spec
     invariant-loop

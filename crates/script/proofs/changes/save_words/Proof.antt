@@ -3,14 +3,14 @@ use Rattle.std.proofs.Common.{◌≡◌, ◌-◌, length, rules}
 use Rattle.script.proofs.changes.save_words.Statement.{statement}
 use Rattle.script.proofs.changes.save_words.Tie as tie
 
-abbrev invariant-loop : tie.invariant-loop
+abbrev invariant-loop : tie.invariant-loop-i
 invariant-loop held₀ k from tally₀ i₀ held tally i = length held ≡ length held₀
 
-abbrev decreases-loop : tie.decreases-loop
+abbrev decreases-loop : tie.decreases-loop-i
 decreases-loop held₀ k from tally₀ i₀ held tally i = length from - i
 
-pub save-words-spec : {M : Type 1} → statement M
-save-words-spec =
+pub save_words_spec : {M : Type 1} → statement M
+save_words_spec =
     tie.close
     (tie.spec
     invariant-loop

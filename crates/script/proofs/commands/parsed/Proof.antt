@@ -3,14 +3,14 @@ use Rattle.std.proofs.Common.{◌-◌, rules}
 use Rattle.script.proofs.commands.parsed.Statement.{statement}
 use Rattle.script.proofs.commands.parsed.Tie as tie
 
-abbrev invariant-loop : tie.invariant-loop
+abbrev invariant-loop : tie.invariant-loop-i
 invariant-loop line command₀ n i₀ command i = Unit {0}
 
-abbrev decreases-loop : tie.decreases-loop
+abbrev decreases-loop : tie.decreases-loop-i
 decreases-loop line command₀ n i₀ command i = n - i
 
-pub parsed-spec : {M : Type 1} → statement M
-parsed-spec =
+pub parsed_spec : {M : Type 1} → statement M
+parsed_spec =
     tie.close
     (tie.spec
     invariant-loop

@@ -3,14 +3,14 @@ use Rattle.std.proofs.Common.{◌≡◌, ◌-◌, length, rules}
 use Rattle.script.proofs.held.load_bytes.Statement.{statement}
 use Rattle.script.proofs.held.load_bytes.Tie as tie
 
-abbrev invariant-loop : tie.invariant-loop
+abbrev invariant-loop : tie.invariant-loop-i
 invariant-loop held k to₀ i₀ to i = length to ≡ length to₀
 
-abbrev decreases-loop : tie.decreases-loop
+abbrev decreases-loop : tie.decreases-loop-i
 decreases-loop held k to₀ i₀ to i = length to₀ - i
 
-pub load-bytes-spec : {M : Type 1} → statement M
-load-bytes-spec =
+pub load_bytes_spec : {M : Type 1} → statement M
+load_bytes_spec =
     tie.close
     (tie.spec
     invariant-loop

@@ -3,14 +3,14 @@ use Rattle.std.proofs.Common.{◌≡◌, ◌-◌, length, rules}
 use Rattle.script.proofs.held.load_words.Statement.{statement}
 use Rattle.script.proofs.held.load_words.Tie as tie
 
-abbrev invariant-loop : tie.invariant-loop
+abbrev invariant-loop : tie.invariant-loop-i
 invariant-loop held k to₀ i₀ to i = length to ≡ length to₀
 
-abbrev decreases-loop : tie.decreases-loop
+abbrev decreases-loop : tie.decreases-loop-i
 decreases-loop held k to₀ i₀ to i = length to₀ - i
 
-pub load-words-spec : {M : Type 1} → statement M
-load-words-spec =
+pub load_words_spec : {M : Type 1} → statement M
+load_words_spec =
     tie.close
     (tie.spec
     invariant-loop

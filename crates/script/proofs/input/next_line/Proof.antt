@@ -3,14 +3,14 @@ use Rattle.std.proofs.Common.{◌≡◌, length, rules}
 use Rattle.script.proofs.input.next_line.Statement.{statement}
 use Rattle.script.proofs.input.next_line.Tie as tie
 
-abbrev invariant-loop : tie.invariant-loop
+abbrev invariant-loop : tie.invariant-loop-turns
 invariant-loop buf₀ input₀ line₀ turns₀ buf input line turns = length buf ≡ length buf₀
 
-abbrev decreases-loop : tie.decreases-loop
+abbrev decreases-loop : tie.decreases-loop-turns
 decreases-loop buf₀ input₀ line₀ turns₀ buf input line turns = turns
 
-pub next-line-spec : {M : Type 1} → statement M
-next-line-spec =
+pub next_line_spec : {M : Type 1} → statement M
+next_line_spec =
     tie.close
     (tie.spec
     invariant-loop

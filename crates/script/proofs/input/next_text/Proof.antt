@@ -3,14 +3,14 @@ use Rattle.std.proofs.Common.{◌≡◌, ◌-◌, length, rules}
 use Rattle.script.proofs.input.next_text.Statement.{statement}
 use Rattle.script.proofs.input.next_text.Tie as tie
 
-abbrev invariant-loop : tie.invariant-loop
+abbrev invariant-loop : tie.invariant-loop-i
 invariant-loop buf₀ text₀ n input₀ i₀ buf text input i = (length buf ≡ length buf₀) × (length text ≡ length text₀)
 
-abbrev decreases-loop : tie.decreases-loop
+abbrev decreases-loop : tie.decreases-loop-i
 decreases-loop buf₀ text₀ n input₀ i₀ buf text input i = n - i
 
-pub next-text-spec : {M : Type 1} → statement M
-next-text-spec =
+pub next_text_spec : {M : Type 1} → statement M
+next_text_spec =
     tie.close
     (tie.spec
     invariant-loop

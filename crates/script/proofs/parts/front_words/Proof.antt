@@ -3,8 +3,8 @@ use Rattle.std.proofs.Common.{length-take-le, rules}
 use Rattle.script.proofs.parts.front_words.Statement.{statement}
 use Rattle.script.proofs.parts.front_words.Tie as tie
 
-pub front-words-spec : {M : Type 1} → statement M
-front-words-spec = tie.close (tie.spec
-    (λ c. simp (length-take-le, c.before.if1.true))
+pub front_words_spec : {M : Type 1} → statement M
+front_words_spec = tie.close (tie.spec
+    (λ c. simp (length-take-le, c.before.if-n-s.true))
     (λ c. search rules)
     (λ c. search rules))

@@ -3,10 +3,10 @@ use Rattle.std.proofs.Common.{◌≡◌, ◌-◌, length, rules}
 use Rattle.script.proofs.setting.clear.Statement.{statement}
 use Rattle.script.proofs.setting.clear.Tie as tie
 
-abbrev invariant-loop : tie.invariant-loop
+abbrev invariant-loop : tie.invariant-loop-i
 invariant-loop held₀ i₀ held i = length held ≡ length held₀
 
-abbrev decreases-loop : tie.decreases-loop
+abbrev decreases-loop : tie.decreases-loop-i
 decreases-loop held₀ i₀ held i = length held₀ - i
 
 pub clear_spec : {M : Type 1} → statement M

@@ -3,10 +3,10 @@ use Rattle.std.proofs.Common.{◌≡◌, ◌-◌, length, rules}
 use Rattle.script.proofs.setting.fill.Statement.{statement}
 use Rattle.script.proofs.setting.fill.Tie as tie
 
-abbrev invariant-loop : tie.invariant-loop
+abbrev invariant-loop : tie.invariant-loop-i
 invariant-loop held₀ k x n i₀ held i = length held ≡ length held₀
 
-abbrev decreases-loop : tie.decreases-loop
+abbrev decreases-loop : tie.decreases-loop-i
 decreases-loop held₀ k x n i₀ held i = n - i
 
 pub fill_spec : {M : Type 1} → statement M

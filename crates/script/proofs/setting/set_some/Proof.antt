@@ -3,14 +3,14 @@ use Rattle.std.proofs.Common.{◌≡◌, ◌-◌, ◌≤◌, length, rules}
 use Rattle.script.proofs.setting.set_some.Statement.{statement}
 use Rattle.script.proofs.setting.set_some.Tie as tie
 
-abbrev invariant-loop : tie.invariant-loop
+abbrev invariant-loop : tie.invariant-loop-j
 invariant-loop held₀ command k from n j₀ held j = (2 ≤ j) × (length held ≡ length held₀)
 
-abbrev decreases-loop : tie.decreases-loop
+abbrev decreases-loop : tie.decreases-loop-j
 decreases-loop held₀ command k from n j₀ held j = n - j
 
-pub set-some-spec : {M : Type 1} → statement M
-set-some-spec =
+pub set_some_spec : {M : Type 1} → statement M
+set_some_spec =
     tie.close
     (tie.spec
     invariant-loop

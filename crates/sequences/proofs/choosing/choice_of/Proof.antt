@@ -8,25 +8,25 @@ use Rattle.sequences.proofs.choosing.choice_of.Statement.{statement}
 use Rattle.sequences.proofs.choosing.choice_of.Tie as tie
 
 -- what is handed in, once its fault is found
-abbrev first : tie.After-input-fault → tie.Start
+abbrev first : tie.After-input_fault-f → tie.Start
 first c = c.before.before.before.before.before.before.before
 
-abbrev T : tie.After-input-fault → Tables
+abbrev T : tie.After-input_fault-f → Tables
 T c = let a = (first c).args in tables a.c a.facts.now a.costs.now a.shares.now
 
-returns : tie.Need-returns
+returns : tie.Need-returns-in-Clean
 returns c =
     let x = c.before.before.before in
     let a = (first x).args in
-    c.choose-lists.ensures ∙ chosen_by (T x) a.s.now a.a.now a.b.now x.input-fault.ensures c.before.enum_told.given.1
+    c.choose_lists.ensures ∙ chosen_by (T x) a.s.now a.a.now a.b.now x.input_fault-f.ensures c.before.enum_told-1.given.1
 
-pub choice-of-spec : {M : Type 1} → statement M
-choice-of-spec =
+pub choice_of_spec : {M : Type 1} → statement M
+choice_of_spec =
     tie.close
     (tie.spec
     (λ c κs. search rules)
     (λ c. search rules)
-    (λ c κs. let x = c.before.before in usable (T x) (first x).args.s.now x.input-fault.ensures c.enum_told.given.1)
+    (λ c κs. let x = c.before.before in usable (T x) (first x).args.s.now x.input_fault-f.ensures c.enum_told-1.given.1)
     (λ c. search rules)
     returns
-    (λ c. let x = c.before.before.before in let a = (first x).args in chosen_by (T x) a.s.now a.a.now a.b.now x.input-fault.ensures c.before.f.given.1))
+    (λ c. let x = c.before.before.before in let a = (first x).args in chosen_by (T x) a.s.now a.a.now a.b.now x.input_fault-f.ensures c.before.f-1.given.1))

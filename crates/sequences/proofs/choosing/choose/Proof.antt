@@ -7,21 +7,21 @@ use Rattle.sequences.proofs.choosing.choose.Statement.{statement}
 use Rattle.sequences.proofs.choosing.choose.Tie as tie
 
 -- both lists reached a goal, at the costs p and q
-abbrev p : tie.After-b → ℕ
-p x = x.before.before.before.a.given.0.1.0
+abbrev p : tie.In-After-b-3 → ℕ
+p x = x.before.before.before.a-1.given.0.1.0
 
-abbrev q : tie.After-b → ℕ
-q x = x.b.given.0.1.0
+abbrev q : tie.In-After-b-3 → ℕ
+q x = x.b-1.given.0.1.0
 
-returns : tie.Need-returns
+returns : tie.Need-returns-then-p-q
 returns c =
     let x = c.before.before in
-    rw (x.before.before.before.a.given.1, x.b.given.1, le-leb (p x) (q x) (omega (arith, c.if1.true)))
+    rw (x.before.before.before.a-1.given.1, x.b-1.given.1, le-leb (p x) (q x) (omega (arith, c.if-p-q.true)))
 
-returns-2 : tie.Need-returns-2
+returns-2 : tie.Need-returns-else-p-q
 returns-2 c =
     let x = c.before.before in
-    rw (x.before.before.before.a.given.1, x.b.given.1, lt-leb (p x) (q x) (omega (arith, c.if1.false)))
+    rw (x.before.before.before.a-1.given.1, x.b-1.given.1, lt-leb (p x) (q x) (omega (arith, c.if-p-q.false)))
 
 pub choose_spec : {M : Type 1} → statement M
 choose_spec =
@@ -35,6 +35,6 @@ choose_spec =
     (λ c. search rules)
     returns
     returns-2
-    (λ c. rw (c.before.before.before.a.given.1, c.enum_told.given.1))
-    (λ c. rw (c.before.b2.given.1, c.before.before.before.enum-told2.given.1))
+    (λ c. rw (c.before.before.before.a-1.given.1, c.enum_told-1.given.1))
+    (λ c. rw (c.before.b-in-Out-1.given.1, c.before.before.before.enum_told-in-Out-1.given.1))
     (λ c. search rules))

@@ -15,12 +15,12 @@ returns c =
     let x = y.before.before.before.before.before.before in
     let a = x.args in
     let T : Task = task a.c a.facts.now a.costs.now in
-    let h = same_copied T a.s.now y.copy.result x.requires y.copy.ensures in
-    c.choose.ensures ∙ ap₂ choice_of c.before.before.reach-within.ensures c.before.reach-within2.ensures
-    ∙ chosen_same T (state_of y.copy.result) (state_of a.s.now) a.a.now a.b.now h
+    let h = same_copied T a.s.now y.copy-start.result x.requires y.copy-start.ensures in
+    c.choose.ensures ∙ ap₂ choice_of c.before.before.reach_within-first.ensures c.before.reach_within-second.ensures
+    ∙ chosen_same T (state_of y.copy-start.result) (state_of a.s.now) a.a.now a.b.now h
 
-pub choose-lists-spec : {M : Type 1} → statement M
-choose-lists-spec =
+pub choose_lists_spec : {M : Type 1} → statement M
+choose_lists_spec =
     tie.close
     (tie.spec
     (λ c κs. search rules)

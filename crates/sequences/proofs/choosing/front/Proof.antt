@@ -8,14 +8,14 @@ use borrow.Author.Rules.{rules}
 use Rattle.sequences.proofs.choosing.front.Statement.{statement}
 use Rattle.sequences.proofs.choosing.front.Tie as tie
 
-slice-aggregate-result : tie.Need-slice-aggregate-result
-slice-aggregate-result c = simp (length-take-le, c.before.if1.true)
+slice-aggregate-result : tie.Need-slice_bounds-result-end
+slice-aggregate-result c = simp (length-take-le, c.before.if-n-a.true)
 
-returns-2 : tie.Need-returns-2
+returns-2 : tie.Need-returns
 returns-2 c = let h : length c.before.args.a.now ≤ c.before.args.n = omega arith in record { place = refl; items = sym (take_all _ _ h) }
 
-pub front-spec : {M : Type 1} → statement M
-front-spec = tie.close (tie.spec
+pub front_spec : {M : Type 1} → statement M
+front_spec = tie.close (tie.spec
     slice-aggregate-result
     (λ c. search rules)
     returns-2)

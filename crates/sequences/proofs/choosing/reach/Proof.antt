@@ -15,86 +15,86 @@ use Rattle.sequences.proofs.Walks.{Along, Turn, goal_said, taken_exists, turn, p
 use Rattle.sequences.proofs.choosing.reach.Statement.{statement}
 use Rattle.sequences.proofs.choosing.reach.Tie as tie
 
-abbrev invariant-loop : tie.invariant-loop
+abbrev invariant-loop : tie.invariant-loop-i
 invariant-loop c facts costs ops s₀ stored₀ paid₀ i₀ s stored paid i = Along (reached_from (task c facts costs)) (state_of s₀) ops i stored paid s
 
-abbrev decreases-loop : tie.decreases-loop
+abbrev decreases-loop : tie.decreases-loop-i
 decreases-loop c facts costs ops s₀ stored₀ paid₀ i₀ s stored paid i = length ops - i
 
 -- ---- the places
 
 abbrev Loop : Type 0
-Loop = tie.At-loop invariant-loop decreases-loop
+Loop = tie.At-loop-i invariant-loop decreases-loop
 
 abbrev first : Loop → tie.Start invariant-loop decreases-loop
 first x = x.before.before.before.before
 
 -- the operator of the next step
 abbrev next : Loop → ℕ
-next x = get_or (first x).args.ops.now x.loop.i 0
+next x = get_or (first x).args.ops.now x.loop-i.i 0
 
 -- the tables handed in, without their split
 abbrev T : Loop → Tables
 T x = let a = (first x).args in tables a.c a.facts.now a.costs.now []
 
 -- past the test of the goal in a turn: it doesn't hold
-abbrev inside : tie.Else1 invariant-loop decreases-loop → tie.In-loop invariant-loop decreases-loop
+abbrev inside : tie.Else-meets_goal invariant-loop decreases-loop → tie.In-loop-i invariant-loop decreases-loop
 inside z = z.before.before.before
 
-no-goal : (z : tie.Else1 invariant-loop decreases-loop) → let x = (inside z).before in complies (sas_of (T x)) (sas_of (T x)).goal (state_of x.loop.s) ≡ false
-no-goal z = let x = (inside z).before in goal_said (T x) x.loop.s z.before.meets-goal.ensures z.if1.false
+no-goal : (z : tie.Else-meets_goal invariant-loop decreases-loop) → let x = (inside z).before in complies (sas_of (T x)) (sas_of (T x)).goal (state_of x.loop-i.s-1) ≡ false
+no-goal z = let x = (inside z).before in goal_said (T x) x.loop-i.s-1 z.before.meets_goal.ensures z.if-meets_goal.false
 
 -- the turn of a step that was taken, and where in it the goal was tested
-abbrev asked : tie.After-mark-of invariant-loop decreases-loop → tie.After-step invariant-loop decreases-loop
+abbrev asked : tie.After-mark_of-stored invariant-loop decreases-loop → tie.After-step-m invariant-loop decreases-loop
 asked c = c.before.before.before.before.before
 
-abbrev tested : tie.After-mark-of invariant-loop decreases-loop → tie.Else1 invariant-loop decreases-loop
+abbrev tested : tie.After-mark_of-stored invariant-loop decreases-loop → tie.Else-meets_goal invariant-loop decreases-loop
 tested c = (asked c).before.before.before
 
-took : (c : tie.After-mark-of invariant-loop decreases-loop)
-    → let x = (inside (tested c)).before in Turn (task_of (T x)) x.loop.stored x.loop.s c.before.state-after.result (next x) c.before.before.before.m.given.0.0 c.mark_of.result
+took : (c : tie.After-mark_of-stored invariant-loop decreases-loop)
+    → let x = (inside (tested c)).before in Turn (task_of (T x)) x.loop-i.stored x.loop-i.s-1 c.before.state_after-s.result (next x) c.before.before.before.m-1.given.0.0 c.mark_of-stored.result
 took c =
     let x = (inside (tested c)).before in
-    turn (T x) (first x).pre.0 x.loop.inv.size (asked c).step.ensures c.before.before.before.m.given.1 c.before.state-after.ensures c.mark_of.ensures
+    turn (T x) (first x).pre.0 x.loop-i.inv.size (asked c).step-m.ensures c.before.before.before.m-1.given.1 c.before.state_after-s.ensures c.mark_of-stored.ensures
 
 -- ---- the needs
 
-returns-2 : tie.Need-returns-2 invariant-loop decreases-loop
+returns-2 : tie.Need-returns-in_default invariant-loop decreases-loop
 returns-2 c =
     let z = c.before.before.before.before in
     let x = (inside z).before in
-    reached_refused (task_of (T x)) x.loop.inv (no-goal z) (inside z).loop-test.true c.before.step.result c.before.step.ensures c.match.keys2
+    reached_refused (task_of (T x)) x.loop-i.inv (no-goal z) (inside z).loop-i-test.true c.before.step-m.result c.before.step-m.ensures c.in-Ran.keys2
 
-state-after-requires : tie.Need-state-after-requires invariant-loop decreases-loop
+state-after-requires : tie.Need-state_after-s-requires invariant-loop decreases-loop
 state-after-requires c κs =
     let y = c.before.before.before in
     let x = (inside y.before.before.before).before in
-    (search rules, taken_exists (T x) (first x).pre.0 x.loop.stored (state_of x.loop.s) (next x) y.step.ensures c.before.m.given.1)
+    (search rules, taken_exists (T x) (first x).pre.0 x.loop-i.stored (state_of x.loop-i.s-1) (next x) y.step-m.ensures c.before.m-1.given.1)
 
-pub reach-spec : {M : Type 1} → statement M
-reach-spec =
+pub reach_spec : {M : Type 1} → statement M
+reach_spec =
     tie.close
     (tie.spec
     invariant-loop
     decreases-loop
     (λ c. record { inside = omega arith; size = search rules; paid = omega arith; rest = refl })
-    (λ c. sym c.before.before.loop.invariant.size)
+    (λ c. sym c.before.before.loop-i.invariant.size)
     (λ c κs. search rules)
-    (λ c. let x = c.before.before.before.before in reached_first (task_of (T x)) x.loop.invariant (goal_said (T x) x.loop.s c.before.meets-goal.ensures c.if1.true))
+    (λ c. let x = c.before.before.before.before in reached_first (task_of (T x)) x.loop-i.invariant (goal_said (T x) x.loop-i.s-1 c.before.meets_goal.ensures c.if-meets_goal.true))
     (λ c. search rules)
     (λ c. search rules)
-    (λ c. sym (inside c.before.before).before.loop.inv.size)
+    (λ c. sym (inside c.before.before).before.loop-i.inv.size)
     (λ c κs. search rules)
     (λ c. search rules)
     returns-2
     state-after-requires
     (λ c κs. search rules)
     (λ c. let x = (inside (tested c)).before in record { fits = storable (T x) (first x).pre.0 (took c) })
-    (λ c. let z = inside (tested c) in omega (arith, payable z.before.loop.inv (took c) z.loop-test.taken (first z.before).pre.1))
+    (λ c. let z = inside (tested c) in omega (arith, payable z.before.loop-i.inv (took c) z.loop-i-test.taken (first z.before).pre.1))
     (λ c. search rules)
     (λ c. search rules)
-    (λ c. let z = inside (tested c) in reached_on (task_of (T z.before)) z.before.loop.inv (no-goal (tested c)) z.loop-test.taken (took c))
-    (λ c. sym c.before.before.loop.invariant.size)
+    (λ c. let z = inside (tested c) in reached_on (task_of (T z.before)) z.before.loop-i.inv (no-goal (tested c)) z.loop-i-test.taken (took c))
+    (λ c. sym c.before.before.loop-i.invariant.size)
     (λ c κs. search rules)
-    (λ c. let x = c.before.before.before.before in reached_first (task_of (T x)) x.loop.invariant (goal_said (T x) x.loop.s c.before.meets-goal2.ensures c.if2.true))
-    (λ c. let x = c.before.before.before.before in reached_end (task_of (T x)) x.loop.invariant (goal_said (T x) x.loop.s c.before.meets-goal2.ensures c.if2.false) (omega arith)))
+    (λ c. let x = c.before.before.before.before in reached_first (task_of (T x)) x.loop-i.invariant (goal_said (T x) x.loop-i.s-1 c.before.meets_goal-2.ensures c.if-meets_goal-2.true))
+    (λ c. let x = c.before.before.before.before in reached_end (task_of (T x)) x.loop-i.invariant (goal_said (T x) x.loop-i.s-1 c.before.meets_goal-2.ensures c.if-meets_goal-2.false) (omega arith)))

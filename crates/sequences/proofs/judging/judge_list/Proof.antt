@@ -10,27 +10,27 @@ use Rattle.sequences.proofs.Walks.{limited_within, limited_above, same_copied}
 use Rattle.sequences.proofs.judging.judge_list.Statement.{statement}
 use Rattle.sequences.proofs.judging.judge_list.Tie as tie
 
-returns : tie.Need-returns
+returns : tie.Need-returns-then-ops-gt-STEPS_MOST
 unfolding most_steps
 returns c =
     let a = c.before.before.before.before.before.args in
-    limited_above (task a.c a.facts.now a.costs.now) (state_of a.s.now) a.ops.now (omega (arith, c.if1.true))
+    limited_above (task a.c a.facts.now a.costs.now) (state_of a.s.now) a.ops.now (omega (arith, c.if-ops-gt-STEPS_MOST.true))
 
 walk-requires : tie.Need-walk-requires
 unfolding most_steps
-walk-requires c κs = (c.before.before.before.before.before.before.requires, c.before.if1.false)
+walk-requires c κs = (c.before.before.before.before.before.before.requires, c.before.if-ops-gt-STEPS_MOST.false)
 
-returns-2 : tie.Need-returns-2
+returns-2 : tie.Need-returns
 unfolding most_steps
 returns-2 c =
     let y = c.before in
     let x = y.before.before.before.before.before.before in
     let T : Task = task x.args.c x.args.facts.now x.args.costs.now in
     let same = same_copied T x.args.s.now y.copy.result x.requires y.copy.ensures in
-    c.walk.ensures ∙ limited_within T (state_of x.args.s.now) (state_of y.copy.result) x.args.ops.now same y.before.if1.false
+    c.walk.ensures ∙ limited_within T (state_of x.args.s.now) (state_of y.copy.result) x.args.ops.now same y.before.if-ops-gt-STEPS_MOST.false
 
-pub judge-list-spec : {M : Type 1} → statement M
-judge-list-spec = tie.close (tie.spec
+pub judge_list_spec : {M : Type 1} → statement M
+judge_list_spec = tie.close (tie.spec
     returns
     (λ c κs. search rules)
     walk-requires

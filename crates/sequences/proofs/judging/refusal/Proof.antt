@@ -3,20 +3,20 @@ use borrow.Author.Rules.{rules}
 use Rattle.sequences.proofs.judging.refusal.Statement.{statement}
 use Rattle.sequences.proofs.judging.refusal.Tie as tie
 
-returns : tie.Need-returns
-returns c = rw c.before.m.given.1
+returns : tie.Need-returns-in-Ran
+returns c = rw c.before.m-1.given.1
 
-returns-2 : tie.Need-returns-2
-returns-2 c = rw c.enum_told.given.1
+returns-2 : tie.Need-returns-in-NoSuch
+returns-2 c = rw c.enum_told-1.given.1
 
-returns-3 : tie.Need-returns-3
-returns-3 c = rw c.enum-told2.given.1
+returns-3 : tie.Need-returns-in-MayNot
+returns-3 c = rw c.enum_told-in-MayNot-1.given.1
 
-returns-4 : tie.Need-returns-4
-returns-4 c = rw c.enum-told3.given.1
+returns-4 : tie.Need-returns-in-Beyond
+returns-4 c = rw c.enum_told-in-Beyond-1.given.1
 
-pub refusal-spec : {M : Type 1} → statement M
-refusal-spec =
+pub refusal_spec : {M : Type 1} → statement M
+refusal_spec =
     tie.close
     (tie.spec
     (λ c. search rules)

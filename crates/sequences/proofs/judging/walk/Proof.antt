@@ -16,64 +16,64 @@ use Rattle.sequences.proofs.Walks.{Along, Turn, few, goal_said, taken_exists, tu
 use Rattle.sequences.proofs.judging.walk.Statement.{statement}
 use Rattle.sequences.proofs.judging.walk.Tie as tie
 
-abbrev invariant-loop : tie.invariant-loop
+abbrev invariant-loop : tie.invariant-loop-i
 invariant-loop c facts costs ops s₀ stored₀ paid₀ i₀ s stored paid i = Along (walked (task c facts costs)) (state_of s₀) ops i stored paid s
 
-abbrev decreases-loop : tie.decreases-loop
+abbrev decreases-loop : tie.decreases-loop-i
 decreases-loop c facts costs ops s₀ stored₀ paid₀ i₀ s stored paid i = length ops - i
 
 -- ---- the places
 
 abbrev Loop : Type 0
-Loop = tie.At-loop invariant-loop decreases-loop
+Loop = tie.At-loop-i invariant-loop decreases-loop
 
 abbrev first : Loop → tie.Start invariant-loop decreases-loop
 first x = x.before.before.before.before
 
 -- the operator of the next step
 abbrev next : Loop → ℕ
-next x = get_or (first x).args.ops.now x.loop.i 0
+next x = get_or (first x).args.ops.now x.loop-i.i 0
 
 -- the tables handed in, without their split
 abbrev T : Loop → Tables
 T x = let a = (first x).args in tables a.c a.facts.now a.costs.now []
 
 -- the loop's turn in which a step was asked
-abbrev inside : tie.After-step invariant-loop decreases-loop → tie.In-loop invariant-loop decreases-loop
+abbrev inside : tie.After-step-m invariant-loop decreases-loop → tie.In-loop-i invariant-loop decreases-loop
 inside y = y.before.before.before
 
 -- the turn of a step that was taken
-abbrev asked : tie.After-mark-of invariant-loop decreases-loop → tie.After-step invariant-loop decreases-loop
+abbrev asked : tie.After-mark_of-stored invariant-loop decreases-loop → tie.After-step-m invariant-loop decreases-loop
 asked c = c.before.before.before.before.before
 
-took : (c : tie.After-mark-of invariant-loop decreases-loop)
-    → let x = (inside (asked c)).before in Turn (task_of (T x)) x.loop.stored x.loop.s c.before.state-after.result (next x) c.before.before.before.m.given.0.0 c.mark_of.result
+took : (c : tie.After-mark_of-stored invariant-loop decreases-loop)
+    → let x = (inside (asked c)).before in Turn (task_of (T x)) x.loop-i.stored x.loop-i.s-1 c.before.state_after-s.result (next x) c.before.before.before.m-1.given.0.0 c.mark_of-stored.result
 took c =
     let y = asked c in
     let x = (inside y).before in
-    turn (T x) (first x).pre.0 x.loop.inv.size y.step.ensures c.before.before.before.m.given.1 c.before.state-after.ensures c.mark_of.ensures
+    turn (T x) (first x).pre.0 x.loop-i.inv.size y.step-m.ensures c.before.before.before.m-1.given.1 c.before.state_after-s.ensures c.mark_of-stored.ensures
 
 -- ---- the needs
 
-returns : tie.Need-returns invariant-loop decreases-loop
+returns : tie.Need-returns-in_default invariant-loop decreases-loop
 returns c =
     let y = c.before.before in
     let z = inside y in
     c.refusal.ensures
-    ∙ walked_refused (task_of (T z.before)) z.before.loop.inv z.loop-test.taken y.step.result y.step.ensures c.before.match.keys2
+    ∙ walked_refused (task_of (T z.before)) z.before.loop-i.inv z.loop-i-test.taken y.step-m.result y.step-m.ensures c.before.in-Ran.keys2
 
-state-after-requires : tie.Need-state-after-requires invariant-loop decreases-loop
+state-after-requires : tie.Need-state_after-s-requires invariant-loop decreases-loop
 state-after-requires c κs =
     let y = c.before.before.before in
     let x = (inside y).before in
-    (search rules, taken_exists (T x) (first x).pre.0 x.loop.stored (state_of x.loop.s) (next x) y.step.ensures c.before.m.given.1)
+    (search rules, taken_exists (T x) (first x).pre.0 x.loop-i.stored (state_of x.loop-i.s-1) (next x) y.step-m.ensures c.before.m-1.given.1)
 
-ended : (y : tie.After-meets-goal invariant-loop decreases-loop) {b : Bool} → y.meets-goal.result ≡ b
-    → let x = y.before.before.before in cond b (Passed x.loop.paid) (Refused (NoGoal x.loop.i)) ≡ walked (task_of (T x)) 0 0 0 (state_of (first x).args.start) (first x).args.ops.now
-ended y e = let x = y.before.before.before in walked_end (task_of (T x)) x.loop.invariant (omega arith) (goal_said (T x) x.loop.s y.meets-goal.ensures e)
+ended : (y : tie.After-meets_goal invariant-loop decreases-loop) {b : Bool} → y.meets_goal.result ≡ b
+    → let x = y.before.before.before in cond b (Passed x.loop-i.paid) (Refused (NoGoal x.loop-i.i)) ≡ walked (task_of (T x)) 0 0 0 (state_of (first x).args.start) (first x).args.ops.now
+ended y e = let x = y.before.before.before in walked_end (task_of (T x)) x.loop-i.invariant (omega arith) (goal_said (T x) x.loop-i.s-1 y.meets_goal.ensures e)
 
-pub walk-spec : {M : Type 1} → statement M
-walk-spec =
+pub walk_spec : {M : Type 1} → statement M
+walk_spec =
     tie.close
     (tie.spec
     invariant-loop
@@ -81,7 +81,7 @@ walk-spec =
     (λ c. record { inside = omega arith; size = search rules; paid = omega arith; rest = refl })
     (λ c. search rules)
     (λ c. search rules)
-    (λ c. sym c.before.before.before.loop.invariant.size)
+    (λ c. sym c.before.before.before.loop-i.invariant.size)
     (λ c κs. search rules)
     (λ c. search rules)
     (λ c. search rules)
@@ -91,12 +91,12 @@ walk-spec =
     state-after-requires
     (λ c κs. search rules)
     (λ c. let x = (inside (asked c)).before in record { fits = storable (T x) (first x).pre.0 (took c) })
-    (λ c. let z = inside (asked c) in omega (arith, payable z.before.loop.inv (took c) z.loop-test.taken (first z.before).pre.1))
+    (λ c. let z = inside (asked c) in omega (arith, payable z.before.loop-i.inv (took c) z.loop-i-test.taken (first z.before).pre.1))
     (λ c. search rules)
     (λ c. search rules)
-    (λ c. let z = inside (asked c) in walked_on (task_of (T z.before)) z.before.loop.inv z.loop-test.taken (took c))
-    (λ c. sym c.before.before.loop.invariant.size)
+    (λ c. let z = inside (asked c) in walked_on (task_of (T z.before)) z.before.loop-i.inv z.loop-i-test.taken (took c))
+    (λ c. sym c.before.before.loop-i.invariant.size)
     (λ c κs. search rules)
-    (λ c. ended c.before c.if1.true)
+    (λ c. ended c.before c.if-meets_goal.true)
     (λ c. omega (arith, few (first c.before.before.before.before).pre.1))
-    (λ c. ended c.before c.if1.false))
+    (λ c. ended c.before c.if-meets_goal.false))

@@ -7,7 +7,7 @@ use Rattle.sweep.proofs.Classing.{class_below, count_is, count_byte}
 use Rattle.sweep.proofs.classes.class_count.Statement.{statement}
 use Rattle.sweep.proofs.classes.class_count.Tie as tie
 
-class-row-requires : tie.Need-class-row-requires
+class-row-requires : tie.Need-class_row-requires
 class-row-requires c κs =
     let pre = c.before.before.before.requires in
     (omega (arith, pre.1, pre.0.maps.1), omega (arith, pre.2, pre.0.vars.1))
@@ -16,17 +16,17 @@ class-row-requires c κs =
 dom : (c : tie.After-wide) → c.wide.result ≡ dom_at c.before.before.before.args.facts.now c.before.before.before.args.v
 dom c = c.wide.ensures.0 ∙ c.before.row_at.ensures
 
-count-of-requires : tie.Need-count-of-requires
+count-of-requires : tie.Need-count_of-requires
 count-of-requires c κs =
     let pre = c.before.before.before.before.requires in
     let a = c.before.before.before.before.args in
-    class_below a.c a.facts.now a.m pre.0 pre.1 a.v pre.2 _ _ (dom c.before) c.class-row.ensures
+    class_below a.c a.facts.now a.m pre.0 pre.1 a.v pre.2 _ _ (dom c.before) c.class_row.ensures
 
 returns : tie.Need-returns
 returns c =
     let pre = c.before.before.before.before.before.requires in
     let a = c.before.before.before.before.before.args in
-    count_is a.c a.facts.now a.m pre.0 pre.1 a.v _ _ _ (dom c.before.before) c.before.class-row.ensures c.count_of.ensures
+    count_is a.c a.facts.now a.m pre.0 pre.1 a.v _ _ _ (dom c.before.before) c.before.class_row.ensures c.count_of.ensures
 
 cast-result : tie.Need-overflow-cast-result
 cast-result c =
@@ -34,8 +34,8 @@ cast-result c =
     let a = c.before.before.before.before.before.args in
     omega (arith, count_byte a.c a.facts.now a.m pre.0 pre.1 a.v _ pre.2 (returns c))
 
-pub class-count-spec : {M : Type 1} → statement M
-class-count-spec =
+pub class_count_spec : {M : Type 1} → statement M
+class_count_spec =
     tie.close
     (tie.spec
     (λ c κs. search rules)

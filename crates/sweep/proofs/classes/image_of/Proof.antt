@@ -13,61 +13,61 @@ use Rattle.sweep.proofs.Classing.{image_digital}
 use Rattle.sweep.proofs.classes.image_of.Statement.{statement}
 use Rattle.sweep.proofs.classes.image_of.Tie as tie
 
-abbrev invariant-loop : tie.invariant-loop
+abbrev invariant-loop : tie.invariant-loop-v
 invariant-loop c facts m s vars stride₀ b₀ v₀ stride b v =
     Numbered (view_of facts m []).classes (image (view_of facts m []) (state_of s)) vars v stride b
 
-abbrev decreases-loop : tie.decreases-loop
+abbrev decreases-loop : tie.decreases-loop-v
 decreases-loop c facts m s vars stride₀ b₀ v₀ stride b v = vars - v
 
 -- the state's classes in the map's view, and their number stays small
-abbrev W : tie.In-loop invariant-loop decreases-loop → View
+abbrev W : tie.In-loop-v invariant-loop decreases-loop → View
 W c = let a = c.before.before.before.before.args in view_of a.facts.now a.m []
 
-abbrev class : tie.In-loop invariant-loop decreases-loop → ℕ → ℕ
+abbrev class : tie.In-loop-v invariant-loop decreases-loop → ℕ → ℕ
 class c = image (W c) (state_of c.before.before.before.before.args.s.now)
 
-digital : (c : tie.In-loop invariant-loop decreases-loop) → Digital (W c).classes (class c) c.before.before.before.before.args.c.vars
+digital : (c : tie.In-loop-v invariant-loop decreases-loop) → Digital (W c).classes (class c) c.before.before.before.before.args.c.vars
 digital c =
     let a = c.before.before.before.before.args in
     let pre = c.before.before.before.before.requires in
     image_digital a.c a.facts.now a.m pre.0 pre.1 a.s.now pre.2
 
-class-row-requires : tie.Need-class-row-requires invariant-loop decreases-loop
+class-row-requires : tie.Need-class_row-requires invariant-loop decreases-loop
 class-row-requires c κs =
     let pre = c.before.before.before.before.requires in
-    (omega (arith, pre.1, pre.0.maps.1), omega (arith, c.loop-test.true, pre.0.vars.1))
+    (omega (arith, pre.1, pre.0.maps.1), omega (arith, c.loop-v-test.true, pre.0.vars.1))
 
 -- the class that is read is the next digit
-read : (c : tie.After-wide2 invariant-loop decreases-loop)
-    → c.wide2.result ≡ class c.before.before.before.before.before c.before.before.before.before.before.before.loop.v
+read : (c : tie.After-wide-in-loop-v invariant-loop decreases-loop)
+    → c.wide-in-loop-v.result ≡ class c.before.before.before.before.before c.before.before.before.before.before.before.loop-v.v
 read c =
     let a = c.before.before.before.before.before.before.before.before.before.args in
     let wide = c.before.before.wide in
     let x = wide.ensures.0 ∙ c.before.before.before.byte_at.ensures in
-    c.wide2.ensures.0 ∙ c.before.row_at.ensures ∙ ap₂ (row_at a.facts.now) c.before.before.before.before.class-row.ensures x
+    c.wide-in-loop-v.ensures.0 ∙ c.before.row_at-class.ensures ∙ ap₂ (row_at a.facts.now) c.before.before.before.before.class_row.ensures x
 
 add-b : tie.Need-overflow-add-b invariant-loop decreases-loop
 add-b c =
     let i = c.before.before.before.before.before in
-    omega (arith, (numbered_small (numbered_more i.before.loop.invariant i.loop-test.true (read c) refl) (digital i)).1)
+    omega (arith, (numbered_small (numbered_more i.before.loop-v.invariant i.loop-v-test.true (read c) refl) (digital i)).1)
 
-class-count-requires : tie.Need-class-count-requires invariant-loop decreases-loop
+class-count-requires : tie.Need-class_count-requires invariant-loop decreases-loop
 class-count-requires c κs =
     let i = c.before.before.before.before.before in
     let pre = i.before.before.before.before.requires in
-    (pre.0, pre.1, i.loop-test.true)
+    (pre.0, pre.1, i.loop-v-test.true)
 
-loop-again : tie.Need-loop-preserved invariant-loop decreases-loop
+loop-again : tie.Need-loop-v-preserved invariant-loop decreases-loop
 loop-again c =
     let i = c.before.before.before.before.before.before.before in
-    numbered_more i.before.loop.invariant i.loop-test.true (read c.before.before) (c.wide3.ensures.0 ∙ c.before.class-count.ensures)
+    numbered_more i.before.loop-v.invariant i.loop-v-test.true (read c.before.before) (c.wide-stride.ensures.0 ∙ c.before.class_count.ensures)
 
 mul-stride : tie.Need-overflow-mul-stride invariant-loop decreases-loop
 mul-stride c = omega (arith, (numbered_small (loop-again c) (digital c.before.before.before.before.before.before.before)).0)
 
-pub image-of-spec : {M : Type 1} → statement M
-image-of-spec =
+pub image_of_spec : {M : Type 1} → statement M
+image_of_spec =
     tie.close
     (tie.spec
     invariant-loop
@@ -87,4 +87,4 @@ image-of-spec =
     (λ c. search rules)
     (λ c. search rules)
     loop-again
-    (λ c. numbered_all c.before.loop.invariant c.loop-test.false))
+    (λ c. numbered_all c.before.loop-v.invariant c.loop-v-test.false))

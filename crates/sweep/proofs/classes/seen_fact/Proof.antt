@@ -8,25 +8,25 @@ use Rattle.sweep.proofs.Classing.{seen_nothing, seen_said}
 use Rattle.sweep.proofs.classes.seen_fact.Statement.{statement}
 use Rattle.sweep.proofs.classes.seen_fact.Tie as tie
 
-abbrev start : tie.After-row-at → tie.Start
+abbrev start : tie.After-row_at-class → tie.Start
 start c = c.before.before.before.before.before
 
 -- the class that is read is the fact's
-class : (c : tie.After-row-at) → c.row_at.result ≡ class_at (start c).args.facts.now (start c).args.m (start c).args.v ((start c).args.fact - 1)
-class c = c.row_at.ensures ∙ ap₂ (row_at (start c).args.facts.now) c.before.before.class-row.ensures c.before.wide.ensures.0
+class : (c : tie.After-row_at-class) → c.row_at-class.result ≡ class_at (start c).args.facts.now (start c).args.m (start c).args.v ((start c).args.fact - 1)
+class c = c.row_at-class.ensures ∙ ap₂ (row_at (start c).args.facts.now) c.before.before.class_row.ensures c.before.wide.ensures.0
 
-returns : tie.Need-returns
+returns : tie.Need-returns-then-fact-eq0
 returns c =
     let a = c.before.before.args in
-    λ h. seen_nothing (class_at a.facts.now a.m a.v) a.fact c.if1.true
+    λ h. seen_nothing (class_at a.facts.now a.m a.v) a.fact c.if-fact-eq0.true
 
-returns-2 : tie.Need-returns-2
+returns-2 : tie.Need-returns-then-class-lt255
 returns-2 c =
     let a = (start c.before).args in
-    λ h. ap (λ (x : ℕ). x + 1) (class c.before) ∙ seen_said (class_at a.facts.now a.m a.v) a.fact c.before.before.before.before.if1.false
+    λ h. ap (λ (x : ℕ). x + 1) (class c.before) ∙ seen_said (class_at a.facts.now a.m a.v) a.fact c.before.before.before.before.if-fact-eq0.false
 
-pub seen-fact-spec : {M : Type 1} → statement M
-seen-fact-spec =
+pub seen_fact_spec : {M : Type 1} → statement M
+seen_fact_spec =
     tie.close
     (tie.spec
     returns
@@ -36,4 +36,4 @@ seen-fact-spec =
     (λ c κs. search rules)
     (λ c. search rules)
     returns-2
-    (λ c h. omega (arith, class c.before, c.if2.false)))
+    (λ c h. omega (arith, class c.before, c.if-class-lt255.false)))

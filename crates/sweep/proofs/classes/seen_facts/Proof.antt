@@ -12,25 +12,25 @@ use Rattle.sweep.proofs.Makes.{made_none, made_more}
 use Rattle.sweep.proofs.classes.seen_facts.Statement.{statement}
 use Rattle.sweep.proofs.classes.seen_facts.Tie as tie
 
-abbrev invariant-loop : tie.invariant-loop
+abbrev invariant-loop : tie.invariant-loop-i
 invariant-loop facts m t₀ i₀ t i = (i ≤ seen_places) × (length t ≡ seen_places) × Made (SeenAt facts m) i t₀ t
 
-abbrev decreases-loop : tie.decreases-loop
+abbrev decreases-loop : tie.decreases-loop-i
 decreases-loop facts m t₀ i₀ t i = seen_places - i
 
-loop-again : tie.Need-loop-preserved invariant-loop decreases-loop
+loop-again : tie.Need-loop-i-preserved invariant-loop decreases-loop
 loop-again c =
     let a = c.before.before.before.before.before.args in
-    let l = c.before.before.before.loop in
+    let l = c.before.before.before.loop-i in
     let class = class_at a.facts.now a.m (l.i % 8) in (
       search rules,
       search rules,
       made_more l.invariant.2 (omega (arith, l.invariant.1))
-          (subst (λ (f : ℕ). class (f - 1) < 255 → c.seen-fact.result ≡ seen class f) c.before.byte_at.ensures c.seen-fact.ensures),
+          (subst (λ (f : ℕ). class (f - 1) < 255 → c.seen_fact.result ≡ seen class f) c.before.byte_at.ensures c.seen_fact.ensures),
     )
 
-pub seen-facts-spec : {M : Type 1} → statement M
-seen-facts-spec =
+pub seen_facts_spec : {M : Type 1} → statement M
+seen_facts_spec =
     tie.close
     (tie.spec
     invariant-loop
@@ -43,4 +43,4 @@ seen-facts-spec =
     (λ c. search rules)
     (λ c. search rules)
     loop-again
-    (λ c. (c.before.loop.invariant.1, λ i h. c.before.loop.invariant.2.made i (omega (arith, c.loop-test.false)))))
+    (λ c. (c.before.loop-i.invariant.1, λ i h. c.before.loop-i.invariant.2.made i (omega (arith, c.loop-i-test.false)))))

@@ -9,20 +9,20 @@ use Rattle.sweep.specs.Inside.Walks.{next_of}
 use Rattle.sweep.proofs.rounds.beyond.Statement.{statement}
 use Rattle.sweep.proofs.rounds.beyond.Tie as tie
 
-returns : tie.Need-returns
+returns : tie.Need-returns-in-To
 returns c =
     let args = c.before.before.before.before.before.before.args in
-    let s = c.before.before.before.s in
+    let s = c.before.before.before.s-1 in
     let old = args.old.now in
-    ap said (c.word_at.ensures ∙ ap (λ (i : ℕ). get_or old i 0) c.before.state-index.ensures)
+    ap said (c.word_at.ensures ∙ ap (λ (i : ℕ). get_or old i 0) c.before.state_index.ensures)
     ∙ sym (ap (λ s. after_step (said_at old) (next_of s)) s.given.1)
 
-returns-2 : tie.Need-returns-2
+returns-2 : tie.Need-returns-in-Stop
 unfolding said
 returns-2 c = search rules
 
-pub beyond-spec : {M : Type 1} → statement M
-beyond-spec =
+pub beyond_spec : {M : Type 1} → statement M
+beyond_spec =
     tie.close
     (tie.spec
     (λ c. search rules)

@@ -14,95 +14,95 @@ use Rattle.sweep.proofs.Walking.{step_is, goal_is, spelt_digits, price_fits}
 use Rattle.sweep.proofs.rounds.cell.Statement.{statement}
 use Rattle.sweep.proofs.rounds.cell.Tie as tie
 
-abbrev invariant-loop : tie.invariant-loop
+abbrev invariant-loop : tie.invariant-loop-o
 invariant-loop c facts prices old s ops cost₀ op₀ o₀ cost op o =
     (o ≤ ops) × (cost ≤ NONE) × ((a : ℕ) → HasDigits c.vars facts a s → let G = space_of c facts prices in (said cost ≡ best G (said_at old) a o) × (advised op ≡ chosen G (said_at old) a o))
 
-abbrev decreases-loop : tie.decreases-loop
+abbrev decreases-loop : tie.decreases-loop-o
 decreases-loop c facts prices old s ops cost₀ op₀ o₀ cost op o = ops - o
 
 -- where the loop stands: the state's values, what was handed in before them, and the graph of the steps
-abbrev spelt : tie.At-loop invariant-loop decreases-loop → tie.After-digits invariant-loop decreases-loop
+abbrev spelt : tie.At-loop-o invariant-loop decreases-loop → tie.After-digits-s invariant-loop decreases-loop
 spelt c = c.before.before.before.before
 
-abbrev start : tie.At-loop invariant-loop decreases-loop → tie.Start invariant-loop decreases-loop
+abbrev start : tie.At-loop-o invariant-loop decreases-loop → tie.Start invariant-loop decreases-loop
 start c = (spelt c).before.before.before.before
 
-abbrev G : tie.At-loop invariant-loop decreases-loop → Graph
+abbrev G : tie.At-loop-o invariant-loop decreases-loop → Graph
 G c = space_of (start c).args.c (start c).args.facts.now (start c).args.prices.now
 
-digits-requires : tie.Need-digits-requires invariant-loop decreases-loop
+digits-requires : tie.Need-digits-s-requires invariant-loop decreases-loop
 digits-requires c κs =
     let pre = c.before.before.before.requires in
     (pre.0.vars, pre.0.values)
 
-loop-holds : tie.Need-loop-init invariant-loop decreases-loop
+loop-holds : tie.Need-loop-o-init invariant-loop decreases-loop
 loop-holds c =
     let s = c.before.before.before in
     let x = s.before.before.before.before.args in
-    let goal = c.before.meets-goal.ensures in (
+    let goal = c.before.meets_goal.ensures in (
       omega arith,
-      omega (arith, c.start.type-inv),
-      λ a h. (c.start.ensures ∙ ap at_goal (goal ∙ goal_is x.c x.facts.now x.prices.now a s.digits.result h), advised_none 255 refl),
+      omega (arith, c.start-cost.type-inv),
+      λ a h. (c.start-cost.ensures ∙ ap at_goal (goal ∙ goal_is x.c x.facts.now x.prices.now a s.digits-s.result h), advised_none 255 refl),
     )
 
-step-from-requires : tie.Need-step-from-requires invariant-loop decreases-loop
+step-from-requires : tie.Need-step_from-requires invariant-loop decreases-loop
 step-from-requires c κs =
     let l = c.before.before.before in
     let x = (start l).args in
     let pre = (start l).requires in
-    let s = (spelt l).digits in
-    (pre.0, c.before.before.loop-test.true, spelt_digits x.c x.facts.now x.prices.now pre.0 x.a.0 s.result s.ensures)
+    let s = (spelt l).digits-s in
+    (pre.0, c.before.before.loop-o-test.true, spelt_digits x.c x.facts.now x.prices.now pre.0 x.a.0 s.result s.ensures)
 
-with-price-requires : tie.Need-with-price-requires invariant-loop decreases-loop
+with-price-requires : tie.Need-with_price-x-requires invariant-loop decreases-loop
 with-price-requires c κs =
     let i = c.before.before.before.before in
     let x = (start i.before).args in
     let pre = (start i.before).pre in
-    let s = (spelt i.before).digits in
-    price_fits x.c x.facts.now x.prices.now pre.0 x.old.now s.result pre.1 pre.2 i.loop-test.true pre.3 s.ensures
-    c.before.step_from.ensures c.before.before.before.cost-at.ensures c.beyond.ensures
+    let s = (spelt i.before).digits-s in
+    price_fits x.c x.facts.now x.prices.now pre.0 x.old.now s.result pre.1 pre.2 i.loop-o-test.true pre.3 s.ensures
+    c.before.step_from.ensures c.before.before.before.cost_at.ensures c.beyond.ensures
 
 -- an operator's number fits in a byte, and isn't what stands for none
-small : (c : tie.In-loop invariant-loop decreases-loop) → c.before.loop.o < HALT
-small c = omega (arith, c.loop-test.true, (start c.before).pre.0.ops)
+small : (c : tie.In-loop-o invariant-loop decreases-loop) → c.before.loop-o.o < HALT
+small c = omega (arith, c.loop-o-test.true, (start c.before).pre.0.ops)
 
 -- the operator's way, and whether it undercuts the cost so far
-loop-again : tie.Need-loop-preserved invariant-loop decreases-loop
+loop-again : tie.Need-loop-o-preserved invariant-loop decreases-loop
 loop-again c =
     let i = c.before.before.before.before.before.before in
     let x = (start i.before).args in
-    let l = i.before.loop in
+    let l = i.before.loop-o in
     let step = c.before.before.before.step_from in
     let beyond = c.before.before.beyond in
-    let way = c.before.with-price in
+    let way = c.before.with_price-x in
     let T = said_at x.old.now in (
-      omega (arith, i.loop-test.true),
-      ⊎_elim (λ w. rw w.1 (omega (arith, way.type-inv))) (λ w. rw w.1 l.invariant.1) c.if1.branch,
+      omega (arith, i.loop-o-test.true),
+      ⊎_elim (λ w. rw w.1 (omega (arith, way.type-inv))) (λ w. rw w.1 l.invariant.1) c.if-x-cost.branch,
       λ a h.
           let via =
           via_said (G i.before) x.old.now beyond.result way.result
-          (step.ensures ∙ step_is x.c x.facts.now x.prices.now a l.o (spelt i.before).digits.result h)
-          c.before.before.before.before.before.cost-at.ensures beyond.ensures way.ensures in
+          (step.ensures ∙ step_is x.c x.facts.now x.prices.now a l.o (spelt i.before).digits-s.result h)
+          c.before.before.before.before.before.cost_at.ensures beyond.ensures way.ensures in
           ⊎_elim
           (λ w. rw (w.1, w.2) (pick_taken (G i.before) T a l.o l.cost l.op way.result (l.invariant.2 a h) l.invariant.1 via (small i) w.0.taken))
           (λ w. rw (w.1, w.2) (pick_kept (G i.before) T a l.o l.cost l.op way.result (l.invariant.2 a h) l.invariant.1 via (omega (arith, way.type-inv)) w.0.left))
-          c.if1.branch,
+          c.if-x-cost.branch,
     )
 
 returns : tie.Need-returns invariant-loop decreases-loop
 returns c =
-    let l = c.before.loop in
+    let l = c.before.loop-o in
     let x = (start c.before).args in
-    let e : l.o ≡ x.c.ops = omega (arith, l.invariant.0, c.loop-test.false) in
+    let e : l.o ≡ x.c.ops = omega (arith, l.invariant.0, c.loop-o-test.false) in
     let T = said_at x.old.now in
     let all =
     subst (λ (k : ℕ). (said l.cost ≡ best (G c.before) T x.a.0 k) × (advised l.op ≡ chosen (G c.before) T x.a.0 k)) e
-    (l.invariant.2 x.a.0 (spelt c.before).digits.ensures) in
+    (l.invariant.2 x.a.0 (spelt c.before).digits-s.ensures) in
     record { cost = all.0; op = all.1 }
 
-pub cell-spec : {M : Type 1} → statement M
-cell-spec =
+pub cell_spec : {M : Type 1} → statement M
+cell_spec =
     tie.close
     (tie.spec
     invariant-loop

@@ -13,17 +13,17 @@ use Rattle.sweep.proofs.Walking.{goal_is}
 use Rattle.sweep.proofs.rounds.fill.Statement.{statement}
 use Rattle.sweep.proofs.rounds.fill.Tie as tie
 
-abbrev invariant-loop : tie.invariant-loop
+abbrev invariant-loop : tie.invariant-loop-a
 invariant-loop c facts n t₀ a₀ t a = (a ≤ n) × Filled a (space_of c facts []) t₀ t
 
-abbrev decreases-loop : tie.decreases-loop
+abbrev decreases-loop : tie.decreases-loop-a
 decreases-loop c facts n t₀ a₀ t a = n - a
 
 -- the place is one of the table's
-inside : (c : tie.In-loop invariant-loop decreases-loop) → c.before.loop.a < length c.before.loop.t
-inside c = omega (arith, c.before.loop.invariant.1.size, c.before.before.before.before.requires.2, c.loop-test.true)
+inside : (c : tie.In-loop-a invariant-loop decreases-loop) → c.before.loop-a.a < length c.before.loop-a.t
+inside c = omega (arith, c.before.loop-a.invariant.1.size, c.before.before.before.before.requires.2, c.loop-a-test.true)
 
-digits-requires : tie.Need-digits-requires invariant-loop decreases-loop
+digits-requires : tie.Need-digits-s-requires invariant-loop decreases-loop
 digits-requires c κs =
     let pre = c.before.before.before.before.requires in
     (pre.0.vars, pre.0.values)
@@ -32,15 +32,15 @@ mul-t : tie.Need-overflow-mul-t invariant-loop decreases-loop
 mul-t c =
     let i = c.before.before.before.before in
     let pre = i.before.before.before.before.requires in
-    omega (arith, i.loop-test.true, pre.1, pre.0.few)
+    omega (arith, i.loop-a-test.true, pre.1, pre.0.few)
 
-loop-again : tie.Need-loop-preserved invariant-loop decreases-loop
+loop-again : tie.Need-loop-a-preserved invariant-loop decreases-loop
 loop-again c =
     let i = c.before.before.before.before in
     let a = i.before.before.before.before.args in
-    let l = i.before.loop in
-    let digits = c.before.before.before.digits in
-    let goal = c.before.meets-goal.ensures ∙ goal_is a.c a.facts.now [] l.a digits.result digits.ensures in
+    let l = i.before.loop-a in
+    let digits = c.before.before.before.digits-s in
+    let goal = c.before.meets_goal.ensures ∙ goal_is a.c a.facts.now [] l.a digits.result digits.ensures in
     (search rules, made_more l.invariant.1 (inside i) (c.start.ensures ∙ ap at_goal goal))
 
 pub fill_spec : {M : Type 1} → statement M
@@ -61,4 +61,4 @@ fill_spec =
     (λ c. search rules)
     loop-again
     (λ c. search rules)
-    (λ c. made_end c.before.loop.invariant.1 c.before.loop.invariant.0 c.loop-test.false))
+    (λ c. made_end c.before.loop-a.invariant.1 c.before.loop-a.invariant.0 c.loop-a-test.false))

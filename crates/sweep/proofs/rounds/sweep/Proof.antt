@@ -14,39 +14,39 @@ use Rattle.sweep.proofs.Makes.{made_none, made_end}
 use Rattle.sweep.proofs.rounds.sweep.Statement.{statement}
 use Rattle.sweep.proofs.rounds.sweep.Tie as tie
 
-abbrev invariant-loop : tie.invariant-loop
+abbrev invariant-loop : tie.invariant-loop-a
 invariant-loop c facts prices n old new₀ best₀ changed₀ a₀ new best changed a =
     (a ≤ n) × Swept a (space_of c facts prices) old new₀ new changed × Noted a (space_of c facts prices) old best₀ best
 
-abbrev decreases-loop : tie.decreases-loop
+abbrev decreases-loop : tie.decreases-loop-a
 decreases-loop c facts prices n old new₀ best₀ changed₀ a₀ new best changed a = n - a
 
 -- what was handed in; and the place, which is one of the states' and of the tables'
-abbrev start : tie.At-loop invariant-loop decreases-loop → tie.Start invariant-loop decreases-loop
+abbrev start : tie.At-loop-a invariant-loop decreases-loop → tie.Start invariant-loop decreases-loop
 start c = c.before.before.before.before.before.before
 
-small : (c : tie.In-loop invariant-loop decreases-loop) → c.before.loop.a < most_states
-small c = let pre = (start c.before).pre in omega (arith, c.loop-test.true, pre.0.2, pre.0.0.few)
+small : (c : tie.In-loop-a invariant-loop decreases-loop) → c.before.loop-a.a < most_states
+small c = let pre = (start c.before).pre in omega (arith, c.loop-a-test.true, pre.0.2, pre.0.0.few)
 
-inside : (c : tie.In-loop invariant-loop decreases-loop) → c.before.loop.a < length c.before.loop.new
-inside c = omega (arith, c.before.loop.invariant.1.table.size, (start c.before).pre.1.1, c.loop-test.true)
+inside : (c : tie.In-loop-a invariant-loop decreases-loop) → c.before.loop-a.a < length c.before.loop-a.new
+inside c = omega (arith, c.before.loop-a.invariant.1.table.size, (start c.before).pre.1.1, c.loop-a-test.true)
 
-inside-best : (c : tie.In-loop invariant-loop decreases-loop) → c.before.loop.a < length c.before.loop.best
-inside-best c = omega (arith, c.before.loop.invariant.2.size, (start c.before).pre.1.2, c.loop-test.true)
+inside-best : (c : tie.In-loop-a invariant-loop decreases-loop) → c.before.loop-a.a < length c.before.loop-a.best
+inside-best c = omega (arith, c.before.loop-a.invariant.2.size, (start c.before).pre.1.2, c.loop-a-test.true)
 
-cell-requires : tie.Need-cell-requires invariant-loop decreases-loop
+cell-requires : tie.Need-cell-p-requires invariant-loop decreases-loop
 cell-requires c κs =
     let x = (start c.before).args in
     let p = (start c.before).pre in
-    (p.0.0, p.0.1, omega (arith, c.loop-test.true, p.0.2), subst (λ (k : ℕ). Addable k x.old.now) p.0.2 p.1.3)
+    (p.0.0, p.0.1, omega (arith, c.loop-a-test.true, p.0.2), subst (λ (k : ℕ). Addable k x.old.now) p.0.2 p.1.3)
 
-loop-again : tie.Need-loop-preserved invariant-loop decreases-loop
+loop-again : tie.Need-loop-a-preserved invariant-loop decreases-loop
 loop-again c =
     let i = c.before.before.before.before.before in
-    let l = i.before.loop in
+    let l = i.before.loop-a in
     let x = (start i.before).args in
-    let d = c.before.before.before.before.cell in
-    let if1 = c.before.before.if1 in (
+    let d = c.before.before.before.before.cell-p in
+    let if1 = c.before.before.if-d-before in (
       search rules,
       ⊎_elim (λ w. rw w.1 (swept_diff l.invariant.1 d.result.cost (inside i) d.ensures.cost w.0.taken))
           (λ w. rw w.1 (swept_same l.invariant.1 d.result.cost (inside i) d.ensures.cost w.0.left)) if1.branch,
@@ -54,8 +54,8 @@ loop-again c =
           c.note.ensures,
     )
 
-pub sweep-spec : {M : Type 1} → statement M
-sweep-spec =
+pub sweep_spec : {M : Type 1} → statement M
+sweep_spec =
     tie.close
     (tie.spec
     invariant-loop
@@ -76,8 +76,8 @@ sweep-spec =
     (λ c. search rules)
     (λ c. search rules)
     loop-again
-    (λ c. omega (arith, c.before.loop.invariant.1.table.size))
-    (λ c. omega (arith, c.before.loop.invariant.2.size))
+    (λ c. omega (arith, c.before.loop-a.invariant.1.table.size))
+    (λ c. omega (arith, c.before.loop-a.invariant.2.size))
     (λ c.
-    let inv = c.before.loop.invariant in
-    (swept_end inv.1 inv.0 c.loop-test.false, made_end inv.2 inv.0 c.loop-test.false)))
+    let inv = c.before.loop-a.invariant in
+    (swept_end inv.1 inv.0 c.loop-a-test.false, made_end inv.2 inv.0 c.loop-a-test.false)))

@@ -14,33 +14,33 @@ use Rattle.sweep.proofs.Walking.{rest_more, rest_digit}
 use Rattle.sweep.proofs.walk.digits.Statement.{statement}
 use Rattle.sweep.proofs.walk.digits.Tie as tie
 
-abbrev invariant-loop : tie.invariant-loop
+abbrev invariant-loop : tie.invariant-loop-v
 invariant-loop vars facts s₀ rest₀ v₀ s rest v =
     (v ≤ vars) × (length s ≡ most_vars) × (rest ≡ rest₀ / size (dom_at facts) v) × Made (λ u x. x ≡ digit (dom_at facts) rest₀ u) v s₀ s
 
-abbrev decreases-loop : tie.decreases-loop
+abbrev decreases-loop : tie.decreases-loop-v
 decreases-loop vars facts s₀ rest₀ v₀ s rest v = vars - v
 
 -- the variable has a value
-some : (c : tie.After-wide invariant-loop decreases-loop) → 0 < c.wide.result
+some : (c : tie.After-wide-k invariant-loop decreases-loop) → 0 < c.wide-k.result
 some c =
     let i = c.before.before in
-    omega (arith, c.wide.ensures.0, c.before.row_at.ensures, i.before.before.before.requires.1 i.before.loop.v i.loop-test.true)
+    omega (arith, c.wide-k.ensures.0, c.before.row_at.ensures, i.before.before.before.requires.1 i.before.loop-v.v i.loop-v-test.true)
 
-loop-again : tie.Need-loop-preserved invariant-loop decreases-loop
+loop-again : tie.Need-loop-v-preserved invariant-loop decreases-loop
 loop-again c =
     let start = c.before.before.before.before.before in
-    let l = c.before.before.before.loop in
+    let l = c.before.before.before.loop-v in
     let K = dom_at start.args.facts.now in
-    let k = c.wide.ensures.0 ∙ c.before.row_at.ensures in (
+    let k = c.wide-k.ensures.0 ∙ c.before.row_at.ensures in (
       search rules,
       search rules,
-      rest_more K start.args.a.0 l.v l.rest c.wide.result l.invariant.2 k,
-      made_more l.invariant.3 (omega (arith, l.invariant.1, start.requires.0)) (rest_digit K start.args.a.0 l.v l.rest c.wide.result l.invariant.2 k),
+      rest_more K start.args.a.0 l.v l.rest c.wide-k.result l.invariant.2 k,
+      made_more l.invariant.3 (omega (arith, l.invariant.1, start.requires.0)) (rest_digit K start.args.a.0 l.v l.rest c.wide-k.result l.invariant.2 k),
     )
 
-pub digits-spec : {M : Type 1} → statement M
-digits-spec =
+pub digits_spec : {M : Type 1} → statement M
+digits_spec =
     tie.close
     (tie.spec
     invariant-loop
@@ -49,11 +49,11 @@ digits-spec =
     (λ c κs. search rules)
     (λ c κs. search rules)
     (λ c. omega (arith, some c))
-    (λ c. omega (arith, c.wide.ensures.1, mod-lt c.before.before.before.loop.rest (some c)))
+    (λ c. omega (arith, c.wide-k.ensures.1, mod-lt c.before.before.before.loop-v.rest (some c)))
     (λ c. search rules)
     (λ c. search rules)
     (λ c. omega (arith, some c))
     (λ c. search rules)
     (λ c. search rules)
     loop-again
-    (λ c v h. c.before.loop.invariant.3.made v (omega (arith, c.loop-test.false))))
+    (λ c v h. c.before.loop-v.invariant.3.made v (omega (arith, c.loop-v-test.false))))

@@ -15,44 +15,44 @@ use Rattle.tables.proofs.Masks.{mask_turn}
 use Rattle.tables.proofs.classes.mask_of.Statement.{statement}
 use Rattle.tables.proofs.classes.mask_of.Tie as tie
 
-abbrev invariant-loop : tie.invariant-loop
+abbrev invariant-loop : tie.invariant-loop-x
 invariant-loop facts dom row mask₀ x₀ mask x = (x ≤ dom) × (every (λ x. ltb (row_at facts row x) dom) x ≡ true) × (mask ≡ mask_of (row_at facts row) x)
 
-abbrev decreases-loop : tie.decreases-loop
+abbrev decreases-loop : tie.decreases-loop-x
 decreases-loop facts dom row mask₀ x₀ mask x = dom - x
 
 -- the row's classes, at the loop; and that each is below the number of values
-abbrev class : tie.At-loop invariant-loop decreases-loop → ℕ → ℕ
+abbrev class : tie.At-loop-x invariant-loop decreases-loop → ℕ → ℕ
 class l = let a = l.before.before.args in row_at a.facts.now a.row
 
-abbrev low : tie.At-loop invariant-loop decreases-loop → ℕ → Bool
+abbrev low : tie.At-loop-x invariant-loop decreases-loop → ℕ → Bool
 low l x = ltb (class l x) l.before.before.args.dom
 
-returns : tie.Need-returns invariant-loop decreases-loop
+returns : tie.Need-returns-then-dom-k invariant-loop decreases-loop
 unfolding mask_found
 returns c =
     let l = c.before.before.before in
     let d = l.before.before.args.dom in
-    sym (rw (every_false (low l) d l.loop.x (omega arith) (le-ltb (class l l.loop.x) d (omega (arith, c.before.word_of.ensures, c.if1.true)))))
+    sym (rw (every_false (low l) d l.loop-x.x (omega arith) (le-ltb (class l l.loop-x.x) d (omega (arith, c.before.word_of-k.ensures, c.if-dom-k.true)))))
 
-loop-again : tie.Need-loop-preserved invariant-loop decreases-loop
+loop-again : tie.Need-loop-x-preserved invariant-loop decreases-loop
 loop-again c =
     let l = c.before.before.before in
-    let here : class l l.loop.x < l.before.before.args.dom = omega (arith, c.before.word_of.ensures, c.if1.false) in (
+    let here : class l l.loop-x.x < l.before.before.args.dom = omega (arith, c.before.word_of-k.ensures, c.if-dom-k.false) in (
       omega arith,
-      every_more (low l) l.loop.x l.loop.invariant.1 (lt-ltb (class l l.loop.x) l.before.before.args.dom here),
-      mask_turn (class l) 32 l.loop.x l.loop.invariant.2 c.before.word_of.ensures (omega arith),
+      every_more (low l) l.loop-x.x l.loop-x.invariant.1 (lt-ltb (class l l.loop-x.x) l.before.before.args.dom here),
+      mask_turn (class l) 32 l.loop-x.x l.loop-x.invariant.2 c.before.word_of-k.ensures (omega arith),
     )
 
-returns-2 : tie.Need-returns-2 invariant-loop decreases-loop
+returns-2 : tie.Need-returns invariant-loop decreases-loop
 unfolding mask_found
 returns-2 c =
     let l = c.before in
-    let e : l.loop.x ≡ l.before.before.args.dom = omega arith in
-    rw (← every_end (low l) l.before.before.args.dom l.loop.x l.loop.invariant.1 (omega arith) (omega arith)) (ap Bits (l.loop.invariant.2 ∙ ap (mask_of (class l)) e))
+    let e : l.loop-x.x ≡ l.before.before.args.dom = omega arith in
+    rw (← every_end (low l) l.before.before.args.dom l.loop-x.x l.loop-x.invariant.1 (omega arith) (omega arith)) (ap Bits (l.loop-x.invariant.2 ∙ ap (mask_of (class l)) e))
 
-pub mask-of-spec : {M : Type 1} → statement M
-mask-of-spec =
+pub mask_of_spec : {M : Type 1} → statement M
+mask_of_spec =
     tie.close
     (tie.spec
     invariant-loop

@@ -7,7 +7,7 @@ use Rattle.tables.proofs.readers.cost_at.Statement.{statement}
 use Rattle.tables.proofs.readers.cost_at.Tie as tie
 
 returns : tie.Need-returns
-returns c = c.word_at.ensures ∙ ap (λ (i : ℕ). get_or c.before.before.before.args.costs.now i 0) c.before.op-index.ensures
+returns c = c.word_at.ensures ∙ ap (λ (i : ℕ). get_or c.before.before.before.args.costs.now i 0) c.before.op_index.ensures
 
-pub cost-at-spec : {M : Type 1} → statement M
-cost-at-spec = tie.close (tie.spec (λ c κs. search rules) (λ c κs. search rules) returns)
+pub cost_at_spec : {M : Type 1} → statement M
+cost_at_spec = tie.close (tie.spec (λ c κs. search rules) (λ c κs. search rules) returns)

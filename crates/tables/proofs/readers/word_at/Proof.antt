@@ -5,11 +5,11 @@ use borrow.Author.Rules.{rules}
 use Rattle.tables.proofs.readers.word_at.Statement.{statement}
 use Rattle.tables.proofs.readers.word_at.Tie as tie
 
-returns-2 : tie.Need-returns-2
-returns-2 c = sym (get_or-eq_default c.before.args.table.now 0 c.if1.false)
+returns-2 : tie.Need-returns-else-at-table
+returns-2 c = sym (get_or-eq_default c.before.args.table.now 0 c.if-at-table.false)
 
-pub word-at-spec : {M : Type 1} → statement M
-word-at-spec = tie.close (tie.spec
+pub word_at_spec : {M : Type 1} → statement M
+word_at_spec = tie.close (tie.spec
     (λ c. search rules)
     (λ c. search rules)
     (λ c. search rules)

@@ -11,20 +11,20 @@ use Rattle.tables.proofs.Laws.{left_enough}
 use Rattle.tables.proofs.steps.can_store.Statement.{statement}
 use Rattle.tables.proofs.steps.can_store.Tie as tie
 
-returns : tie.Need-returns
+returns : tie.Need-returns-then-stored-quota
 unfolding can_store
 returns c =
     let a = c.before.before.before.before.args in
     let marks = c.mark_of.ensures in
-    let quota = c.before.before.quota-of.ensures in
-    left_enough a.stored c.mark_of.result c.before.before.quota-of.result c.before.if1.true
+    let quota = c.before.before.quota_of-quota.ensures in
+    left_enough a.stored c.mark_of.result c.before.before.quota_of-quota.result c.before.if-stored-quota.true
     ∙ ap₂ (λ (m q : ℕ). leb (a.stored + m) q) marks quota
 
-returns-2 : tie.Need-returns-2
+returns-2 : tie.Need-returns-else-stored-quota
 unfolding can_store
 returns-2 c =
     let a = c.before.before.before.args in
-    sym (lt-leb (a.stored + mark_of a.c a.facts.now a.o.0) (quota_of a.c) (omega (arith, c.if1.false, c.before.quota-of.ensures)))
+    sym (lt-leb (a.stored + mark_of a.c a.facts.now a.o.0) (quota_of a.c) (omega (arith, c.if-stored-quota.false, c.before.quota_of-quota.ensures)))
 
-pub can-store-spec : {M : Type 1} → statement M
-can-store-spec = tie.close (tie.spec (λ c κs. search rules) (λ c κs. search rules) returns returns-2)
+pub can_store_spec : {M : Type 1} → statement M
+can_store_spec = tie.close (tie.spec (λ c κs. search rules) (λ c κs. search rules) returns returns-2)

@@ -4,11 +4,11 @@ use borrow.Author.Tests.{eq-eqb, ne_eqb}
 use Rattle.tables.proofs.steps.is_asked.Statement.{statement}
 use Rattle.tables.proofs.steps.is_asked.Tie as tie
 
-returns : tie.Need-returns
-returns c = rw (eq-eqb c.before.args.eff 0 c.if1.true) refl
+returns : tie.Need-returns-then-eff-eq0
+returns c = rw (eq-eqb c.before.args.eff 0 c.if-eff-eq0.true) refl
 
-returns-2 : tie.Need-returns-2
-returns-2 c = rw (ne_eqb c.before.args.eff 0 c.if1.false) refl
+returns-2 : tie.Need-returns-else-eff-eq0
+returns-2 c = rw (ne_eqb c.before.args.eff 0 c.if-eff-eq0.false) refl
 
-pub is-asked-spec : {M : Type 1} → statement M
-is-asked-spec = tie.close (tie.spec returns returns-2)
+pub is_asked_spec : {M : Type 1} → statement M
+is_asked_spec = tie.close (tie.spec returns returns-2)

@@ -10,10 +10,10 @@ returns : tie.Need-returns
 unfolding may_run
 returns c =
     let a = c.before.before.before.before.args in
-    c.row-holds.ensures ∙ ap (λ (r : ℕ). row_holds a.c.vars a.facts.now r a.s.now) c.before.pre-row.ensures
+    c.row_holds.ensures ∙ ap (λ (r : ℕ). row_holds a.c.vars a.facts.now r a.s.now) c.before.pre_row.ensures
 
-pub may-run-spec : {M : Type 1} → statement M
-may-run-spec = tie.close (tie.spec
+pub may_run_spec : {M : Type 1} → statement M
+may_run_spec = tie.close (tie.spec
     (λ c κs. search rules)
     (λ c κs. search rules)
     returns)

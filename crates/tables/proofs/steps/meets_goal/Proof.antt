@@ -6,9 +6,9 @@ use Rattle.tables.proofs.steps.meets_goal.Tie as tie
 
 returns : tie.Need-returns
 unfolding meets_goal
-returns c = c.row-holds.ensures
+returns c = c.row_holds.ensures
 
-pub meets-goal-spec : {M : Type 1} → statement M
-meets-goal-spec = tie.close (tie.spec
+pub meets_goal_spec : {M : Type 1} → statement M
+meets_goal_spec = tie.close (tie.spec
     (λ c κs. search rules)
     returns)

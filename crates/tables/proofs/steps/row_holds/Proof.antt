@@ -13,40 +13,40 @@ use Rattle.tables.proofs.Laws.{every_more, every_walked}
 use Rattle.tables.proofs.steps.row_holds.Statement.{statement}
 use Rattle.tables.proofs.steps.row_holds.Tie as tie
 
-abbrev invariant-loop : tie.invariant-loop
+abbrev invariant-loop : tie.invariant-loop-v
 invariant-loop vars facts row s n at there v₀ v = (v ≤ n) × (every (says_of facts row s) v ≡ true)
 
-abbrev decreases-loop : tie.decreases-loop
+abbrev decreases-loop : tie.decreases-loop-v
 decreases-loop vars facts row s n at there v₀ v = n - v
 
 -- where every place is known to be there, it is
-known : (c : tie.Joined1 invariant-loop decreases-loop) → c.if1.there ≡ true → let a = c.before.before.before.args in (a.row * 8 + a.vars ≤ length a.facts.now) × (a.vars ≤ length a.s.now)
+known : (c : tie.Joined-at-n invariant-loop decreases-loop) → c.if-at-n.there ≡ true → let a = c.before.before.before.args in (a.row * 8 + a.vars ≤ length a.facts.now) × (a.vars ≤ length a.s.now)
 known c p =
     let a = c.before.before.before.args in
     ⊎_elim (λ w. (w.0.taken, leb-true a.vars (length a.s.now) (sym w.1 ∙ p)))
-    (λ w. omega (arith, w.0.left, leb-true (a.row * 8 + a.vars) (length a.facts.now) (sym w.1 ∙ p))) c.if1.branch
+    (λ w. omega (arith, w.0.left, leb-true (a.row * 8 + a.vars) (length a.facts.now) (sym w.1 ∙ p))) c.if-at-n.branch
 
 -- what the row says of a variable, at the loop; and what a turn is told of it
-abbrev says : tie.At-loop invariant-loop decreases-loop → ℕ → Bool
+abbrev says : tie.At-loop-v invariant-loop decreases-loop → ℕ → Bool
 says l = let a = l.before.before.before.before.args in says_of a.facts.now a.row a.s.now
 
-told : (c : tie.After-fact-holds invariant-loop decreases-loop) → let l = c.before.before.before.before in says l l.loop.v ≡ c.fact-holds.result
-told c = sym (c.fact-holds.ensures ∙ ap₂ holds c.before.before.known-byte.ensures c.before.known-byte2.ensures)
+told : (c : tie.After-fact_holds invariant-loop decreases-loop) → let l = c.before.before.before.before in says l l.loop-v.v ≡ c.fact_holds.result
+told c = sym (c.fact_holds.ensures ∙ ap₂ holds c.before.before.known_byte.ensures c.before.known_byte-in-loop-v.ensures)
 
-loop-again : tie.Need-loop-preserved invariant-loop decreases-loop
+loop-again : tie.Need-loop-v-preserved invariant-loop decreases-loop
 loop-again c =
     let l = c.before.before.before.before.before in
-    (omega arith, every_more (says l) l.loop.v l.loop.invariant.1 (told c.before ∙ c.if2.true))
+    (omega arith, every_more (says l) l.loop-v.v l.loop-v.invariant.1 (told c.before ∙ c.if-fact_holds.true))
 
 returns : tie.Need-returns invariant-loop decreases-loop
 unfolding row_holds
 returns c =
     let l = c.before in
-    every_walked (says l) l.before.before.before.before.args.vars l.loop.v l.loop.invariant.1 (omega arith)
-    (⊎_map (λ w. (w.0.taken, sym (w.3.ensures ∙ ap₂ holds w.1.ensures w.2.ensures) ∙ w.4.left)) (λ w. w.left) c.loop-test.branch)
+    every_walked (says l) l.before.before.before.before.args.vars l.loop-v.v l.loop-v.invariant.1 (omega arith)
+    (⊎_map (λ w. (w.0.taken, sym (w.3.ensures ∙ ap₂ holds w.1.ensures w.2.ensures) ∙ w.4.left)) (λ w. w.left) c.loop-v-test.branch)
 
-pub row-holds-spec : {M : Type 1} → statement M
-row-holds-spec =
+pub row_holds_spec : {M : Type 1} → statement M
+row_holds_spec =
     tie.close
     (tie.spec
     invariant-loop

@@ -5,14 +5,14 @@ use borrow.Author.Tests.{eq-eqb, ne_eqb}
 use Rattle.text.proofs.after.after_share.Statement.{statement}
 use Rattle.text.proofs.after.after_share.Tie as tie
 
-pub after-share-spec : {M : Type 1} → statement M
+pub after_share_spec : {M : Type 1} → statement M
 unfolding after_share
-after-share-spec =
+after_share_spec =
     tie.close
     (tie.spec
     (λ c κs. search rules)
     (λ c κs. search rules)
     (λ c κs. search rules)
     (λ c κs. search rules)
-    (λ c. simp (← c.before.before.before.one_more.ensures, eq-eqb _ _ c.before.if1.true) c.end_line.ensures)
-    (λ c. simp (← c.before.before.before.before.one_more.ensures, ne_eqb _ _ c.before.before.if1.false, ← c.before.await-number.ensures) c.expect.ensures))
+    (λ c. simp (← c.before.before.before.one_more-i.ensures, eq-eqb _ _ c.before.if-i-c.true) c.end_line.ensures)
+    (λ c. simp (← c.before.before.before.before.one_more-i.ensures, ne_eqb _ _ c.before.before.if-i-c.false, ← c.before.await_number.ensures) c.expect.ensures))

@@ -4,9 +4,9 @@ use borrow.Author.Rules.{rules}
 use Rattle.text.proofs.after.after_var.Statement.{statement}
 use Rattle.text.proofs.after.after_var.Tie as tie
 
-pub after-var-spec : {M : Type 1} → statement M
+pub after_var_spec : {M : Type 1} → statement M
 unfolding after_var
-after-var-spec =
+after_var_spec =
     tie.close
     (tie.spec
     (λ c κs. search rules)
@@ -14,5 +14,5 @@ after-var-spec =
     (λ c κs. search rules)
     (λ c κs. search rules)
     (λ c κs. search rules)
-    (λ c. simp (← c.before.before.last-var.ensures, c.before.if1.true) c.end_line.ensures)
-    (λ c. let n = c.before.before in simp (← n.before.before.last-var.ensures, n.before.if1.false, ← n.one_more.ensures, ← c.before.await-number.ensures) c.expect.ensures))
+    (λ c. simp (← c.before.before.last_var.ensures, c.before.if-last_var.true) c.end_line.ensures)
+    (λ c. let n = c.before.before in simp (← n.before.before.last_var.ensures, n.before.if-last_var.false, ← n.one_more.ensures, ← c.before.await_number.ensures) c.expect.ensures))

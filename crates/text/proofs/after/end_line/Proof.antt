@@ -5,12 +5,12 @@ use borrow.Author.Tests.{eq-eqb, ne_eqb}
 use Rattle.text.proofs.after.end_line.Statement.{statement}
 use Rattle.text.proofs.after.end_line.Tie as tie
 
-pub end-line-spec : {M : Type 1} → statement M
+pub end_line_spec : {M : Type 1} → statement M
 unfolding sign
-end-line-spec =
+end_line_spec =
     tie.close
     (tie.spec
     (λ c κs. search rules)
     (λ c κs. search rules)
-    (λ c. simp (eq-eqb _ _ c.before.if1.true) c.next-line.ensures)
-    (λ c. simp (ne_eqb _ _ c.before.if1.false) c.stop.ensures))
+    (λ c. simp (eq-eqb _ _ c.before.if-b-eq-LINE_END.true) c.next_line.ensures)
+    (λ c. simp (ne_eqb _ _ c.before.if-b-eq-LINE_END.false) c.stop.ensures))

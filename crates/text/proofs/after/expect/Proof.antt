@@ -5,9 +5,9 @@ use borrow.Author.Tests.{eq-eqb, ne_eqb}
 use Rattle.text.proofs.after.expect.Statement.{statement}
 use Rattle.text.proofs.after.expect.Tie as tie
 
-pub expect-spec : {M : Type 1} → statement M
+pub expect_spec : {M : Type 1} → statement M
 unfolding sign
-expect-spec = tie.close (tie.spec
+expect_spec = tie.close (tie.spec
     (λ c κs. search rules)
-    (λ c. simp (eq-eqb _ _ c.if1.true))
-    (λ c. simp (ne_eqb _ _ c.before.if1.false) c.stop.ensures))
+    (λ c. simp (eq-eqb _ _ c.if-b-x.true))
+    (λ c. simp (ne_eqb _ _ c.before.if-b-x.false) c.stop.ensures))

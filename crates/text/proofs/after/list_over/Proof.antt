@@ -5,12 +5,12 @@ use borrow.Author.Tests.{eq-eqb, ne_eqb}
 use Rattle.text.proofs.after.list_over.Statement.{statement}
 use Rattle.text.proofs.after.list_over.Tie as tie
 
-pub list-over-spec : {M : Type 1} → statement M
+pub list_over_spec : {M : Type 1} → statement M
 unfolding list_over
-list-over-spec =
+list_over_spec =
     tie.close
     (tie.spec
-    (λ c. simp (eq-eqb _ _ c.if1.true))
+    (λ c. simp (eq-eqb _ _ c.if-c-eq-PART_AFTER_DASH.true))
     (λ c κs. search rules)
-    (λ c. simp (ne_eqb _ _ c.before.before.if1.false, ← c.before.kind-of.ensures, eq-eqb _ _ c.if2.true))
-    (λ c. simp (ne_eqb _ _ c.before.before.if1.false, ← c.before.kind-of.ensures, ne_eqb _ _ c.if2.false)))
+    (λ c. simp (ne_eqb _ _ c.before.before.if-c-eq-PART_AFTER_DASH.false, ← c.before.kind_of-k.ensures, eq-eqb _ _ c.if-k-eq-KIND_VAL.true))
+    (λ c. simp (ne_eqb _ _ c.before.before.if-c-eq-PART_AFTER_DASH.false, ← c.before.kind_of-k.ensures, ne_eqb _ _ c.if-k-eq-KIND_VAL.false)))

@@ -5,11 +5,11 @@ use Rattle.text.specs.Inside.Steps.{mark_due}
 use Rattle.text.proofs.after.mark_due.Statement.{statement}
 use Rattle.text.proofs.after.mark_due.Tie as tie
 
-pub mark-due-spec : {M : Type 1} → statement M
+pub mark_due_spec : {M : Type 1} → statement M
 unfolding mark_due
-mark-due-spec =
+mark_due_spec =
     tie.close
     (tie.spec
     (λ c κs. search rules)
-    (λ c. simp (← c.before.before.list_of.ensures, eq-eqb _ _ c.before.if1.true))
-    (λ c. simp (← c.before.list_of.ensures, ne_eqb _ _ c.if1.false)))
+    (λ c. simp (← c.before.before.list_of.ensures, eq-eqb _ _ c.before.if-list_of-eq-EFF_LIST.true))
+    (λ c. simp (← c.before.list_of.ensures, ne_eqb _ _ c.if-list_of-eq-EFF_LIST.false)))

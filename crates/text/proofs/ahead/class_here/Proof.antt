@@ -7,19 +7,19 @@ use native.Mathlib.Omega.{arith}
 use Rattle.text.proofs.ahead.class_here.Statement.{statement}
 use Rattle.text.proofs.ahead.class_here.Tie as tie
 
-returns-5 : tie.Need-returns-5
+returns-5 : tie.Need-returns
 returns-5 c z =
     let sign = c.before.before.before in
     record {
       room = omega arith;
       class = omega arith;
-      comma = sym sign.word.ensures.0 ∙ c.before.before.if3.false;
+      comma = sym sign.word.ensures.0 ∙ c.before.before.if-word-ne-COMMA.false;
       fits = omega arith;
       more = rw (← c.one_more.ensures) (ltb-true _ _ z);
     }
 
-pub class-here-spec : {M : Type 1} → statement M
-class-here-spec =
+pub class_here_spec : {M : Type 1} → statement M
+class_here_spec =
     tie.close
     (tie.spec
     (λ c. search rules)

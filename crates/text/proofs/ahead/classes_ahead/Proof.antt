@@ -12,32 +12,32 @@ use native.Mathlib.Omega.{arith}
 use Rattle.text.proofs.ahead.classes_ahead.Statement.{statement}
 use Rattle.text.proofs.ahead.classes_ahead.Tie as tie
 
-abbrev invariant-loop : tie.invariant-loop
+abbrev invariant-loop : tie.invariant-loop-x
 invariant-loop s i w₀ row var item seen at₀ next₀ mask₀ w at next mask =
     (at₀ ≤ at) × (at < length s) × (length w ≡ length w₀)
     × ((c : Ctrl) → c.spot.row ≡ row → c.turn.var ≡ var → feed (mk (due_class c next mask) w) (drop at s) ≡ feed (mk (due_class c next₀ mask₀) w₀) (drop at₀ s))
 
-abbrev decreases-loop : tie.decreases-loop
+abbrev decreases-loop : tie.decreases-loop-x
 decreases-loop s i w₀ row var item seen at₀ next₀ mask₀ w at next mask = length s - at
 
-loop-again : tie.Need-loop-preserved invariant-loop decreases-loop
+loop-again : tie.Need-loop-x-preserved invariant-loop decreases-loop
 loop-again c =
     let put = c.before.before.before.before in
     let read = put.before.before.before in
     let asked = read.before.before in
-    let run = asked.before.before.before.loop in
-    let here = asked.class-here.ensures read.before.if1.true in
+    let run = asked.before.before.before.loop-x in
+    let here = asked.class_here.ensures read.before.loop-x-test.true in
     let room = here.room in (
       omega arith,
       omega arith,
       put.put_byte.auto.0 ∙ run.invariant.2,
       λ k o v.
-          simp (c.one_more.ensures, c.before.add-class.ensures, put.put_byte.ensures, put.before.class-place.ensures, read.digit_at.ensures, ← o, ← v)
+          simp (c.one_more-next.ensures, c.before.add_class-mask.ensures, put.put_byte.ensures, put.before.class_place.ensures, read.digit_at-x.ensures, ← o, ← v)
           (class_ahead k run.at run.next run.mask _ _ (rw (v, ← asked.before.values_of.ensures) here) ∙ run.invariant.3 k o v),
     )
 
-pub classes-ahead-spec : {M : Type 1} → statement M
-classes-ahead-spec =
+pub classes_ahead_spec : {M : Type 1} → statement M
+classes_ahead_spec =
     tie.close
     (tie.spec
     invariant-loop
@@ -50,8 +50,8 @@ classes-ahead-spec =
     (λ c κs. search rules)
     (λ c κs. search rules)
     (λ c κs. search rules)
-    (λ c. let read = c.before.before.before.before.before.before.before in omega (arith, (read.before.before.class-here.ensures read.before.if1.true).room))
-    (λ c. let read = c.before.before.before.before.before.before.before in omega (arith, (read.before.before.class-here.ensures read.before.if1.true).room))
+    (λ c. let read = c.before.before.before.before.before.before.before in omega (arith, (read.before.before.class_here.ensures read.before.loop-x-test.true).room))
+    (λ c. let read = c.before.before.before.before.before.before.before in omega (arith, (read.before.before.class_here.ensures read.before.loop-x-test.true).room))
     loop-again
-    (λ c. c.before.before.before.before.loop.invariant.2)
-    (λ c. let run = c.before.before.before.before.loop in λ k o v. record { on = run.invariant.0; within = run.invariant.1; same = run.invariant.3 k o v }))
+    (λ c. c.before.before.before.before.loop-x.invariant.2)
+    (λ c. let run = c.before.before.before.before.loop-x in λ k o v. record { on = run.invariant.0; within = run.invariant.1; same = run.invariant.3 k o v }))

@@ -5,15 +5,15 @@ use mathlib.Core.Path.{refl, sym}
 use Rattle.text.proofs.ahead.classes_due.Statement.{statement}
 use Rattle.text.proofs.ahead.classes_due.Tie as tie
 
-returns-2 : tie.Need-returns-2
+returns-2 : tie.Need-returns
 returns-2 c =
     let read = c.before.before in
     let start = read.before.before.before.before.before.before in
     let field = start.requires.1 in
-    as_due (class_due _ start.requires.0 read.before.before.if1.false field) (in_field _ _ _ _ _ (sym field)) (read.classes-ahead.ensures start.args.c refl refl)
+    as_due (class_due _ start.requires.0 read.before.before.if-c-ne0.false field) (in_field _ _ _ _ _ (sym field)) (read.classes_ahead-n.ensures start.args.c refl refl)
 
-pub classes-due-spec : {M : Type 1} → statement M
-classes-due-spec =
+pub classes_due_spec : {M : Type 1} → statement M
+classes_due_spec =
     tie.close
     (tie.spec
     (λ c κs. search rules)

@@ -7,7 +7,7 @@ use native.Mathlib.Omega.{arith}
 use Rattle.text.proofs.ahead.fact_here.Statement.{statement}
 use Rattle.text.proofs.ahead.fact_here.Tie as tie
 
-returns-8 : tie.Need-returns-8
+returns-8 : tie.Need-returns
 returns-8 c z =
     let sign = c.before.before.before.before in
     let colon = sign.before.before.before in
@@ -16,16 +16,16 @@ returns-8 c z =
     record {
       room = omega arith;
       var = omega arith;
-      colon = sym colon.word.ensures.0 ∙ sign.before.before.if4.false;
+      colon = sym colon.word.ensures.0 ∙ sign.before.before.if-word-ne-COLON.false;
       value = omega arith;
-      comma = sym sign.word2.ensures.0 ∙ c.before.before.before.if5.false;
+      comma = sym sign.word-2.ensures.0 ∙ c.before.before.before.if-word-ne-COMMA.false;
       known = omega arith;
       rising = omega arith;
-      fits = rw (← var.digit_at.ensures, ← value.digit-at2.ensures, ← c.values_of.ensures) (ltb-true _ _ z);
+      fits = rw (← var.digit_at-v.ensures, ← value.digit_at-x.ensures, ← c.values_of.ensures) (ltb-true _ _ z);
     }
 
-pub fact-here-spec : {M : Type 1} → statement M
-fact-here-spec =
+pub fact_here_spec : {M : Type 1} → statement M
+fact_here_spec =
     tie.close
     (tie.spec
     (λ c. search rules)

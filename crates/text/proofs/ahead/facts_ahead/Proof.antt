@@ -12,36 +12,36 @@ use native.Mathlib.Omega.{arith}
 use Rattle.text.proofs.ahead.facts_ahead.Statement.{statement}
 use Rattle.text.proofs.ahead.facts_ahead.Tie as tie
 
-abbrev invariant-loop : tie.invariant-loop
+abbrev invariant-loop : tie.invariant-loop-next
 invariant-loop s i w₀ place vars least at₀ next₀ w at next =
     (at₀ ≤ at) × (at < length s) × (length w ≡ length w₀)
     × ((c : Ctrl) → (facts_place c.spot.field c.spot.row ≡ 0 → ⊥) → place ≡ facts_place c.spot.field c.spot.row → c.counts.vars ≡ vars
     → feed (mk (due_var c next) w) (drop at s) ≡ feed (mk (due_var c next₀) w₀) (drop at₀ s))
 
-abbrev decreases-loop : tie.decreases-loop
+abbrev decreases-loop : tie.decreases-loop-next
 decreases-loop s i w₀ place vars least at₀ next₀ w at next = length s - at
 
-loop-again : tie.Need-loop-preserved invariant-loop decreases-loop
+loop-again : tie.Need-loop-next-preserved invariant-loop decreases-loop
 loop-again c =
     let put = c.before.before.before in
     let value = put.before.before in
     let read = value.before.before.before in
-    let run = read.before.before.before.before.loop in
-    let here = read.before.before.fact-here.ensures read.before.if1.true in
+    let run = read.before.before.before.before.loop-next in
+    let here = read.before.before.fact_here.ensures read.before.loop-next-test.true in
     let room = here.room in (
       omega arith,
       omega arith,
       put.put_byte.auto.0 ∙ run.invariant.2,
       λ k z e v.
-          simp (c.one-more2.ensures, put.put_byte.ensures, put.before.one_more.ensures, value.digit-at2.ensures, value.before.wide.ensures, read.digit_at.ensures)
+          simp (c.one_more-next.ensures, put.put_byte.ensures, put.before.one_more.ensures, value.digit_at.ensures, value.before.wide.ensures, read.digit_at-v.ensures)
           (fact_ahead k _ run.next run.at _ _ z e (rw v here) ∙ run.invariant.3 k z e v),
     )
 
 returns : tie.Need-returns invariant-loop decreases-loop
-returns c = let run = c.before.before.before.loop in λ k z e v. record { on = run.invariant.0; within = run.invariant.1; same = run.invariant.3 k z e v }
+returns c = let run = c.before.before.before.loop-next in λ k z e v. record { on = run.invariant.0; within = run.invariant.1; same = run.invariant.3 k z e v }
 
-pub facts-ahead-spec : {M : Type 1} → statement M
-facts-ahead-spec =
+pub facts_ahead_spec : {M : Type 1} → statement M
+facts_ahead_spec =
     tie.close
     (tie.spec
     invariant-loop
@@ -50,14 +50,14 @@ facts-ahead-spec =
     (λ c κs. search rules)
     (λ c κs. search rules)
     (λ c κs. search rules)
-    (λ c. let here = c.before.before.before.before.fact-here.ensures c.before.before.before.if1.true in omega (arith, here.var))
-    (λ c. let here = c.before.before.before.before.fact-here.ensures c.before.before.before.if1.true in omega (arith, here.room))
-    (λ c κs. let here = c.before.before.before.before.fact-here.ensures c.before.before.before.if1.true in omega (arith, here.room))
+    (λ c. let here = c.before.before.before.before.fact_here.ensures c.before.before.before.loop-next-test.true in omega (arith, here.var))
+    (λ c. let here = c.before.before.before.before.fact_here.ensures c.before.before.before.loop-next-test.true in omega (arith, here.room))
+    (λ c κs. let here = c.before.before.before.before.fact_here.ensures c.before.before.before.loop-next-test.true in omega (arith, here.room))
     (λ c κs. search rules)
     (λ c κs. search rules)
     (λ c κs. search rules)
-    (λ c. let read = c.before.before.before.before.before.before.before.before in omega (arith, (read.before.before.fact-here.ensures read.before.if1.true).room))
-    (λ c. let read = c.before.before.before.before.before.before.before.before in omega (arith, (read.before.before.fact-here.ensures read.before.if1.true).room))
+    (λ c. let read = c.before.before.before.before.before.before.before.before in omega (arith, (read.before.before.fact_here.ensures read.before.loop-next-test.true).room))
+    (λ c. let read = c.before.before.before.before.before.before.before.before in omega (arith, (read.before.before.fact_here.ensures read.before.loop-next-test.true).room))
     loop-again
-    (λ c. c.before.before.before.loop.invariant.2)
+    (λ c. c.before.before.before.loop-next.invariant.2)
     returns)

@@ -6,18 +6,18 @@ use mathlib.Core.Path.{◌∙◌, refl}
 use Rattle.text.proofs.ahead.facts_due.Statement.{statement}
 use Rattle.text.proofs.ahead.facts_due.Tie as tie
 
-returns-3 : tie.Need-returns-3
+returns-3 : tie.Need-returns
 unfolding due
 returns-3 c =
     let read = c.before.before in
     let placed = read.before.before.before.before.before in
     let start = placed.before.before.before in
-    let place = placed.facts-place.ensures.0 in
-    as_due (list_due _ start.requires.0 start.requires.1 read.before.before.if2.false) refl
-    (read.facts-ahead.ensures start.args.c (λ z. read.before.before.before.before.if1.false (place ∙ z)) place refl)
+    let place = placed.facts_place-place.ensures.0 in
+    as_due (list_due _ start.requires.0 start.requires.1 read.before.before.if-c-ne0.false) refl
+    (read.facts_ahead-n.ensures start.args.c (λ z. read.before.before.before.before.if-place-eq0.false (place ∙ z)) place refl)
 
-pub facts-due-spec : {M : Type 1} → statement M
-facts-due-spec =
+pub facts_due_spec : {M : Type 1} → statement M
+facts_due_spec =
     tie.close
     (tie.spec
     (λ c κs. search rules)
@@ -26,7 +26,7 @@ facts-due-spec =
     (λ c κs. search rules)
     (λ c.
     let start = c.before.before.before.before.before.before.before in
-    stays _ start.requires.0 _ _ _ _ _ _ start.requires.2 c.stay2.ensures.0 c.stay2.ensures.1 c.stay2.ensures.2)
+    stays _ start.requires.0 _ _ _ _ _ _ start.requires.2 c.stay-then-c-ne0.ensures.0 c.stay-then-c-ne0.ensures.1 c.stay-then-c-ne0.ensures.2)
     (λ c κs. search rules)
     (λ c. search rules)
     returns-3)

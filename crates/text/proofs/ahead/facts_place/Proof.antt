@@ -6,15 +6,15 @@ use native.Mathlib.Omega.{arith}
 use Rattle.text.proofs.ahead.facts_place.Statement.{statement}
 use Rattle.text.proofs.ahead.facts_place.Tie as tie
 
-pub facts-place-spec : {M : Type 1} → statement M
+pub facts_place_spec : {M : Type 1} → statement M
 unfolding facts_place
-facts-place-spec =
+facts_place_spec =
     tie.close
     (tie.spec
     (λ c κs. search rules)
     (λ c κs. search rules)
     (λ c κs. search rules)
-    (λ c. (simp c.before.match.keys1 c.goal-place.ensures, omega arith))
-    (λ c. (simp c.before.match.keys2 c.pre-place.ensures, omega arith))
-    (λ c. (simp c.before.match.keys3 c.eff-place.ensures, omega arith))
-    (λ c. let late = c.match.rest in (simp (ne_eqb _ _ late.0.0.1, ne_eqb _ _ late.0.1, ne_eqb _ _ late.1), omega arith)))
+    (λ c. (simp c.before.in-4.keys1 c.goal_place.ensures, omega arith))
+    (λ c. (simp c.before.in-4.keys2 c.pre_place.ensures, omega arith))
+    (λ c. (simp c.before.in-4.keys3 c.eff_place.ensures, omega arith))
+    (λ c. let late = c.in-4.rest in (simp (ne_eqb _ _ late.0.0.1, ne_eqb _ _ late.0.1, ne_eqb _ _ late.1), omega arith)))

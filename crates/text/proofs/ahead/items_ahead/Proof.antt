@@ -5,20 +5,20 @@ use borrow.Author.Tests.{not-false}
 use Rattle.text.proofs.ahead.items_ahead.Statement.{statement}
 use Rattle.text.proofs.ahead.items_ahead.Tie as tie
 
-shares-due-requires : tie.Need-shares-due-requires
+shares-due-requires : tie.Need-shares_due-requires
 shares-due-requires c κs =
     let clear = c.before.before.before in
     let start = clear.before.before.before.before.before.before in
-    (start.requires.0, clear.before.none_seen.ensures (not-false _ clear.if2.false), c.before.if3.true, start.requires.1)
+    (start.requires.0, clear.before.none_seen.ensures (not-false _ clear.if-not-none_seen.false), c.before.if-c-eq-FIELD_SHARE.true, start.requires.1)
 
-facts-due-requires : tie.Need-facts-due-requires
+facts-due-requires : tie.Need-facts_due-requires
 facts-due-requires c κs =
     let clear = c.before.before.before in
     let start = clear.before.before.before.before.before.before in
-    (start.requires.0, clear.before.none_seen.ensures (not-false _ clear.if2.false), start.requires.1)
+    (start.requires.0, clear.before.none_seen.ensures (not-false _ clear.if-not-none_seen.false), start.requires.1)
 
-pub items-ahead-spec : {M : Type 1} → statement M
-items-ahead-spec =
+pub items_ahead_spec : {M : Type 1} → statement M
+items_ahead_spec =
     tie.close
     (tie.spec
     (λ c κs. search rules)

@@ -5,10 +5,10 @@ use mathlib.Core.Path.{refl}
 use Rattle.text.proofs.ahead.none_seen.Statement.{statement}
 use Rattle.text.proofs.ahead.none_seen.Tie as tie
 
-pub none-seen-spec : {M : Type 1} → statement M
-none-seen-spec =
+pub none_seen_spec : {M : Type 1} → statement M
+none_seen_spec =
     tie.close
     (tie.spec
     (λ c z. clash z refl)
     (λ c z. clash z refl)
-    (λ c z. record { var = c.before.before.before.if1.false; mask = c.before.if2.false; prod = eqb-true _ _ z }))
+    (λ c z. record { var = c.before.before.before.if-c-ne0.false; mask = c.before.if-c-ne0-2.false; prod = eqb-true _ _ z }))

@@ -7,7 +7,7 @@ use native.Mathlib.Omega.{arith}
 use Rattle.text.proofs.ahead.share_here.Statement.{statement}
 use Rattle.text.proofs.ahead.share_here.Tie as tie
 
-returns-5 : tie.Need-returns-5
+returns-5 : tie.Need-returns
 returns-5 c z =
     let sign = c.before.before.before.before in
     let far = sign.before.before.before in
@@ -15,15 +15,15 @@ returns-5 c z =
     let on = number.on in
     let within = number.within in
     record {
-      some = omega (arith, far.if1.false);
+      some = omega (arith, far.if-j-i.false);
       room = omega arith;
-      comma = sym sign.word.ensures.0 ∙ c.before.before.before.if3.false;
+      comma = sym sign.word.ensures.0 ∙ c.before.before.before.if-word-ne-COMMA.false;
       fits = omega arith;
       more = rw (← c.one_more.ensures) (ltb-true _ _ z);
     }
 
-pub share-here-spec : {M : Type 1} → statement M
-share-here-spec =
+pub share_here_spec : {M : Type 1} → statement M
+share_here_spec =
     tie.close
     (tie.spec
     (λ c z. clash z refl)

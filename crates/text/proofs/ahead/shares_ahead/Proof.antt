@@ -12,49 +12,49 @@ use native.Mathlib.Omega.{arith}
 use Rattle.text.proofs.ahead.shares_ahead.Statement.{statement}
 use Rattle.text.proofs.ahead.shares_ahead.Tie as tie
 
-abbrev invariant-loop : tie.invariant-loop
+abbrev invariant-loop : tie.invariant-loop-at
 invariant-loop s i w₀ row ops item at₀ next₀ r₀ w at next r =
     (at₀ ≤ at) × (at < length s) × (length w ≡ length w₀) × Numbered s at r.at r.val
     × ((c : Ctrl) → c.spot.row ≡ row → c.counts.ops ≡ ops → feed (mk (due_share c next) w) (drop at s) ≡ feed (mk (due_share c next₀) w₀) (drop at₀ s))
 
-abbrev decreases-loop : tie.decreases-loop
+abbrev decreases-loop : tie.decreases-loop-at
 decreases-loop s i w₀ row ops item at₀ next₀ r₀ w at next r = length s - at
 
-loop-again : tie.Need-loop-preserved invariant-loop decreases-loop
+loop-again : tie.Need-loop-at-preserved invariant-loop decreases-loop
 loop-again c =
     let put = c.before.before.before.before.before in
     let asked = put.before.before.before.before in
-    let run = asked.before.loop in
-    let here = asked.share-here.ensures put.before.before.before.if1.true in
+    let run = asked.before.loop-at in
+    let here = asked.share_here.ensures put.before.before.before.loop-at-test.true in
     let some = here.some in
     let room = here.room in (
       omega arith,
       omega arith,
       put.put_word.auto.0 ∙ run.invariant.2,
-      c.number-from2.ensures,
+      c.number_from-r-in-loop-at.ensures,
       λ k o n.
-          simp (c.before.before.one_more.ensures, put.put_word.ensures, put.before.share-byte.ensures.0, ← o)
+          simp (c.before.before.one_more-next.ensures, put.put_word.ensures, put.before.share_byte.ensures.0, ← o)
           (share_ahead k run.at run.r.at run.r.val run.next _ _ run.invariant.3 (rw n here) ∙ run.invariant.4 k o n),
     )
 
-pub shares-ahead-spec : {M : Type 1} → statement M
-shares-ahead-spec =
+pub shares_ahead_spec : {M : Type 1} → statement M
+shares_ahead_spec =
     tie.close
     (tie.spec
     invariant-loop
     decreases-loop
     (λ c κs. search rules)
-    (λ c. (search rules, search rules, refl, c.number-from.ensures, λ k o n. refl))
-    (λ c κs. c.loop.invariant.3)
+    (λ c. (search rules, search rules, refl, c.number_from-r.ensures, λ k o n. refl))
+    (λ c κs. c.loop-at.invariant.3)
     (λ c κs. search rules)
     (λ c κs. search rules)
     (λ c κs. search rules)
-    (λ c. let if = c.before.before.before.before.before.before.before in omega (arith, (if.before.share-here.ensures if.if1.true).room))
-    (λ c κs. let if = c.before.before.before.before.before.before.before in omega (arith, (if.before.share-here.ensures if.if1.true).room))
+    (λ c. let if = c.before.before.before.before.before.before.before in omega (arith, (if.before.share_here.ensures if.loop-at-test.true).room))
+    (λ c κs. let if = c.before.before.before.before.before.before.before in omega (arith, (if.before.share_here.ensures if.loop-at-test.true).room))
     (λ c.
     let test = c.before.before.before.before.before.before.before.before in
-    let here = test.before.share-here.ensures test.if1.true in
+    let here = test.before.share_here.ensures test.loop-at-test.true in
     omega (arith, here.some, here.room))
     loop-again
-    (λ c. c.before.before.loop.invariant.2)
-    (λ c. let run = c.before.before.loop in λ k o n. record { on = run.invariant.0; within = run.invariant.1; same = run.invariant.4 k o n }))
+    (λ c. c.before.before.loop-at.invariant.2)
+    (λ c. let run = c.before.before.loop-at in λ k o n. record { on = run.invariant.0; within = run.invariant.1; same = run.invariant.4 k o n }))

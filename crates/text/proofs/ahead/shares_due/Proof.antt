@@ -5,16 +5,16 @@ use mathlib.Core.Path.{refl, sym}
 use Rattle.text.proofs.ahead.shares_due.Statement.{statement}
 use Rattle.text.proofs.ahead.shares_due.Tie as tie
 
-returns-2 : tie.Need-returns-2
+returns-2 : tie.Need-returns
 returns-2 c =
     let read = c.before.before in
     let start = read.before.before.before.before.before.before in
     let field = start.requires.2 in
-    as_due (share_due _ start.requires.0 start.requires.1 read.before.before.if1.false field) (in_field _ _ _ _ _ (sym field))
-    (read.shares-ahead.ensures start.args.c refl refl)
+    as_due (share_due _ start.requires.0 start.requires.1 read.before.before.if-c-ne0.false field) (in_field _ _ _ _ _ (sym field))
+    (read.shares_ahead-n.ensures start.args.c refl refl)
 
-pub shares-due-spec : {M : Type 1} → statement M
-shares-due-spec =
+pub shares_due_spec : {M : Type 1} → statement M
+shares_due_spec =
     tie.close
     (tie.spec
     (λ c κs. search rules)

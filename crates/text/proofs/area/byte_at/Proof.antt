@@ -5,8 +5,8 @@ use mathlib.Core.Path.{sym}
 use Rattle.text.proofs.area.byte_at.Statement.{statement}
 use Rattle.text.proofs.area.byte_at.Tie as tie
 
-pub byte-at-spec : {M : Type 1} → statement M
-byte-at-spec = tie.close (tie.spec
+pub byte_at_spec : {M : Type 1} → statement M
+byte_at_spec = tie.close (tie.spec
     (λ c. search rules)
     (λ c. search rules)
-    (λ c. sym (get_or-eq_default c.before.args.w.now 0 c.if1.false)))
+    (λ c. sym (get_or-eq_default c.before.args.w.now 0 c.if-i-w.false)))

@@ -7,11 +7,11 @@ use mathlib.Core.Path.{refl, sym}
 use Rattle.text.proofs.area.put_byte.Statement.{statement}
 use Rattle.text.proofs.area.put_byte.Tie as tie
 
-pub put-byte-spec : {M : Type 1} → statement M
+pub put_byte_spec : {M : Type 1} → statement M
 unfolding put_byte
-put-byte-spec = tie.close (tie.spec
+put_byte_spec = tie.close (tie.spec
     (λ c. search rules)
     (λ c. search rules)
     (λ c. search rules)
     (λ c. refl)
-    (λ c. sym (set_out c.before.args.w.now c.before.args.i (c.before.args.v % 256) c.if1.false)))
+    (λ c. sym (set_out c.before.args.w.now c.before.args.i (c.before.args.v % 256) c.if-i-w.false)))

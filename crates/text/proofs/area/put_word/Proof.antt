@@ -14,11 +14,11 @@ returns c =
     let second = third.before.before.before.before in
     let first = second.before.before.before.before in
     let a = first.before.before.before.args in
-    let two = second.put-byte2.ensures ∙ ap (λ (l : List ℕ). put_byte l (a.i + 1) (a.v / 256)) first.put_byte.ensures in
-    third.put-byte3.ensures ∙ ap (λ (l : List ℕ). put_byte l (a.i + 2) (a.v / 65536)) two
+    let two = second.put_byte-2.ensures ∙ ap (λ (l : List ℕ). put_byte l (a.i + 1) (a.v / 256)) first.put_byte.ensures in
+    third.put_byte-3.ensures ∙ ap (λ (l : List ℕ). put_byte l (a.i + 2) (a.v / 65536)) two
 
-pub put-word-spec : {M : Type 1} → statement M
-put-word-spec =
+pub put_word_spec : {M : Type 1} → statement M
+put_word_spec =
     tie.close
     (tie.spec
     (λ c κs. search rules)

@@ -4,8 +4,8 @@ use mathlib.Core.Path.{◌∙◌}
 use Rattle.text.proofs.area.values_of.Statement.{statement}
 use Rattle.text.proofs.area.values_of.Tie as tie
 
-pub values-of-spec : {M : Type 1} → statement M
-values-of-spec = tie.close (tie.spec
+pub values_of_spec : {M : Type 1} → statement M
+values_of_spec = tie.close (tie.spec
     (λ c κs. search rules)
     (λ c κs. search rules)
     (λ c κs. search rules)

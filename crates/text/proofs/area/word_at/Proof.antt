@@ -10,10 +10,10 @@ unfolding word_in
 returns c =
     let second = c.before.before in
     let first = second.before.before in
-    (simp (first.word.ensures.0, second.word2.ensures.0, c.word3.ensures.0, first.before.byte_at.ensures, second.before.byte-at2.ensures, c.before.byte-at3.ensures), omega arith)
+    (simp (first.word-a.ensures.0, second.word-b.ensures.0, c.word-c.ensures.0, first.before.byte_at.ensures, second.before.byte_at-2.ensures, c.before.byte_at-3.ensures), omega arith)
 
-pub word-at-spec : {M : Type 1} → statement M
-word-at-spec =
+pub word_at_spec : {M : Type 1} → statement M
+word_at_spec =
     tie.close
     (tie.spec
     (λ c κs. search rules)

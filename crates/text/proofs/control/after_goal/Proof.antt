@@ -4,11 +4,11 @@ use borrow.Author.Tests.{eq-eqb, ne_eqb}
 use Rattle.text.proofs.control.after_goal.Statement.{statement}
 use Rattle.text.proofs.control.after_goal.Tie as tie
 
-pub after-goal-spec : {M : Type 1} → statement M
-after-goal-spec =
+pub after_goal_spec : {M : Type 1} → statement M
+after_goal_spec =
     tie.close
     (tie.spec
     (λ c κs. search rules)
     (λ c κs. search rules)
-    (λ c. simp (eq-eqb _ _ c.before.if1.true) c.to-line.ensures)
-    (λ c. simp (ne_eqb _ _ c.before.if1.false) c.to-line2.ensures))
+    (λ c. simp (eq-eqb _ _ c.before.if-c-eq-QUOTA_EDITION.true) c.to_line.ensures)
+    (λ c. simp (ne_eqb _ _ c.before.if-c-eq-QUOTA_EDITION.false) c.to_line-else-c-eq-QUOTA_EDITION.ensures))

@@ -4,7 +4,7 @@ use mathlib.Core.Path.{refl}
 use Rattle.text.proofs.control.await_number.Statement.{statement}
 use Rattle.text.proofs.control.await_number.Tie as tie
 
-pub await-number-spec : {M : Type 1} → statement M
+pub await_number_spec : {M : Type 1} → statement M
 unfolding due
-await-number-spec = tie.close (tie.spec
+await_number_spec = tie.close (tie.spec
     (λ c. refl))

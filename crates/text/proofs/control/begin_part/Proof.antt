@@ -4,7 +4,7 @@ use mathlib.Core.Path.{refl}
 use Rattle.text.proofs.control.begin_part.Statement.{statement}
 use Rattle.text.proofs.control.begin_part.Tie as tie
 
-pub begin-part-spec : {M : Type 1} → statement M
+pub begin_part_spec : {M : Type 1} → statement M
 unfolding part_begun
-begin-part-spec = tie.close (tie.spec
+begin_part_spec = tie.close (tie.spec
     (λ c. refl))

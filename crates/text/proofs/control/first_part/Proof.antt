@@ -3,8 +3,8 @@ use borrow.Author.Tests.{eq-eqb, ne_eqb}
 use Rattle.text.proofs.control.first_part.Statement.{statement}
 use Rattle.text.proofs.control.first_part.Tie as tie
 
-pub first-part-spec : {M : Type 1} → statement M
-first-part-spec = tie.close (tie.spec
-    (λ c. simp (eq-eqb _ _ c.before.before.if1.true, eq-eqb _ _ c.if2.true))
-    (λ c. simp (eq-eqb _ _ c.before.before.if1.true, ne_eqb _ _ c.if2.false))
-    (λ c. simp (ne_eqb _ _ c.if1.false)))
+pub first_part_spec : {M : Type 1} → statement M
+first_part_spec = tie.close (tie.spec
+    (λ c. simp (eq-eqb _ _ c.before.before.if-c-eq-FIELD_SHARE.true, eq-eqb _ _ c.if-c-eq0.true))
+    (λ c. simp (eq-eqb _ _ c.before.before.if-c-eq-FIELD_SHARE.true, ne_eqb _ _ c.if-c-eq0.false))
+    (λ c. simp (ne_eqb _ _ c.if-c-eq-FIELD_SHARE.false)))

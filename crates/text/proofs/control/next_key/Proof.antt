@@ -4,8 +4,8 @@ use borrow.Author.Rules.{rules}
 use Rattle.text.proofs.control.next_key.Statement.{statement}
 use Rattle.text.proofs.control.next_key.Tie as tie
 
-pub next-key-spec : {M : Type 1} → statement M
+pub next_key_spec : {M : Type 1} → statement M
 unfolding next_key
-next-key-spec = tie.close (tie.spec
+next_key_spec = tie.close (tie.spec
     (λ c κs. search rules)
     (λ c. simp c.one_more.ensures))

@@ -4,9 +4,9 @@ use borrow.Author.Rules.{rules}
 use Rattle.text.proofs.control.open_line.Statement.{statement}
 use Rattle.text.proofs.control.open_line.Tie as tie
 
-pub open-line-spec : {M : Type 1} → statement M
+pub open_line_spec : {M : Type 1} → statement M
 unfolding opened
-open-line-spec = tie.close (tie.spec
+open_line_spec = tie.close (tie.spec
     (λ c κs. search rules)
     (λ c κs. search rules)
-    (λ c. simp (← c.before.first_part.ensures) c.begin-part.ensures))
+    (λ c. simp (← c.before.first_part.ensures) c.begin_part.ensures))

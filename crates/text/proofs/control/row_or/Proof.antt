@@ -5,12 +5,12 @@ use borrow.Author.Tests.{le-ltb, lt-ltb}
 use Rattle.text.proofs.control.row_or.Statement.{statement}
 use Rattle.text.proofs.control.row_or.Tie as tie
 
-pub row-or-spec : {M : Type 1} → statement M
+pub row_or_spec : {M : Type 1} → statement M
 unfolding row_or
-row-or-spec =
+row_or_spec =
     tie.close (tie.spec
     (λ c κs. search rules)
     (λ c κs. search rules)
     (λ c κs. search rules)
-    (λ c. simp (← c.before.before.one_more.ensures, lt-ltb _ _ c.before.if1.true) c.to-line.ensures)
-    (λ c. simp (← c.before.before.one_more.ensures, le-ltb _ _ c.before.if1.false) c.to-line2.ensures))
+    (λ c. simp (← c.before.before.one_more-r.ensures, lt-ltb _ _ c.before.if-r-n.true) c.to_line.ensures)
+    (λ c. simp (← c.before.before.one_more-r.ensures, le-ltb _ _ c.before.if-r-n.false) c.to_line-else-r-n.ensures))

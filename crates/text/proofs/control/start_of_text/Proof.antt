@@ -4,7 +4,7 @@ use mathlib.Core.Path.{refl}
 use Rattle.text.proofs.control.start_of_text.Statement.{statement}
 use Rattle.text.proofs.control.start_of_text.Tie as tie
 
-pub start-of-text-spec : {M : Type 1} → statement M
+pub start_of_text_spec : {M : Type 1} → statement M
 unfolding start
-start-of-text-spec = tie.close (tie.spec
+start_of_text_spec = tie.close (tie.spec
     (λ c. refl))

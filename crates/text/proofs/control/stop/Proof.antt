@@ -4,7 +4,7 @@ use mathlib.Core.Path.{refl}
 use Rattle.text.proofs.control.stop.Statement.{statement}
 use Rattle.text.proofs.control.stop.Tie as tie
 
-pub stop-spec : {M : Type 1} → statement M
+pub stop_spec : {M : Type 1} → statement M
 unfolding stopped
-stop-spec = tie.close (tie.spec
+stop_spec = tie.close (tie.spec
     (λ c. refl))

@@ -4,8 +4,8 @@ use borrow.Author.Rules.{rules}
 use Rattle.text.proofs.control.take_dash.Statement.{statement}
 use Rattle.text.proofs.control.take_dash.Tie as tie
 
-pub take-dash-spec : {M : Type 1} → statement M
+pub take_dash_spec : {M : Type 1} → statement M
 unfolding dashed
-take-dash-spec = tie.close (tie.spec
+take_dash_spec = tie.close (tie.spec
     (λ c κs. search rules)
-    (λ c. c.begin-part.ensures))
+    (λ c. c.begin_part.ensures))

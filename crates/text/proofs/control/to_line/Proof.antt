@@ -4,9 +4,9 @@ use borrow.Author.Rules.{rules}
 use Rattle.text.proofs.control.to_line.Statement.{statement}
 use Rattle.text.proofs.control.to_line.Tie as tie
 
-pub to-line-spec : {M : Type 1} → statement M
+pub to_line_spec : {M : Type 1} → statement M
 unfolding to_line
-to-line-spec = tie.close (tie.spec
+to_line_spec = tie.close (tie.spec
     (λ c κs. search rules)
     (λ c κs. search rules)
-    (λ c. simp (← c.before.one_more.ensures) c.begin-part.ensures))
+    (λ c. simp (← c.before.one_more.ensures) c.begin_part.ensures))

@@ -6,16 +6,16 @@ use Rattle.text.specs.Inside.End.{last_fault}
 use Rattle.text.proofs.end.last_fault.Statement.{statement}
 use Rattle.text.proofs.end.last_fault.Tie as tie
 
-returns : tie.Need-returns
+returns : tie.Need-returns-in_default
 unfolding last_fault
-returns c = let x = c.before.before.refusal-of in hands_on _ _ x.result c.enum-told2.given.0.0 x.ensures c.enum-told2.given.1
+returns c = let x = c.before.before.refusal_of-found in hands_on _ _ x.result c.enum_told-in_default-1.given.0.0 x.ensures c.enum_told-in_default-1.given.1
 
-returns-2 : tie.Need-returns-2
+returns-2 : tie.Need-returns
 unfolding last_fault
-returns-2 c = let x = c.before.before.before.refusal-of in c.over-fault.ensures ∙ goes_on _ _ x.result x.ensures c.before.enum_told.given.1
+returns-2 c = let x = c.before.before.before.refusal_of-found in c.over_fault.ensures ∙ goes_on _ _ x.result x.ensures c.before.enum_told-1.given.1
 
-pub last-fault-spec : {M : Type 1} → statement M
-last-fault-spec =
+pub last_fault_spec : {M : Type 1} → statement M
+last_fault_spec =
     tie.close
     (tie.spec
     (λ c κs. search rules) (λ c. search rules) (λ c. search rules)

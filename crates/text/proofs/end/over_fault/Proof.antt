@@ -26,72 +26,72 @@ passes w maps o = leb (sum (λ m. share_in w m o) maps) (cost_in w o)
 abbrev said : Ctrl → ℕ → Refusal
 said k o = SharesAboveCost (line_of_op k.counts.edition o)
 
-abbrev invariant-loop : tie.invariant-loop
+abbrev invariant-loop : tie.invariant-loop-o
 invariant-loop k w maps ops o₀ o = (o ≤ ops) × (ops ≤ 64) × (maps ≤ 8) × (each (tests (passes w maps) (said k)) o 0 ≡ Clean)
 
-abbrev decreases-loop : tie.decreases-loop
+abbrev decreases-loop : tie.decreases-loop-o
 decreases-loop k w maps ops o₀ o = ops - o
 
-loop-holds : tie.Need-loop-init invariant-loop decreases-loop
+loop-holds : tie.Need-loop-o-init invariant-loop decreases-loop
 loop-holds c =
     let a = c.before.before.before.args in
-    (omega arith, omega (arith, c.at-most2.ensures), omega (arith, c.before.at_most.ensures), walk_none (tests (passes a.w.now c.before.at_most.result) (said a.c)))
+    (omega arith, omega (arith, c.at_most-ops.ensures), omega (arith, c.before.at_most-maps.ensures), walk_none (tests (passes a.w.now c.before.at_most-maps.result) (said a.c)))
 
-word-at-requires : tie.Need-word-at-requires invariant-loop decreases-loop
-word-at-requires c κs = c.cost-byte.ensures.1
+word-at-requires : tie.Need-word_at-requires invariant-loop decreases-loop
+word-at-requires c κs = c.cost_byte.ensures.1
 
-share-total-requires : tie.Need-share-total-requires invariant-loop decreases-loop
-share-total-requires c κs = c.before.before.before.loop.invariant.2
+share-total-requires : tie.Need-share_total-requires invariant-loop decreases-loop
+share-total-requires c κs = c.before.before.before.loop-o.invariant.2
 
-op-line-requires : tie.Need-op-line-requires invariant-loop decreases-loop
+op-line-requires : tie.Need-op_line-requires invariant-loop decreases-loop
 op-line-requires c κs =
     let x = c.before.before.before.before.before in
-    let few = x.loop.invariant.1 in
-    let more = c.before.before.before.before.loop-test.true in
+    let few = x.loop-o.invariant.1 in
+    let more = c.before.before.before.before.loop-o-test.true in
     omega arith
 
-returns : tie.Need-returns invariant-loop decreases-loop
+returns : tie.Need-returns-then-word_at-share_total invariant-loop decreases-loop
 unfolding over
 returns c =
     let t = c.before.before.before in
     let z = t.before.before in
     let x = z.before in
-    let run = x.loop in
+    let run = x.loop-o in
     let a = x.before.before.before.before.args in
     let w = a.w.now in
-    let maps = x.before.before.at_most in
-    let ops = x.before.at-most2 in
-    let more = simp (t.word_at.ensures.0, t.before.cost-byte.ensures.0, c.before.before.share-total.ensures) at c.before.if1.true in
+    let maps = x.before.before.at_most-maps in
+    let ops = x.before.at_most-ops in
+    let more = simp (t.word_at.ensures.0, t.before.cost_byte.ensures.0, c.before.before.share_total.ensures) at c.before.if-word_at-share_total.true in
     let high = lt-leb (sum (λ m. share_in w m run.o) maps.result) (cost_in w run.o) more in
-    ap (λ (l : ℕ). Fault (SharesAboveCost l)) c.op-line.ensures
-    ∙ sym (simp (← maps.ensures, ← ops.ensures) (tests_here (passes w maps.result) (said a.c) ops.result run.o run.invariant.3 z.loop-test.true high))
+    ap (λ (l : ℕ). Fault (SharesAboveCost l)) c.op_line.ensures
+    ∙ sym (simp (← maps.ensures, ← ops.ensures) (tests_here (passes w maps.result) (said a.c) ops.result run.o run.invariant.3 z.loop-o-test.true high))
 
-loop-again : tie.Need-loop-preserved invariant-loop decreases-loop
+loop-again : tie.Need-loop-o-preserved invariant-loop decreases-loop
 loop-again c =
     let y = c.before.before in
     let z = y.before.before in
     let x = z.before in
-    let run = x.loop in
+    let run = x.loop-o in
     let a = x.before.before.before.before.args in
     let w = a.w.now in
-    let maps = x.before.before.at_most in
-    let less = simp (y.word_at.ensures.0, y.before.cost-byte.ensures.0, c.before.share-total.ensures) at c.if1.false in
+    let maps = x.before.before.at_most-maps in
+    let less = simp (y.word_at.ensures.0, y.before.cost_byte.ensures.0, c.before.share_total.ensures) at c.if-word_at-share_total.false in
     let low = le-leb (sum (λ m. share_in w m run.o) maps.result) (cost_in w run.o) less in
     (omega arith, run.invariant.1, run.invariant.2, tests_more (passes w maps.result) (said a.c) run.o run.invariant.3 low)
 
-returns-2 : tie.Need-returns-2 invariant-loop decreases-loop
+returns-2 : tie.Need-returns invariant-loop decreases-loop
 unfolding over
 returns-2 c =
     let x = c.before in
-    let run = x.loop in
+    let run = x.loop-o in
     let a = x.before.before.before.before.args in
     let w = a.w.now in
-    let maps = x.before.before.at_most in
-    let ops = x.before.at-most2 in
+    let maps = x.before.before.at_most-maps in
+    let ops = x.before.at_most-ops in
     sym (simp (← maps.ensures, ← ops.ensures) (walk_end (tests (passes w maps.result) (said a.c)) ops.result run.o run.invariant.3 (omega arith) (omega arith)))
 
-pub over-fault-spec : {M : Type 1} → statement M
-over-fault-spec =
+pub over_fault_spec : {M : Type 1} → statement M
+over_fault_spec =
     tie.close
     (tie.spec
     invariant-loop

@@ -7,8 +7,8 @@ use borrow.Author.Rules.{rules}
 use Rattle.text.proofs.fields.bound_of.Statement.{statement}
 use Rattle.text.proofs.fields.bound_of.Tie as tie
 
-pub bound-of-spec : {M : Type 1} → statement M
-bound-of-spec =
+pub bound_of_spec : {M : Type 1} → statement M
+bound_of_spec =
     tie.close
     (tie.spec
     (λ c. search rules)
@@ -32,4 +32,4 @@ bound-of-spec =
     (λ c. search rules)
     (λ c. search rules)
     (λ c. search rules)
-    (λ c. sym (table_else (16 ∷ 15 ∷ 14 ∷ 12 ∷ 10 ∷ 8 ∷ 7 ∷ 6 ∷ 4 ∷ 2 ∷ 1 ∷ 0 ∷ []) limits refl c.before.args.f c.match.rest)))
+    (λ c. sym (table_else (16 ∷ 15 ∷ 14 ∷ 12 ∷ 10 ∷ 8 ∷ 7 ∷ 6 ∷ 4 ∷ 2 ∷ 1 ∷ 0 ∷ []) limits refl c.before.args.f c.in-0.rest)))

@@ -5,25 +5,25 @@ use borrow.Author.Tests.{le-ltb, lt-ltb}
 use Rattle.text.proofs.fields.class_fault.Statement.{statement}
 use Rattle.text.proofs.fields.class_fault.Tie as tie
 
-returns : tie.Need-returns
+returns : tie.Need-returns-then-p-gt-STATES_MOST
 unfolding class_fault
 returns c =
     let last = c.before.before.before in
     let full = last.before.before in
-    simp (← full.before.none_missing.ensures, full.if1.true, ← last.before.last-var.ensures, last.if2.true)
-    (simp (← c.before.before.width_of_lem.ensures, ← c.before.multiply.ensures, lt-ltb _ _ c.if3.true))
+    simp (← full.before.none_missing.ensures, full.if-none_missing.true, ← last.before.last_var.ensures, last.if-last_var.true)
+    (simp (← c.before.before.width_of_lem.ensures, ← c.before.multiply-p.ensures, lt-ltb _ _ c.if-p-gt-STATES_MOST.true))
 
-returns-2 : tie.Need-returns-2
+returns-2 : tie.Need-returns-else-p-gt-STATES_MOST
 unfolding class_fault
 returns-2 c =
     let last = c.before.before.before in
     let full = last.before.before in
-    simp (← full.before.none_missing.ensures, full.if1.true, ← last.before.last-var.ensures, last.if2.true)
-    (simp (← c.before.before.width_of_lem.ensures, ← c.before.multiply.ensures, le-ltb _ _ c.if3.false))
+    simp (← full.before.none_missing.ensures, full.if-none_missing.true, ← last.before.last_var.ensures, last.if-last_var.true)
+    (simp (← c.before.before.width_of_lem.ensures, ← c.before.multiply-p.ensures, le-ltb _ _ c.if-p-gt-STATES_MOST.false))
 
-pub class-fault-spec : {M : Type 1} → statement M
+pub class_fault_spec : {M : Type 1} → statement M
 unfolding class_fault
-class-fault-spec =
+class_fault_spec =
     tie.close
     (tie.spec
     (λ c κs. search rules)
@@ -32,5 +32,5 @@ class-fault-spec =
     (λ c κs. search rules)
     returns
     returns-2
-    (λ c. simp (← c.before.before.before.none_missing.ensures, c.before.before.if1.true, ← c.before.last-var.ensures, c.if2.false))
-    (λ c. simp (← c.before.none_missing.ensures, c.if1.false)))
+    (λ c. simp (← c.before.before.before.none_missing.ensures, c.before.before.if-none_missing.true, ← c.before.last_var.ensures, c.if-last_var.false))
+    (λ c. simp (← c.before.none_missing.ensures, c.if-none_missing.false)))

@@ -12,16 +12,16 @@ at : (k : Ctrl) {f : ℕ} → k.spot.field ≡ f → with_count f k.digits.val k
 unfolding counts_with
 at k e = sym (ap (λ (x : ℕ). with_count x k.digits.val k.counts) e)
 
-pub counts-with-spec : {M : Type 1} → statement M
+pub counts_with_spec : {M : Type 1} → statement M
 unfolding counts_with
-counts-with-spec =
+counts_with_spec =
     tie.close
     (tie.spec
-    (λ c. at c.before.before.args.c c.if1.true)
-    (λ c. at c.before.before.before.args.c c.if2.true)
-    (λ c. at c.before.before.before.before.args.c c.if3.true)
-    (λ c. at c.before.before.before.before.before.args.c c.if4.true)
-    (λ c. at c.before.before.before.before.before.before.args.c c.if5.true)
+    (λ c. at c.before.before.args.c c.if-f-eq-FIELD_VARS.true)
+    (λ c. at c.before.before.before.args.c c.if-f-eq-FIELD_OPS.true)
+    (λ c. at c.before.before.before.before.args.c c.if-f-eq-FIELD_MAPS.true)
+    (λ c. at c.before.before.before.before.before.args.c c.if-f-eq-FIELD_EDITION.true)
+    (λ c. at c.before.before.before.before.before.before.args.c c.if-f-eq-FIELD_QUOTA.true)
     (λ c.
     let x = c.before.before in
-    simp (ne_eqb _ _ x.before.before.if1.false, ne_eqb _ _ x.before.if2.false, ne_eqb _ _ x.if3.false, ne_eqb _ _ c.before.if4.false, ne_eqb _ _ c.if5.false)))
+    simp (ne_eqb _ _ x.before.before.if-f-eq-FIELD_VARS.false, ne_eqb _ _ x.before.if-f-eq-FIELD_OPS.false, ne_eqb _ _ x.if-f-eq-FIELD_MAPS.false, ne_eqb _ _ c.before.if-f-eq-FIELD_EDITION.false, ne_eqb _ _ c.if-f-eq-FIELD_QUOTA.false)))

@@ -5,22 +5,22 @@ use Rattle.text.specs.Inside.Fields.{fault}
 use Rattle.text.proofs.fields.fault_of.Statement.{statement}
 use Rattle.text.proofs.fields.fault_of.Tie as tie
 
-returns-2 : tie.Need-returns-2
+returns-2 : tie.Need-returns-then-goes_on
 unfolding fault
 returns-2 c =
     let x = c.before.before in
     let y = x.before.before in
-    simp (ne_eqb _ _ y.before.if1.false, ← y.judge.ensures, ← x.before.goes_on.ensures, x.if2.true, ← c.before.note.ensures) c.before-byte.ensures
+    simp (ne_eqb _ _ y.before.if-c-eq-RUN_NONE.false, ← y.judge-k.ensures, ← x.before.goes_on.ensures, x.if-goes_on.true, ← c.before.note.ensures) c.before_byte.ensures
 
-pub fault-of-spec : {M : Type 1} → statement M
+pub fault_of_spec : {M : Type 1} → statement M
 unfolding fault
-fault-of-spec =
+fault_of_spec =
     tie.close
     (tie.spec
-    (λ c. simp (eq-eqb _ _ c.if1.true))
+    (λ c. simp (eq-eqb _ _ c.if-c-eq-RUN_NONE.true))
     (λ c κs. search rules)
     (λ c κs. search rules)
     (λ c κs. search rules)
     (λ c κs. search rules)
     returns-2
-    (λ c. let y = c.before.before in simp (ne_eqb _ _ y.before.if1.false, ← y.judge.ensures, ← c.before.goes_on.ensures, c.if2.false)))
+    (λ c. let y = c.before.before in simp (ne_eqb _ _ y.before.if-c-eq-RUN_NONE.false, ← y.judge-k.ensures, ← c.before.goes_on.ensures, c.if-goes_on.false)))

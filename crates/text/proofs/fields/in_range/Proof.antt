@@ -5,10 +5,10 @@ use borrow.Author.Tests.{le-leb, lt-leb}
 use Rattle.text.proofs.fields.in_range.Statement.{statement}
 use Rattle.text.proofs.fields.in_range.Tie as tie
 
-pub in-range-spec : {M : Type 1} → statement M
+pub in_range_spec : {M : Type 1} → statement M
 unfolding in_range
-in-range-spec = tie.close (tie.spec
+in_range_spec = tie.close (tie.spec
     (λ c κs. search rules)
     (λ c κs. search rules)
-    (λ c. simp (← c.before.before.before.before.least_of.ensures, le-leb _ _ c.before.before.if1.true, ← c.before.limit-of.ensures))
-    (λ c. simp (← c.before.before.least_of.ensures, lt-leb _ _ c.if1.false)))
+    (λ c. simp (← c.before.before.before.before.least_of.ensures, le-leb _ _ c.before.before.if-least_of-c.true, ← c.before.limit_of.ensures))
+    (λ c. simp (← c.before.before.least_of.ensures, lt-leb _ _ c.if-least_of-c.false)))

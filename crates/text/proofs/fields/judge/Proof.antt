@@ -5,10 +5,10 @@ use borrow.Author.Tests.{le-leb, lt-leb}
 use Rattle.text.proofs.fields.judge.Statement.{statement}
 use Rattle.text.proofs.fields.judge.Tie as tie
 
-pub judge-spec : {M : Type 1} → statement M
+pub judge_spec : {M : Type 1} → statement M
 unfolding number_fault
-judge-spec = tie.close (tie.spec
+judge_spec = tie.close (tie.spec
     (λ c κs. search rules)
-    (λ c. simp (← c.before.before.before.in_range_lem.ensures, c.before.before.if1.true, le-leb _ _ c.if2.true))
-    (λ c. simp (← c.before.before.before.in_range_lem.ensures, c.before.before.if1.true, lt-leb _ _ c.if2.false))
-    (λ c. simp (← c.before.in_range_lem.ensures, c.if1.false)))
+    (λ c. simp (← c.before.before.before.in_range_lem.ensures, c.before.before.if-in_range.true, le-leb _ _ c.if-c.true))
+    (λ c. simp (← c.before.before.before.in_range_lem.ensures, c.before.before.if-in_range.true, lt-leb _ _ c.if-c.false))
+    (λ c. simp (← c.before.in_range_lem.ensures, c.if-in_range.false)))

@@ -7,9 +7,9 @@ use borrow.Author.Rules.{rules}
 use Rattle.text.proofs.fields.kind_of.Statement.{statement}
 use Rattle.text.proofs.fields.kind_of.Tie as tie
 
-pub kind-of-spec : {M : Type 1} → statement M
+pub kind_of_spec : {M : Type 1} → statement M
 unfolding kind
-kind-of-spec =
+kind_of_spec =
     tie.close
     (tie.spec
     (λ c. search rules)
@@ -24,4 +24,4 @@ kind-of-spec =
     (λ c. search rules)
     (λ c. search rules)
     (λ c. search rules)
-    (λ c. sym (table_else (16 ∷ 14 ∷ 13 ∷ 11 ∷ 10 ∷ 9 ∷ 8 ∷ 7 ∷ 5 ∷ 4 ∷ 3 ∷ 2 ∷ []) kinds refl c.before.args.f c.match.rest)))
+    (λ c. sym (table_else (16 ∷ 14 ∷ 13 ∷ 11 ∷ 10 ∷ 9 ∷ 8 ∷ 7 ∷ 5 ∷ 4 ∷ 3 ∷ 2 ∷ []) kinds refl c.before.args.f c.in-2.rest)))

@@ -5,10 +5,10 @@ use borrow.Author.Tests.{eq-eqb, ne_eqb}
 use Rattle.text.proofs.fields.last_class.Statement.{statement}
 use Rattle.text.proofs.fields.last_class.Tie as tie
 
-pub last-class-spec : {M : Type 1} → statement M
+pub last_class_spec : {M : Type 1} → statement M
 unfolding last_class
-last-class-spec = tie.close (tie.spec
+last_class_spec = tie.close (tie.spec
     (λ c κs. search rules)
     (λ c κs. search rules)
-    (λ c. simp (eq-eqb _ _ c.before.before.if1.true, ← c.before.one_more.ensures, ← c.values_of.ensures))
-    (λ c. simp (ne_eqb _ _ c.if1.false)))
+    (λ c. simp (eq-eqb _ _ c.before.before.if-c-eq-FIELD_CLASS.true, ← c.before.one_more.ensures, ← c.values_of.ensures))
+    (λ c. simp (ne_eqb _ _ c.if-c-eq-FIELD_CLASS.false)))

@@ -4,8 +4,8 @@ use borrow.Author.Rules.{rules}
 use Rattle.text.proofs.fields.last_var.Statement.{statement}
 use Rattle.text.proofs.fields.last_var.Tie as tie
 
-pub last-var-spec : {M : Type 1} → statement M
+pub last_var_spec : {M : Type 1} → statement M
 unfolding last_var
-last-var-spec = tie.close (tie.spec
+last_var_spec = tie.close (tie.spec
     (λ c κs. search rules)
     (λ c. simp (← c.before.one_more.ensures)))

@@ -7,12 +7,12 @@ use borrow.Author.Rules.{rules}
 use Rattle.text.proofs.fields.least_of.Statement.{statement}
 use Rattle.text.proofs.fields.least_of.Tie as tie
 
-pub least-of-spec : {M : Type 1} → statement M
-least-of-spec =
+pub least_of_spec : {M : Type 1} → statement M
+least_of_spec =
     tie.close
     (tie.spec
     (λ c. search rules)
     (λ c. search rules)
     (λ c. search rules)
     (λ c. search rules)
-    (λ c. sym (table_else (12 ∷ 2 ∷ 1 ∷ 0 ∷ []) leasts refl c.before.args.f c.match.rest)))
+    (λ c. sym (table_else (12 ∷ 2 ∷ 1 ∷ 0 ∷ []) leasts refl c.before.args.f c.in-0.rest)))

@@ -4,9 +4,9 @@ use Rattle.text.specs.Inside.Fields.{noted}
 use Rattle.text.proofs.fields.note.Statement.{statement}
 use Rattle.text.proofs.fields.note.Tie as tie
 
-pub note-spec : {M : Type 1} → statement M
+pub note_spec : {M : Type 1} → statement M
 unfolding noted
-note-spec = tie.close (tie.spec
+note_spec = tie.close (tie.spec
     (λ c κs. search rules)
     (λ c κs. search rules)
-    (λ c. simp (c.before.seen-with.ensures, c.Counts-with.ensures)))
+    (λ c. simp (c.before.seen_with-n.ensures, c.Counts-with.ensures)))

@@ -5,9 +5,9 @@ use Rattle.text.specs.Inside.Fields.{seen_with}
 use Rattle.text.proofs.fields.seen_with.Statement.{statement}
 use Rattle.text.proofs.fields.seen_with.Tie as tie
 
-pub seen-with-spec : {M : Type 1} → statement M
+pub seen_with_spec : {M : Type 1} → statement M
 unfolding seen_with
-seen-with-spec = tie.close (tie.spec
+seen_with_spec = tie.close (tie.spec
     (λ c κs. search rules)
-    (λ c. simp (eq-eqb _ _ c.before.if1.true, ← c.add-class.ensures))
-    (λ c. simp (ne_eqb _ _ c.if1.false)))
+    (λ c. simp (eq-eqb _ _ c.before.if-c-eq-FIELD_CLASS.true, ← c.add_class.ensures))
+    (λ c. simp (ne_eqb _ _ c.if-c-eq-FIELD_CLASS.false)))

@@ -10,22 +10,22 @@ use native.Mathlib.Omega.{arith}
 use Rattle.text.proofs.fill.copy_bytes.Statement.{statement}
 use Rattle.text.proofs.fill.copy_bytes.Tie as tie
 
-abbrev invariant-loop : tie.invariant-loop
+abbrev invariant-loop : tie.invariant-loop-i
 invariant-loop w n out₀ i₀ out i = (i ≤ n) × FilledTo (take n w) out₀ out i
 
-abbrev decreases-loop : tie.decreases-loop
+abbrev decreases-loop : tie.decreases-loop-i
 decreases-loop w n out₀ i₀ out i = n - i
 
-loop-again : tie.Need-loop-preserved invariant-loop decreases-loop
+loop-again : tie.Need-loop-i-preserved invariant-loop decreases-loop
 loop-again c =
-    let run = c.before.before.loop in
-    let on = c.before.loop-test.true in
+    let run = c.before.before.loop-i in
+    let on = c.before.loop-i-test.true in
     let same = run.invariant.1.same in
     let fits : run.i < length run.out = omega (arith, c.before.before.before.requires) in
     (omega arith, fill_turn _ _ _ _ _ run.invariant.1 fits (sym (get_or-take _ _ _ 0 on)))
 
-pub copy-bytes-spec : {M : Type 1} → statement M
-copy-bytes-spec =
+pub copy_bytes_spec : {M : Type 1} → statement M
+copy_bytes_spec =
     tie.close
     (tie.spec
     invariant-loop
@@ -36,5 +36,5 @@ copy-bytes-spec =
     (λ c. omega arith)
     (λ c. omega arith)
     loop-again
-    (λ c. c.before.loop.invariant.1.same)
-    (λ c. filled_as_far c.before.loop.invariant.1 (omega arith)))
+    (λ c. c.before.loop-i.invariant.1.same)
+    (λ c. filled_as_far c.before.loop-i.invariant.1 (omega arith)))

@@ -12,10 +12,10 @@ returns c =
     let copied = cleared.before.before.before.before in
     let start = copied.before.before.before.before in
     let size = length-take-le _ _ start.requires.0 in
-    fill_end _ _ _ _ _ size start.requires.1 (cleared.clear-bytes.ensures _ _ (omega arith) copied.copy-bytes.ensures) (omega arith)
+    fill_end _ _ _ _ _ size start.requires.1 (cleared.clear_bytes.ensures _ _ (omega arith) copied.copy_bytes.ensures) (omega arith)
 
-pub fill-bytes-spec : {M : Type 1} → statement M
-fill-bytes-spec = tie.close (tie.spec
+pub fill_bytes_spec : {M : Type 1} → statement M
+fill_bytes_spec = tie.close (tie.spec
     (λ c κs. search rules)
     (λ c κs. search rules)
     (λ c. search rules)

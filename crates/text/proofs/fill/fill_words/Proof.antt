@@ -9,25 +9,25 @@ use native.Mathlib.Omega.{arith}
 use Rattle.text.proofs.fill.fill_words.Statement.{statement}
 use Rattle.text.proofs.fill.fill_words.Tie as tie
 
-abbrev invariant-loop : tie.invariant-loop
+abbrev invariant-loop : tie.invariant-loop-i
 invariant-loop w n at out₀ i₀ out i = FilledTo (threes n at w) out₀ out i
 
-abbrev decreases-loop : tie.decreases-loop
+abbrev decreases-loop : tie.decreases-loop-i
 decreases-loop w n at out₀ i₀ out i = length out₀ - i
 
-loop-again : tie.Need-loop-preserved invariant-loop decreases-loop
+loop-again : tie.Need-loop-i-preserved invariant-loop decreases-loop
 loop-again c =
-    let run = c.before.before.loop in
+    let run = c.before.before.loop-i in
     let fits : run.i < length run.out = omega arith in
-    fill_turn _ _ _ _ _ run.invariant fits c.nth-word.ensures
+    fill_turn _ _ _ _ _ run.invariant fits c.nth_word.ensures
 
 returns : tie.Need-returns invariant-loop decreases-loop
 returns c =
     let start = c.before.before.before.before in
-    fill_end _ _ _ _ _ (threes_length _ _ _) start.requires.2 c.before.loop.invariant (omega arith)
+    fill_end _ _ _ _ _ (threes_length _ _ _) start.requires.2 c.before.loop-i.invariant (omega arith)
 
-pub fill-words-spec : {M : Type 1} → statement M
-fill-words-spec =
+pub fill_words_spec : {M : Type 1} → statement M
+fill_words_spec =
     tie.close
     (tie.spec
     invariant-loop
@@ -39,5 +39,5 @@ fill-words-spec =
     (λ c. omega arith)
     (λ c. omega arith)
     loop-again
-    (λ c. c.before.loop.invariant.same)
+    (λ c. c.before.loop-i.invariant.same)
     returns)

@@ -6,16 +6,16 @@ use borrow.Author.Tests.{le-ltb, lt-ltb}
 use Rattle.text.proofs.mask.add_class.Statement.{statement}
 use Rattle.text.proofs.mask.add_class.Tie as tie
 
-returns : tie.Need-returns
+returns : tie.Need-returns-then-x-lt32
 unfolding with_class
-returns c = simp (lt-ltb _ _ c.if1.true, one_shl 32 c.before.args.x c.if1.true)
+returns c = simp (lt-ltb _ _ c.if-x-lt32.true, one_shl 32 c.before.args.x c.if-x-lt32.true)
 
-returns-2 : tie.Need-returns-2
+returns-2 : tie.Need-returns-else-x-lt32
 unfolding with_class
-returns-2 c = simp (le-ltb _ _ c.if1.false)
+returns-2 c = simp (le-ltb _ _ c.if-x-lt32.false)
 
-pub add-class-spec : {M : Type 1} → statement M
-add-class-spec = tie.close (tie.spec
+pub add_class_spec : {M : Type 1} → statement M
+add_class_spec = tie.close (tie.spec
     (λ c. search rules)
     returns
     returns-2)

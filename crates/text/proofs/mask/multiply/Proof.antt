@@ -7,26 +7,26 @@ use native.Mathlib.Omega.{arith}
 use Rattle.text.proofs.mask.multiply.Statement.{statement}
 use Rattle.text.proofs.mask.multiply.Tie as tie
 
-returns : tie.Need-returns
+returns : tie.Need-returns-then-p-gt-STATES_MOST
 unfolding times
-returns c = simp (lt-ltb _ _ c.if1.true)
+returns c = simp (lt-ltb _ _ c.if-p-gt-STATES_MOST.true)
 
 mul-x : tie.Need-overflow-mul-x
 mul-x c =
     let x = c.before.before in
-    let h = small_product x.before.args.p x.before.args.n x.if1.false (omega arith) in
-    simp (c.before.wide.ensures, c.wide2.ensures) (omega arith)
+    let h = small_product x.before.args.p x.before.args.n x.if-p-gt-STATES_MOST.false (omega arith) in
+    simp (c.before.wide.ensures, c.wide-2.ensures) (omega arith)
 
-returns-2 : tie.Need-returns-2
+returns-2 : tie.Need-returns-then-x
 unfolding times
-returns-2 c = simp (le-ltb _ _ c.before.before.before.if1.false, ← c.before.before.wide.ensures, ← c.before.wide2.ensures) (omega arith)
+returns-2 c = simp (le-ltb _ _ c.before.before.before.if-p-gt-STATES_MOST.false, ← c.before.before.wide.ensures, ← c.before.wide-2.ensures) (omega arith)
 
-returns-3 : tie.Need-returns-3
+returns-3 : tie.Need-returns-else-x
 unfolding times
-returns-3 c = simp (le-ltb _ _ c.before.before.before.if1.false, ← c.before.before.wide.ensures, ← c.before.wide2.ensures) (omega arith)
+returns-3 c = simp (le-ltb _ _ c.before.before.before.if-p-gt-STATES_MOST.false, ← c.before.before.wide.ensures, ← c.before.wide-2.ensures) (omega arith)
 
-pub multiply-spec : {M : Type 1} → statement M
-multiply-spec =
+pub multiply_spec : {M : Type 1} → statement M
+multiply_spec =
     tie.close
     (tie.spec
     returns

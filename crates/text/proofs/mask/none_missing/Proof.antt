@@ -8,7 +8,7 @@ returns : tie.Need-returns
 unfolding gapless
 returns c = simp (← c.width_of_lem.ensures)
 
-pub none-missing-spec : {M : Type 1} → statement M
-none-missing-spec = tie.close (tie.spec
+pub none_missing_spec : {M : Type 1} → statement M
+none_missing_spec = tie.close (tie.spec
     (λ c κs. search rules)
     returns)

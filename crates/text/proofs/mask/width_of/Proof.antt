@@ -12,7 +12,7 @@ returns : tie.Need-returns
 unfolding width
 returns c = refl
 
-pub width-of-spec : {M : Type 1} → statement M
-width-of-spec = tie.close (tie.spec
+pub width_of_spec : {M : Type 1} → statement M
+width_of_spec = tie.close (tie.spec
     sub-result
     returns)

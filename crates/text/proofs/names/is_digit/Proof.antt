@@ -4,8 +4,8 @@ use borrow.Author.Tests.{le-leb, lt-leb}
 use Rattle.text.proofs.names.is_digit.Statement.{statement}
 use Rattle.text.proofs.names.is_digit.Tie as tie
 
-pub is-digit-spec : {M : Type 1} → statement M
+pub is_digit_spec : {M : Type 1} → statement M
 unfolding is_digit
-is-digit-spec = tie.close (tie.spec
-    (λ c. simp (le-leb _ _ c.if1.true))
-    (λ c. simp (lt-leb _ _ c.if1.false)))
+is_digit_spec = tie.close (tie.spec
+    (λ c. simp (le-leb _ _ c.if-b-ge-ZERO.true))
+    (λ c. simp (lt-leb _ _ c.if-b-ge-ZERO.false)))

@@ -4,14 +4,14 @@ use borrow.Author.Rules.{rules}
 use Rattle.text.proofs.numbers.digit_at.Statement.{statement}
 use Rattle.text.proofs.numbers.digit_at.Tie as tie
 
-pub digit-at-spec : {M : Type 1} → statement M
+pub digit_at_spec : {M : Type 1} → statement M
 unfolding digit_at
-digit-at-spec =
+digit_at_spec =
     tie.close
     (tie.spec
     (λ c. search rules)
     (λ c κs. search rules)
     (λ c κs. search rules)
     (λ c κs. search rules)
-    (λ c. let byte = c.before.before in simp (← byte.before.word.ensures.0, ← byte.is_digit.ensures, c.before.if1.true, c.digit-of.ensures))
-    (λ c. let byte = c.before in simp (← byte.before.word.ensures.0, ← byte.is_digit.ensures, c.if1.false)))
+    (λ c. let byte = c.before.before in simp (← byte.before.word-b.ensures.0, ← byte.is_digit.ensures, c.before.if-is_digit.true, c.digit_of.ensures))
+    (λ c. let byte = c.before in simp (← byte.before.word-b.ensures.0, ← byte.is_digit.ensures, c.if-is_digit.false)))

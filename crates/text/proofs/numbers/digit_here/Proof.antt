@@ -7,8 +7,8 @@ use native.Mathlib.Omega.{arith}
 use Rattle.text.proofs.numbers.digit_here.Statement.{statement}
 use Rattle.text.proofs.numbers.digit_here.Tie as tie
 
-pub digit-here-spec : {M : Type 1} → statement M
-digit-here-spec =
+pub digit_here_spec : {M : Type 1} → statement M
+digit_here_spec =
     tie.close
     (tie.spec
     (λ c z. clash z refl)

@@ -9,33 +9,33 @@ use native.Mathlib.Omega.{arith}
 use Rattle.text.proofs.numbers.longer_from.Statement.{statement}
 use Rattle.text.proofs.numbers.longer_from.Tie as tie
 
-abbrev invariant-loop : tie.invariant-loop
+abbrev invariant-loop : tie.invariant-loop-val
 invariant-loop s i v at₀ val₀ at val = Longer s at₀ val₀ at val
 
-abbrev decreases-loop : tie.decreases-loop
+abbrev decreases-loop : tie.decreases-loop-val
 decreases-loop s i v at₀ val₀ at val = length s - at
 
-loop-again : tie.Need-loop-preserved invariant-loop decreases-loop
+loop-again : tie.Need-loop-val-preserved invariant-loop decreases-loop
 loop-again c =
-    let run = c.before.before.before.loop in
-    let here = c.before.before.digit-here.ensures c.before.if1.true in
+    let run = c.before.before.before.loop-val in
+    let here = c.before.before.digit_here.ensures c.before.loop-val-test.true in
     let room = here.room in
     let so = run.invariant in
     rw c.digit_at.ensures
     (record { on = omega (arith, so.on); within = omega arith; grows = omega (arith, so.grows); same = λ k w. digit_more _ run.at run.val here k w ∙ so.same k w })
 
-pub longer-from-spec : {M : Type 1} → statement M
-longer-from-spec =
+pub longer_from_spec : {M : Type 1} → statement M
+longer_from_spec =
     tie.close
     (tie.spec
     invariant-loop
     decreases-loop
     (λ c. record { on = omega arith; within = search rules; grows = omega arith; same = λ k w. refl })
     (λ c κs. search rules)
-    (λ c. let here = c.before.digit-here.ensures c.if1.true in omega (arith, here.low))
-    (λ c κs. (c.before.digit-here.ensures c.if1.true).room)
-    (λ c. let here = c.before.before.digit-here.ensures c.before.if1.true in omega (arith, here.low, here.digit, c.digit_at.ensures))
-    (λ c. let here = c.before.before.digit-here.ensures c.before.if1.true in omega (arith, here.room))
-    (λ c. let here = c.before.before.digit-here.ensures c.before.if1.true in omega (arith, here.room))
+    (λ c. let here = c.before.digit_here.ensures c.loop-val-test.true in omega (arith, here.low))
+    (λ c κs. (c.before.digit_here.ensures c.loop-val-test.true).room)
+    (λ c. let here = c.before.before.digit_here.ensures c.before.loop-val-test.true in omega (arith, here.low, here.digit, c.digit_at.ensures))
+    (λ c. let here = c.before.before.digit_here.ensures c.before.loop-val-test.true in omega (arith, here.room))
+    (λ c. let here = c.before.before.digit_here.ensures c.before.loop-val-test.true in omega (arith, here.room))
     loop-again
-    (λ c. c.before.before.loop.invariant))
+    (λ c. c.before.before.loop-val.invariant))

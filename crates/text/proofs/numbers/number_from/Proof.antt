@@ -6,15 +6,15 @@ use native.Mathlib.Omega.{arith}
 use Rattle.text.proofs.numbers.number_from.Statement.{statement}
 use Rattle.text.proofs.numbers.number_from.Tie as tie
 
-returns-3 : tie.Need-returns-3
+returns-3 : tie.Need-returns-else-d-eq0
 returns-3 c =
     let other = c.before in
     let first = other.before.before in
-    let d = first.digit_at.ensures in
-    longer_number _ _ _ _ first.before.before.requires (omega arith) (λ z. other.if2.false (d ∙ z)) (rw (← d) c.longer-from.ensures)
+    let d = first.digit_at-d.ensures in
+    longer_number _ _ _ _ first.before.before.requires (omega arith) (λ z. other.if-d-eq0.false (d ∙ z)) (rw (← d) c.longer_from.ensures)
 
-pub number-from-spec : {M : Type 1} → statement M
-number-from-spec =
+pub number_from_spec : {M : Type 1} → statement M
+number_from_spec =
     tie.close
     (tie.spec
     (λ c κs. search rules)
@@ -22,5 +22,5 @@ number-from-spec =
     (λ c. search rules)
     (λ c. search rules)
     (λ c κs. search rules)
-    (λ c. let first = c.before.before in zero_number _ _ first.before.before.requires (sym first.digit_at.ensures ∙ c.if2.true))
+    (λ c. let first = c.before.before in zero_number _ _ first.before.before.requires (sym first.digit_at-d.ensures ∙ c.if-d-eq0.true))
     returns-3)

@@ -5,14 +5,14 @@ use borrow.Author.Tests.{eq-eqb, ne_eqb}
 use Rattle.text.proofs.step.add_digit.Statement.{statement}
 use Rattle.text.proofs.step.add_digit.Tie as tie
 
-pub add-digit-spec : {M : Type 1} → statement M
+pub add_digit_spec : {M : Type 1} → statement M
 unfolding digit_read
-add-digit-spec =
+add_digit_spec =
     tie.close
     (tie.spec
     (λ c κs. search rules)
-    (λ c. simp (eq-eqb _ _ c.before.if1.true) c.stop.ensures)
+    (λ c. simp (eq-eqb _ _ c.before.if-c-eq-RUN_ZERO.true) c.stop.ensures)
     (λ c κs. search rules)
     (λ c κs. search rules)
     (λ c κs. search rules)
-    (λ c. simp (ne_eqb _ _ c.before.before.before.if1.false, ← c.before.longer.ensures, ← c.before.before.run-after.ensures) c.grow.ensures))
+    (λ c. simp (ne_eqb _ _ c.before.before.before.if-c-eq-RUN_ZERO.false, ← c.before.longer.ensures, ← c.before.before.run_after.ensures) c.grow.ensures))

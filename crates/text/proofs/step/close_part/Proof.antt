@@ -6,21 +6,21 @@ use mathlib.Core.Path.{◌∙◌, sym, ap}
 use Rattle.text.proofs.step.close_part.Statement.{statement}
 use Rattle.text.proofs.step.close_part.Tie as tie
 
-returns : tie.Need-returns
+returns : tie.Need-returns-then-goes_on
 returns c =
     let kept = c.before.before.before.before in
     let sound = kept.before.before in
-    let goes = ap going (sym sound.before.before.run-fault.ensures) ∙ sym sound.before.goes_on.ensures ∙ sound.if1.true in
-    simp c.after-part.ensures (closed_goes _ _ _ _ _ goes kept.keep_run.ensures)
+    let goes = ap going (sym sound.before.before.run_fault-k.ensures) ∙ sym sound.before.goes_on.ensures ∙ sound.if-goes_on.true in
+    simp c.after_part.ensures (closed_goes _ _ _ _ _ goes kept.keep_run.ensures)
 
-returns-2 : tie.Need-returns-2
+returns-2 : tie.Need-returns-else-goes_on
 returns-2 c =
     let found = c.before.before.before in
-    let stops = ap going (sym found.run-fault.ensures) ∙ sym c.before.before.goes_on.ensures ∙ c.before.if1.false in
-    simp (c.stop.ensures, found.run-fault.ensures) (closed_stops _ _ _ stops)
+    let stops = ap going (sym found.run_fault-k.ensures) ∙ sym c.before.before.goes_on.ensures ∙ c.before.if-goes_on.false in
+    simp (c.stop.ensures, found.run_fault-k.ensures) (closed_stops _ _ _ stops)
 
-pub close-part-spec : {M : Type 1} → statement M
-close-part-spec =
+pub close_part_spec : {M : Type 1} → statement M
+close_part_spec =
     tie.close
     (tie.spec
     (λ c κs. search rules)

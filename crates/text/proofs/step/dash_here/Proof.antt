@@ -5,12 +5,12 @@ use borrow.Author.Tests.{eq-eqb, ne_eqb}
 use Rattle.text.proofs.step.dash_here.Statement.{statement}
 use Rattle.text.proofs.step.dash_here.Tie as tie
 
-pub dash-here-spec : {M : Type 1} → statement M
+pub dash_here_spec : {M : Type 1} → statement M
 unfolding dash_here
-dash-here-spec =
+dash_here_spec =
     tie.close (tie.spec
-    (λ c. simp (ne_eqb _ _ c.if1.true))
+    (λ c. simp (ne_eqb _ _ c.if-b-ne-DASH.true))
     (λ c κs. search rules)
-    (λ c. simp (eq-eqb _ _ c.before.before.if1.false, ← c.before.kind-of.ensures, ne_eqb _ _ c.if2.true))
+    (λ c. simp (eq-eqb _ _ c.before.before.if-b-ne-DASH.false, ← c.before.kind_of.ensures, ne_eqb _ _ c.if-kind_of-ne-KIND_VAR.true))
     (λ c κs. search rules)
-    (λ c. simp (eq-eqb _ _ c.before.before.before.if1.false, ← c.before.before.kind-of.ensures, eq-eqb _ _ c.before.if2.false) c.nothing_read.ensures))
+    (λ c. simp (eq-eqb _ _ c.before.before.before.if-b-ne-DASH.false, ← c.before.before.kind_of.ensures, eq-eqb _ _ c.before.if-kind_of-ne-KIND_VAR.false) c.nothing_read.ensures))

@@ -5,16 +5,16 @@ use Rattle.text.specs.Inside.Steps.{ended, feed}
 use Rattle.text.proofs.step.end_text.Statement.{statement}
 use Rattle.text.proofs.step.end_text.Tie as tie
 
-returns-2 : tie.Need-returns-2
+returns-2 : tie.Need-returns
 unfolding ended feed
-returns-2 c = let fed = c.before.before in simp (ne_eqb _ _ fed.before.before.before.if1.false) fed.feed-piece.ensures
+returns-2 c = let fed = c.before.before in simp (ne_eqb _ _ fed.before.before.before.if-c-eq-FIELD_END.false) fed.feed_piece.ensures
 
-pub end-text-spec : {M : Type 1} → statement M
+pub end_text_spec : {M : Type 1} → statement M
 unfolding ended
-end-text-spec =
+end_text_spec =
     tie.close
     (tie.spec
-    (λ c. simp (eq-eqb _ _ c.if1.true))
+    (λ c. simp (eq-eqb _ _ c.if-c-eq-FIELD_END.true))
     (λ c. search rules)
     (λ c κs. search rules)
     (λ c. search rules)

@@ -12,53 +12,53 @@ use native.Mathlib.Omega.{arith}
 use Rattle.text.proofs.step.feed_piece.Statement.{statement}
 use Rattle.text.proofs.step.feed_piece.Tie as tie
 
-abbrev invariant-loop : tie.invariant-loop
+abbrev invariant-loop : tie.invariant-loop-i
 invariant-loop s w₀ k₀ i₀ w k i = (i ≤ length s) × (length w ≡ length w₀) × (feed (mk k w) (drop i s) ≡ feed (mk k₀ w₀) s)
 
-abbrev decreases-loop : tie.decreases-loop
+abbrev decreases-loop : tie.decreases-loop-i
 decreases-loop s w₀ k₀ i₀ w k i = length s - i
 
 -- what was read ahead, if anything
-ahead : (c : tie.Joined1 invariant-loop decreases-loop)
-    → Onward c.before.before.before.before.before.before.args.s.now (mk c.before.before.before.loop.k c.before.before.before.loop.w) c.before.before.before.loop.i
-    (mk c.if1.k c.if1.w) c.if1.i
+ahead : (c : tie.Joined-number_due invariant-loop decreases-loop)
+    → Onward c.before.before.before.before.before.before.args.s.now (mk c.before.before.before.loop-i.k c.before.before.before.loop-i.w-1) c.before.before.before.loop-i.i
+    (mk c.if-number_due.k c.if-number_due.w-1) c.if-number_due.i
 ahead c =
     ⊎_elim
     (λ a. rw (a.8, a.9, a.10) (rw a.7.ensures a.2.ensures))
-    (λ a. rw (a.1, a.2, a.3) (record { on = omega arith; within = c.before.before.loop-test.true; same = refl }))
-    c.if1.branch
+    (λ a. rw (a.1, a.2, a.3) (record { on = omega arith; within = c.before.before.loop-i-test.true; same = refl }))
+    c.if-number_due.branch
 
-as_long : (c : tie.Joined1 invariant-loop decreases-loop) → length c.if1.w ≡ length c.before.before.before.loop.w
-as_long c = ⊎_elim (λ a. ap length a.8 ∙ a.2.kept.1.1.1.0) (λ a. ap length a.1) c.if1.branch
+as_long : (c : tie.Joined-number_due invariant-loop decreases-loop) → length c.if-number_due.w-1 ≡ length c.before.before.before.loop-i.w-1
+as_long c = ⊎_elim (λ a. ap length a.8 ∙ a.2.kept.1.1.1.0) (λ a. ap length a.1) c.if-number_due.branch
 
-loop-again : tie.Need-loop-preserved invariant-loop decreases-loop
+loop-again : tie.Need-loop-i-preserved invariant-loop decreases-loop
 loop-again c =
     let read = c.before.before.before in
     let byte = read.before.before in
     let join = byte.before.before in
-    let run = join.before.before.before.loop in
+    let run = join.before.before.before.loop-i in
     let s = join.before.before.before.before.before.before.args.s.now in
     let on = ahead join in
-    let fed = ap (λ (x : St). feed x (drop (join.if1.i + 1) s)) (read.step-byte.ensures ∙ ap (byte_read _) byte.word.ensures.0) in
-    (omega arith, read.step-byte.auto.1.1.0 ∙ as_long join ∙ run.invariant.1, fed ∙ feed_next _ s join.if1.i on.within ∙ on.same ∙ run.invariant.2)
+    let fed = ap (λ (x : St). feed x (drop (join.if-number_due.i + 1) s)) (read.step_byte-k.ensures ∙ ap (byte_read _) byte.word.ensures.0) in
+    (omega arith, read.step_byte-k.auto.1.1.0 ∙ as_long join ∙ run.invariant.1, fed ∙ feed_next _ s join.if-number_due.i on.within ∙ on.same ∙ run.invariant.2)
 
 returns : tie.Need-returns invariant-loop decreases-loop
 unfolding feed
 returns c =
-    let run = c.before.loop in
+    let run = c.before.loop-i in
     let s = c.before.before.before.before.args.s.now in
     let h : length s ≤ run.i = omega arith in
-    ap (feed (mk run.k run.w)) (sym (drop_of_length-le s h)) ∙ run.invariant.2
+    ap (feed (mk run.k run.w-1)) (sym (drop_of_length-le s h)) ∙ run.invariant.2
 
-pub feed-piece-spec : {M : Type 1} → statement M
-feed-piece-spec =
+pub feed_piece_spec : {M : Type 1} → statement M
+feed_piece_spec =
     tie.close
     (tie.spec
     invariant-loop
     decreases-loop
     (λ c. (omega arith, refl, refl))
     (λ c κs. search rules)
-    (λ c κs. (c.before.before.number-due.ensures c.before.if1.true, c.before.before.before.loop-test.true))
+    (λ c κs. (c.before.before.number_due.ensures c.before.if-number_due.true, c.before.before.before.loop-i-test.true))
     (λ c κs. search rules)
     (λ c. (ahead c.before).within)
     (λ c κs. search rules)
@@ -66,5 +66,5 @@ feed-piece-spec =
     (λ c. let join = c.before.before.before.before.before.before.before in omega (arith, (ahead join).within, join.before.before.before.before.before.before))
     (λ c. let on = ahead c.before.before.before.before.before.before.before in omega arith)
     loop-again
-    (λ c. c.before.loop.invariant.1)
+    (λ c. c.before.loop-i.invariant.1)
     returns)

@@ -5,15 +5,15 @@ use borrow.Author.Tests.{eq-eqb, ne_eqb}
 use Rattle.text.proofs.step.in_key.Statement.{statement}
 use Rattle.text.proofs.step.in_key.Tie as tie
 
-pub in-key-spec : {M : Type 1} → statement M
+pub in_key_spec : {M : Type 1} → statement M
 unfolding in_key
-in-key-spec =
+in_key_spec =
     tie.close
     (tie.spec
     (λ c κs. search rules)
     (λ c κs. search rules)
-    (λ c. simp (← c.before.before.key_byte_lem.ensures, ne_eqb _ _ c.before.if1.true) c.stop.ensures)
+    (λ c. simp (← c.before.before.key_byte_lem.ensures, ne_eqb _ _ c.before.if-b-key_byte.true) c.stop.ensures)
     (λ c κs. search rules)
     (λ c κs. search rules)
-    (λ c. simp (← c.before.before.before.key_byte_lem.ensures, eq-eqb _ _ c.before.before.if1.false, eq-eqb _ _ c.before.if2.true) c.open-line.ensures)
-    (λ c. simp (← c.before.before.before.key_byte_lem.ensures, eq-eqb _ _ c.before.before.if1.false, ne_eqb _ _ c.before.if2.false) c.next-key.ensures))
+    (λ c. simp (← c.before.before.before.key_byte_lem.ensures, eq-eqb _ _ c.before.before.if-b-key_byte.false, eq-eqb _ _ c.before.if-b-eq-EQUALS.true) c.open_line.ensures)
+    (λ c. simp (← c.before.before.before.key_byte_lem.ensures, eq-eqb _ _ c.before.before.if-b-key_byte.false, ne_eqb _ _ c.before.if-b-eq-EQUALS.false) c.next_key.ensures))

@@ -8,29 +8,29 @@ use mathlib.Core.Path.{◌∙◌, sym}
 use Rattle.text.proofs.step.in_value.Statement.{statement}
 use Rattle.text.proofs.step.in_value.Tie as tie
 
-returns : tie.Need-returns
+returns : tie.Need-returns-then-is_digit
 unfolding in_value at_number
 returns c =
     let byte = c.before.before.before in
-    simp (eq-eqb _ _ byte.before.if1.true, ← byte.is_digit.ensures, c.before.before.if2.true, ← c.before.digit-of.ensures, c.add-digit.ensures)
+    simp (eq-eqb _ _ byte.before.if-c-eq-PART_NUMBER.true, ← byte.is_digit.ensures, c.before.before.if-is_digit.true, ← c.before.digit_of.ensures, c.add_digit.ensures)
 
-returns-2 : tie.Need-returns-2
+returns-2 : tie.Need-returns-then-dash_here
 unfolding in_value at_number
 returns-2 c =
     let sign = c.before.before in
     let byte = sign.before.before in
-    simp (eq-eqb _ _ byte.before.if1.true, ← byte.is_digit.ensures, sign.before.if2.false, ← sign.dash-here.ensures, c.before.if3.true, c.take-dash.ensures)
+    simp (eq-eqb _ _ byte.before.if-c-eq-PART_NUMBER.true, ← byte.is_digit.ensures, sign.before.if-is_digit.false, ← sign.dash_here.ensures, c.before.if-dash_here.true, c.take_dash.ensures)
 
-returns-3 : tie.Need-returns-3
+returns-3 : tie.Need-returns
 returns-3 c =
-    c.before.before.close-part.ensures
+    c.before.before.close_part.ensures
     ∙ ⊎_elim
     (λ w. value_closed _ _ _ w.0.taken (sym w.1.ensures ∙ w.2.left) (sym w.3.ensures ∙ w.4.left))
     (λ w. value_past _ _ _ w.left)
-    c.before.before.before.before.if1.branch
+    c.before.before.before.before.if-c-eq-PART_NUMBER.branch
 
-pub in-value-spec : {M : Type 1} → statement M
-in-value-spec =
+pub in_value_spec : {M : Type 1} → statement M
+in_value_spec =
     tie.close
     (tie.spec
     (λ c κs. search rules)

@@ -5,19 +5,19 @@ use borrow.Author.Tests.{eq-eqb, ne_eqb}
 use Rattle.text.proofs.step.keep_run.Statement.{statement}
 use Rattle.text.proofs.step.keep_run.Tie as tie
 
-returns : tie.Need-returns
+returns : tie.Need-returns-then-c-eq-PART_NUMBER
 unfolding run_kept
 returns c =
     let kept = c.before.before.before in
-    simp (eq-eqb _ _ kept.before.before.if1.true, c.note.ensures, kept.store.ensures)
+    simp (eq-eqb _ _ kept.before.before.if-c-eq-PART_NUMBER.true, c.note.ensures, kept.store.ensures)
 
-pub keep-run-spec : {M : Type 1} → statement M
+pub keep_run_spec : {M : Type 1} → statement M
 unfolding run_kept
-keep-run-spec =
+keep_run_spec =
     tie.close
     (tie.spec
     (λ c κs. search rules)
     (λ c κs. search rules)
     (λ c. search rules)
     returns
-    (λ c. simp (ne_eqb _ _ c.if1.false)))
+    (λ c. simp (ne_eqb _ _ c.if-c-eq-PART_NUMBER.false)))

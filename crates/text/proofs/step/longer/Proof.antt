@@ -5,9 +5,9 @@ use native.Mathlib.Omega.{arith}
 use Rattle.text.proofs.step.longer.Statement.{statement}
 use Rattle.text.proofs.step.longer.Tie as tie
 
-pub longer-spec : {M : Type 1} → statement M
+pub longer_spec : {M : Type 1} → statement M
 unfolding more
-longer-spec = tie.close (tie.spec
+longer_spec = tie.close (tie.spec
     (λ c. search rules)
     (λ c. search rules)
     (λ c. search rules)

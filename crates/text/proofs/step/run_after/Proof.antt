@@ -5,8 +5,8 @@ use native.Mathlib.Omega.{arith}
 use Rattle.text.proofs.step.run_after.Statement.{statement}
 use Rattle.text.proofs.step.run_after.Tie as tie
 
-pub run-after-spec : {M : Type 1} → statement M
-run-after-spec = tie.close (tie.spec
-    (λ c. simp (c.before.if1.true, c.if2.true))
-    (λ c. simp (ne_eqb (c.before.before.args.r + c.before.before.args.d) 0 (λ z. c.if2.false (omega arith))))
-    (λ c. simp (ne_eqb (c.before.args.r + c.before.args.d) 0 (λ z. c.if1.false (omega arith)))))
+pub run_after_spec : {M : Type 1} → statement M
+run_after_spec = tie.close (tie.spec
+    (λ c. simp (c.before.if-r-eq-RUN_NONE.true, c.if-d-eq0.true))
+    (λ c. simp (ne_eqb (c.before.before.args.r + c.before.before.args.d) 0 (λ z. c.if-d-eq0.false (omega arith))))
+    (λ c. simp (ne_eqb (c.before.args.r + c.before.args.d) 0 (λ z. c.if-r-eq-RUN_NONE.false (omega arith)))))

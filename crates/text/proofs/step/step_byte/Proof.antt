@@ -4,17 +4,17 @@ use Rattle.text.specs.Inside.Steps.{byte_read}
 use Rattle.text.proofs.step.step_byte.Statement.{statement}
 use Rattle.text.proofs.step.step_byte.Tie as tie
 
-returns : tie.Need-returns
+returns : tie.Need-returns-then-goes_on
 unfolding byte_read
 returns c =
     let x = c.before.before in
     let y = x.before.before in
-    simp (← y.before.goes_on.ensures, y.if1.true) x.live-step.ensures
+    simp (← y.before.goes_on.ensures, y.if-goes_on.true) x.live_step.ensures
 
-pub step-byte-spec : {M : Type 1} → statement M
+pub step_byte_spec : {M : Type 1} → statement M
 unfolding byte_read
-step-byte-spec =
+step_byte_spec =
     tie.close (tie.spec
     (λ c κs. search rules) (λ c κs. search rules) (λ c. search rules)
     returns
-    (λ c. simp (← c.before.goes_on.ensures, c.if1.false)))
+    (λ c. simp (← c.before.goes_on.ensures, c.if-goes_on.false)))

@@ -6,34 +6,34 @@ use Rattle.text.specs.Inside.End.{read_all}
 use Rattle.text.proofs.whole.read_by_machine.Statement.{statement}
 use Rattle.text.proofs.whole.read_by_machine.Tie as tie
 
-returns : tie.Need-returns
+returns : tie.Need-returns-then-facts-lt-FACTS_ROOM
 unfolding read_all admitted
-returns c = simp (lt-ltb _ _ c.if1.true)
+returns c = simp (lt-ltb _ _ c.if-facts-lt-FACTS_ROOM.true)
 
-returns-2 : tie.Need-returns-2
+returns-2 : tie.Need-returns-then-costs-lt-COSTS_ROOM
 unfolding read_all admitted
-returns-2 c = simp (le-ltb _ _ c.before.if1.false, lt-ltb _ _ c.if2.true)
+returns-2 c = simp (le-ltb _ _ c.before.if-facts-lt-FACTS_ROOM.false, lt-ltb _ _ c.if-costs-lt-COSTS_ROOM.true)
 
-returns-3 : tie.Need-returns-3
+returns-3 : tie.Need-returns-then-shares-lt-SHARES_ROOM
 unfolding read_all admitted
-returns-3 c = simp (le-ltb _ _ c.before.before.if1.false, le-ltb _ _ c.before.if2.false, lt-ltb _ _ c.if3.true)
+returns-3 c = simp (le-ltb _ _ c.before.before.if-facts-lt-FACTS_ROOM.false, le-ltb _ _ c.before.if-costs-lt-COSTS_ROOM.false, lt-ltb _ _ c.if-shares-lt-SHARES_ROOM.true)
 
-returns-4 : tie.Need-returns-4
+returns-4 : tie.Need-returns-then-text-gt-BYTES_MOST
 unfolding read_all admitted
 returns-4 c =
     let x = c.before in
-    simp (le-ltb _ _ x.before.before.if1.false, le-ltb _ _ x.before.if2.false, le-ltb _ _ x.if3.false, lt-ltb _ _ c.if4.true)
+    simp (le-ltb _ _ x.before.before.if-facts-lt-FACTS_ROOM.false, le-ltb _ _ x.before.if-costs-lt-COSTS_ROOM.false, le-ltb _ _ x.if-shares-lt-SHARES_ROOM.false, lt-ltb _ _ c.if-text-gt-BYTES_MOST.true)
 
-returns-5 : tie.Need-returns-5
+returns-5 : tie.Need-returns
 unfolding read_all admitted
 returns-5 c =
     let run = c.before.before.before.before.before.before in
     let x = run.before.before.before.before in
     let y = x.before.before in
-    simp (le-ltb _ _ y.before.if1.false, le-ltb _ _ y.if2.false, le-ltb _ _ x.before.if3.false, le-ltb _ _ x.if4.false) run.run-machine.ensures
+    simp (le-ltb _ _ y.before.if-facts-lt-FACTS_ROOM.false, le-ltb _ _ y.if-costs-lt-COSTS_ROOM.false, le-ltb _ _ x.before.if-shares-lt-SHARES_ROOM.false, le-ltb _ _ x.if-text-gt-BYTES_MOST.false) run.run_machine.ensures
 
-pub read-by-machine-spec : {M : Type 1} → statement M
-read-by-machine-spec =
+pub read_by_machine_spec : {M : Type 1} → statement M
+read_by_machine_spec =
     tie.close
     (tie.spec
     returns

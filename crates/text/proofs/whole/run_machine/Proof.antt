@@ -17,11 +17,11 @@ returns c =
     let y = x.before.before.before.before.before.before in
     let a = y.before.before.before.before.before.before.before.args in
     x.finish.ensures
-    ∙ ap (λ (s : St). machine_end s a.facts.now a.costs.now a.shares.now)
-    (y.feed-piece.ensures ∙ ap (λ (k : Ctrl). feed (mk k (replicate area_room 0)) a.text.now) y.before.before.start-of-text.ensures)
+    ∙ ap (λ (s : St). machine_end s a.facts-1.now a.costs-1.now a.shares-1.now)
+    (y.feed_piece-c.ensures ∙ ap (λ (k : Ctrl). feed (mk k (replicate area_room 0)) a.text.now) y.before.before.start_of_text.ensures)
 
-pub run-machine-spec : {M : Type 1} → statement M
-run-machine-spec =
+pub run_machine_spec : {M : Type 1} → statement M
+run_machine_spec =
     tie.close
     (tie.spec
     (λ c κs. search rules) (λ c. search rules) (λ c κs. search rules) (λ c. search rules)

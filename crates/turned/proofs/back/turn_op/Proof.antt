@@ -5,19 +5,19 @@ use mathlib.Core.Path.{◌≡◌, sym, ◌∙◌}
 use native.Mathlib.Nat.{mul-le-mul_right}
 use native.Mathlib.Omega.{arith}
 use lib.ListN.{length}
-use Rattle.turned.specs.declared.back.Turned.{Turned}
+use Rattle.turned.specs.declared.back-1.Turned.{Turned}
 use Rattle.turned.proofs.Turning.{noted, drops_size, lifts_size, noted_size, turned_more}
-use Rattle.turned.proofs.back.turn_op.Statement.{statement}
-use Rattle.turned.proofs.back.turn_op.Tie as tie
+use Rattle.turned.proofs.back-1.turn_op.Statement.{statement}
+use Rattle.turned.proofs.back-1.turn_op.Tie as tie
 
-abbrev start : tie.After-slice-known3 → tie.Start
+abbrev start : tie.After-slice_known-3-1 → tie.Start
 start c = c.before.before.before.before.before.before.before.before
 
 few : (c : tie.Start) → c.args.o.0 < 64
 few c = omega (arith, c.requires.0.2, c.requires.0.0.ops)
 
 -- the operator's places are there, and their numbers small
-room : (c : tie.Start) → (c.args.o.0 * c.args.n + c.args.n ≤ length c.args.back.now) × (c.args.o.0 * c.args.n ≤ 64 * 4096)
+room : (c : tie.Start) → (c.args.o.0 * c.args.n + c.args.n ≤ length c.args.back-1.now) × (c.args.o.0 * c.args.n ≤ 64 * 4096)
 room c =
     let pre = c.requires.0 in
     let n = c.args.n in (
@@ -25,23 +25,23 @@ room c =
       omega (arith, mul-le-mul_right n (few c), pre.1, pre.0.few),
     )
 
-abbrev found : tie.After-slice-known3 → Turned
-found c = c.before.before.turn-lists.result
+abbrev found : tie.After-slice_known-3-1 → Turned
+found c = c.before.before.turn_lists-r.result
 
-size : (c : tie.After-slice-known3) → length (noted (start c).args.turns.now (start c).args.o.0 (found c)) ≡ 192
+size : (c : tie.After-slice_known-3-1) → length (noted (start c).args.turns.now (start c).args.o.0 (found c)) ≡ 192
 size c = noted_size (start c).args.turns.now (start c).args.o.0 (found c) (start c).requires.0.3 (few (start c))
 
 returns : tie.Need-returns
 returns c =
     let s = start c in
-    let lists = c.before.before.turn-lists in (
+    let lists = c.before.before.turn_lists-r in (
       turned_more s.args.turns.now s.args.o.0 lists.result s.pre.0.3 (few s) s.pre.0.0 s.pre.0.1 lists.ensures.0
           lists.ensures.1 s.pre.1,
       (size c, lists.ensures.1.size),
     )
 
-pub turn-op-spec : {M : Type 1} → statement M
-turn-op-spec =
+pub turn_op_spec : {M : Type 1} → statement M
+turn_op_spec =
     tie.close
     (tie.spec
     (λ c. search rules)
@@ -62,5 +62,5 @@ turn-op-spec =
     let s = start c in
     omega (arith, few s, lifts_size s.args.turns.now s.args.o.0 (found c) s.pre.0.3 (few s)))
     (λ c. size c ∙ sym (start c).requires.0.3)
-    (λ c. c.before.before.turn-lists.ensures.1.size)
+    (λ c. c.before.before.turn_lists-r.ensures.1.size)
     returns)

@@ -3,5 +3,5 @@ use native.Mathlib.Omega.{arith}
 use Rattle.waiting.proofs.offers.lesser_op.Statement.{statement}
 use Rattle.waiting.proofs.offers.lesser_op.Tie as tie
 
-pub lesser-op-spec : {M : Type 1} → statement M
-lesser-op-spec = tie.close (tie.spec (λ c. omega (arith, c.if1.true)) (λ c. omega (arith, c.if1.false)))
+pub lesser_op_spec : {M : Type 1} → statement M
+lesser_op_spec = tie.close (tie.spec (λ c. omega (arith, c.if-y-x.true)) (λ c. omega (arith, c.if-y-x.false)))

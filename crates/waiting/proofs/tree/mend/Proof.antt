@@ -11,12 +11,12 @@ use Rattle.waiting.proofs.tree.mend.Tie as tie
 returns : tie.Need-returns
 returns c =
     let x = c.before.before.before.args in (
-      ap (λ (v : ℕ). set x.t.now x.node v) (c.low.ensures ∙ ap (λ (at : ℕ). lowest x.t.now at 16) (omega arith)),
+      ap (λ (v : ℕ). set x.t.now x.node v) (c.low-least.ensures ∙ ap (λ (at : ℕ). lowest x.t.now at 16) (omega arith)),
       length-set x.t.now x.node _,
     )
 
-pub mend-spec : {M : Type 1} → statement M
-mend-spec =
+pub mend_spec : {M : Type 1} → statement M
+mend_spec =
     tie.close
     (tie.spec
     (λ c. search rules)

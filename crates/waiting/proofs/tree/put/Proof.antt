@@ -12,12 +12,12 @@ use Rattle.waiting.proofs.tree.put.Tie as tie
 abbrev start : tie.After-sink → tie.Start
 start c = c.before.before.before
 
-abbrev first : tie.After-sink2 → tie.After-sink
+abbrev first : tie.After-sink-2 → tie.After-sink
 first c = c.before.before.before.before
 
 -- no write changes the length
-size₁ : (c : tie.Start) → length (set c.args.t.now (272 + c.args.a) c.args.key) ≡ 4368
-size₁ c = omega (arith, length-set c.args.t.now (272 + c.args.a) c.args.key, c.requires.0)
+size₁ : (c : tie.Start) → length (set c.args.t-1.now (272 + c.args.a) c.args.key) ≡ 4368
+size₁ c = omega (arith, length-set c.args.t-1.now (272 + c.args.a) c.args.key, c.requires.0)
 
 size₂ : (c : tie.After-sink) → length c.sink.new.0 ≡ 4368
 size₂ c = omega (arith, c.sink.ensures.1, size₁ (start c))
@@ -28,8 +28,8 @@ sink-requires c κs = omega (arith, size₁ c.before.before, c.before.before.req
 sink-requires-2 : tie.Need-sink-requires-2
 sink-requires-2 c κs = let s = c.before.before.before in omega (arith, size₂ s, (start s).requires.1)
 
-same_length : tie.Need-same-length
-same_length c = let s = c.before.before in omega (arith, s.sink2.ensures.1, size₂ (first s), (start (first s)).requires.0)
+same_length : tie.Need-shape_of-t
+same_length c = let s = c.before.before in omega (arith, s.sink-2.ensures.1, size₂ (first s), (start (first s)).requires.0)
 
 returns : tie.Need-returns
 returns c =
@@ -37,8 +37,8 @@ returns c =
     let f = first s in
     let x = (start f).args in
     let pre = (start f).pre in
-    lowered x.t.now _ f.sink.last.0 s.sink2.new.0 x.a x.key _ _ _ _ _ pre.0 pre.1 pre.2 (omega arith) (omega arith) (omega arith)
-    refl f.sink.ensures.0 s.sink2.ensures.0 pre.3 refl refl
+    lowered x.t-1.now _ f.sink.last.0 s.sink-2.new.0 x.a x.key _ _ _ _ _ pre.0 pre.1 pre.2 (omega arith) (omega arith) (omega arith)
+    refl f.sink.ensures.0 s.sink-2.ensures.0 pre.3 refl refl
 
 pub put_spec : {M : Type 1} → statement M
 put_spec =

@@ -7,8 +7,8 @@ use Rattle.waiting.proofs.tree.sink.Tie as tie
 returns : tie.Need-returns
 returns c = let x = c.before.before.before.args in (cc, length-set x.t.now x.node _)
 
-pub sink-spec : {M : Type 1} → statement M
-sink-spec =
+pub sink_spec : {M : Type 1} → statement M
+sink_spec =
     tie.close
     (tie.spec
     (λ c. search rules)

@@ -5,11 +5,11 @@ use Rattle.writer.proofs.Parts.{shares_none, shares_some}
 use Rattle.writer.proofs.lines.put_charges.Statement.{statement}
 use Rattle.writer.proofs.lines.put_charges.Tie as tie
 
-returns : tie.Need-returns
-returns c = so c.before.before.put.ensures (shares_none _ _ c.before.before.before.before.if1.true)
+returns : tie.Need-returns-then-ops-eq0
+returns c = so c.before.before.put.ensures (shares_none _ _ c.before.before.before.before.if-ops-eq0.true)
 
-returns-2 : tie.Need-returns-2
-returns-2 c = so c.before.before.put-shares.ensures (shares_some _ _ c.before.before.before.before.if1.false)
+returns-2 : tie.Need-returns-else-ops-eq0
+returns-2 c = so c.before.before.put_shares.ensures (shares_some _ _ c.before.before.before.before.if-ops-eq0.false)
 
-pub put-charges-spec : {M : Type 1} → statement M
-put-charges-spec = tie.close (tie.spec (λ c κs. search rules) (λ c κs. search rules) (λ c. search rules) returns (λ c. search rules) returns-2)
+pub put_charges_spec : {M : Type 1} → statement M
+put_charges_spec = tie.close (tie.spec (λ c κs. search rules) (λ c κs. search rules) (λ c. search rules) returns (λ c. search rules) returns-2)

@@ -18,38 +18,38 @@ use Rattle.writer.proofs.lines.put_classes.Tie as tie
 abbrev classes : List ℕ → ℕ → ℕ → List ℕ
 classes facts m v = numbers (class_at facts m v) (dom_at facts v)
 
-abbrev invariant-loop : tie.invariant-loop
+abbrev invariant-loop : tie.invariant-loop-v
 invariant-loop out₀ at facts m vars next₀ v₀ out next v =
     (v ≤ vars) × (length out ≡ length out₀) × Writes (pen next out) (joined slash (classes facts m) (vars - v) v) (inked (pen next₀ out₀) (joined slash (classes facts m) vars 0))
 
-abbrev decreases-loop : tie.decreases-loop
+abbrev decreases-loop : tie.decreases-loop-v
 decreases-loop out₀ at facts m vars next₀ v₀ out next v = vars - v
 
-loop-again : tie.Need-loop-preserved invariant-loop decreases-loop
+loop-again : tie.Need-loop-v-preserved invariant-loop decreases-loop
 loop-again c =
     let gap = c.before.before in
     let put = gap.before.before.before.before in
-    let test = put.before.before.before.before.loop-test in
-    let run = put.before.before.before.before.before.loop in
+    let test = put.before.before.before.before.loop-v-test in
+    let run = put.before.before.before.before.before.loop-v in
     let facts = put.before.before.before.before.before.before.before.before.args.facts.now in
-    let row = ap₂ (λ (row n : ℕ). numbers (row_at facts row) n) put.before.before.class-row.ensures put.before.word_of.ensures in (
+    let row = ap₂ (λ (row n : ℕ). numbers (row_at facts row) n) put.before.before.class_row.ensures put.before.word_of.ensures in (
       omega arith,
-      gap.put-gap.auto.0 ∙ put.put-row.auto.0 ∙ run.invariant.1,
-      row_turn slash _ _ run.v test.true (so put.put-row.ensures row) gap.put-gap.ensures run.invariant.2,
+      gap.put_gap-next.auto.0 ∙ put.put_row-next.auto.0 ∙ run.invariant.1,
+      row_turn slash _ _ run.v test.true (so put.put_row-next.ensures row) gap.put_gap-next.ensures run.invariant.2,
     )
 
 returns : tie.Need-returns invariant-loop decreases-loop
 unfolding map_text
-returns c = let run = c.before.loop in row_over slash _ _ run.v c.loop-test.false run.invariant.2
+returns c = let run = c.before.loop-v in row_over slash _ _ run.v c.loop-v-test.false run.invariant.2
 
-pub put-classes-spec : {M : Type 1} → statement M
-put-classes-spec =
+pub put_classes_spec : {M : Type 1} → statement M
+put_classes_spec =
     tie.close
     (tie.spec
     invariant-loop
     decreases-loop
     (λ c. (omega arith, refl, row_whole slash _ _ _))
-    (λ c κs. let p = c.before.before.before.before.before.requires in (p.1, omega (arith, p.0, c.before.loop-test.true)))
+    (λ c κs. let p = c.before.before.before.before.before.requires in (p.1, omega (arith, p.0, c.before.loop-v-test.true)))
     (λ c κs. search rules)
     (λ c κs. search rules)
     (λ c. omega arith)
@@ -57,5 +57,5 @@ put-classes-spec =
     (λ c κs. search rules)
     (λ c. omega arith)
     loop-again
-    (λ c. c.before.loop.invariant.1)
+    (λ c. c.before.loop-v.invariant.1)
     returns)

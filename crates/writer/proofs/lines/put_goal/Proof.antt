@@ -9,7 +9,7 @@ returns : tie.Need-returns
 unfolding keyed
 returns c =
     let facts = c.before.before.before.before.before.before in
-    after (after facts.before.before.before.before.put_word.ensures facts.put-facts.ensures) c.before.before.put.ensures
+    after (after facts.before.before.before.before.put_word-next.ensures facts.put_facts-next.ensures) c.before.before.put.ensures
 
-pub put-goal-spec : {M : Type 1} → statement M
-put-goal-spec = tie.close (tie.spec (λ c. search rules) (λ c κs. search rules) (λ c κs. search rules) (λ c κs. search rules) (λ c. search rules) returns)
+pub put_goal_spec : {M : Type 1} → statement M
+put_goal_spec = tie.close (tie.spec (λ c. search rules) (λ c κs. search rules) (λ c κs. search rules) (λ c κs. search rules) (λ c. search rules) returns)

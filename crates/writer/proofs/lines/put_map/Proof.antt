@@ -9,7 +9,7 @@ returns : tie.Need-returns
 unfolding keyed
 returns c =
     let classes = c.before.before.before.before.before.before in
-    after (after classes.before.before.before.before.put_word.ensures classes.put-classes.ensures) c.before.before.put.ensures
+    after (after classes.before.before.before.before.put_word-next.ensures classes.put_classes-next.ensures) c.before.before.put.ensures
 
-pub put-map-spec : {M : Type 1} → statement M
-put-map-spec = tie.close (tie.spec (λ c. search rules) (λ c κs. search rules) (λ c κs. search rules) (λ c κs. search rules) (λ c. search rules) returns)
+pub put_map_spec : {M : Type 1} → statement M
+put_map_spec = tie.close (tie.spec (λ c. search rules) (λ c κs. search rules) (λ c κs. search rules) (λ c κs. search rules) (λ c. search rules) returns)

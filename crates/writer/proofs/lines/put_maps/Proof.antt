@@ -10,28 +10,28 @@ use Rattle.writer.proofs.Parts.{LinesUnder, lines_begin, lines_go_on, lines_end}
 use Rattle.writer.proofs.lines.put_maps.Statement.{statement}
 use Rattle.writer.proofs.lines.put_maps.Tie as tie
 
-abbrev invariant-loop : tie.invariant-loop
+abbrev invariant-loop : tie.invariant-loop-m
 invariant-loop out₀ at c facts maps next₀ m₀ out next m = LinesUnder (λ k. keyed "map=" (map_text (task_of (tables c facts [] [])) k)) maps (pen next₀ out₀) m (pen next out)
 
-abbrev decreases-loop : tie.decreases-loop
+abbrev decreases-loop : tie.decreases-loop-m
 decreases-loop out₀ at c facts maps next₀ m₀ out next m = maps - m
 
-loop-again : tie.Need-loop-preserved invariant-loop decreases-loop
+loop-again : tie.Need-loop-m-preserved invariant-loop decreases-loop
 loop-again c =
     let put = c.before.before in
-    let run = put.before.before.before.loop in
-    lines_go_on _ _ run.m put.before.before.loop-test.true put.put_map.ensures put.put_map.auto.0 run.invariant
+    let run = put.before.before.before.loop-m in
+    lines_go_on _ _ run.m put.before.before.loop-m-test.true put.put_map-next.ensures put.put_map-next.auto.0 run.invariant
 
-pub put-maps-spec : {M : Type 1} → statement M
-put-maps-spec =
+pub put_maps_spec : {M : Type 1} → statement M
+put_maps_spec =
     tie.close
     (tie.spec
     invariant-loop
     decreases-loop
     (λ c. lines_begin _ _ _)
-    (λ c κs. let p = c.before.before.before.before.before.requires in (p.0, omega (arith, p.1, c.before.loop-test.true)))
+    (λ c κs. let p = c.before.before.before.before.before.requires in (p.0, omega (arith, p.1, c.before.loop-m-test.true)))
     (λ c. omega arith)
     (λ c. omega arith)
     loop-again
-    (λ c. c.before.loop.invariant.long)
-    (λ c. let run = c.before.loop in lines_end _ _ run.m c.loop-test.false run.invariant))
+    (λ c. c.before.loop-m.invariant.long)
+    (λ c. let run = c.before.loop-m in lines_end _ _ run.m c.loop-m-test.false run.invariant))

@@ -22,18 +22,18 @@ returns c =
     let a = start.before.before.before.before.before.before.args in
     let lists : ℕ → List ℕ = λ row. some_facts (row_at a.facts.now row) a.c.vars 0 in
     after
-    (after start.put_word.ensures
+    (after start.put_word-next.ensures
     (after
-    (after (after (so cost.put-number.ensures (ap digits cost.before.cost-at.ensures)) (after first.put.ensures (so pre.put-facts.ensures (ap lists pre.before.pre-row.ensures))))
-    (after second.put2.ensures (so eff.put-facts2.ensures (ap lists eff.before.eff-row.ensures))))
-    mark.put-mark.ensures))
-    c.before.before.put3.ensures
+    (after (after (so cost.put_number-next.ensures (ap digits cost.before.cost_at.ensures)) (after first.put-next.ensures (so pre.put_facts-next.ensures (ap lists pre.before.pre_row.ensures))))
+    (after second.put-next-2.ensures (so eff.put_facts-next-2.ensures (ap lists eff.before.eff_row.ensures))))
+    mark.put_mark-next.ensures))
+    c.before.before.put.ensures
 
-same_length : tie.Need-same-length
+same_length : tie.Need-shape_of-out
 same_length c = kept_long (returns c)
 
-pub put-op-spec : {M : Type 1} → statement M
-put-op-spec =
+pub put_op_spec : {M : Type 1} → statement M
+put_op_spec =
     tie.close
     (tie.spec
     (λ c. search rules)

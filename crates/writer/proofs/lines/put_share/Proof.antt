@@ -9,7 +9,7 @@ returns : tie.Need-returns
 unfolding keyed
 returns c =
     let charges = c.before.before.before.before.before.before in
-    after (after charges.before.before.before.before.put_word.ensures charges.put-charges.ensures) c.before.before.put.ensures
+    after (after charges.before.before.before.before.put_word-next.ensures charges.put_charges-next.ensures) c.before.before.put.ensures
 
-pub put-share-spec : {M : Type 1} → statement M
-put-share-spec = tie.close (tie.spec (λ c. search rules) (λ c κs. search rules) (λ c κs. search rules) (λ c κs. search rules) (λ c. search rules) returns)
+pub put_share_spec : {M : Type 1} → statement M
+put_share_spec = tie.close (tie.spec (λ c. search rules) (λ c κs. search rules) (λ c κs. search rules) (λ c κs. search rules) (λ c. search rules) returns)

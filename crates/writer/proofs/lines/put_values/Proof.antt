@@ -7,7 +7,7 @@ use Rattle.writer.proofs.lines.put_values.Tie as tie
 returns : tie.Need-returns
 returns c =
     let row = c.before.before.before.before.before.before in
-    after (after row.before.before.before.before.put_word.ensures row.put-row.ensures) c.before.before.put.ensures
+    after (after row.before.before.before.before.put_word-next.ensures row.put_row-next.ensures) c.before.before.put.ensures
 
-pub put-values-spec : {M : Type 1} → statement M
-put-values-spec = tie.close (tie.spec (λ c κs. search rules) (λ c κs. search rules) (λ c κs. search rules) (λ c. search rules) returns)
+pub put_values_spec : {M : Type 1} → statement M
+put_values_spec = tie.close (tie.spec (λ c κs. search rules) (λ c κs. search rules) (λ c κs. search rules) (λ c. search rules) returns)

@@ -6,11 +6,11 @@ use Rattle.writer.proofs.Parts.{gap_none, gap_some}
 use Rattle.writer.proofs.pen.put_gap.Statement.{statement}
 use Rattle.writer.proofs.pen.put_gap.Tie as tie
 
-returns : tie.Need-returns
-returns c = let h = c.if1.true in so (nothing _) (gap_none _ _ (omega arith))
+returns : tie.Need-returns-then-rest-eq0
+returns c = let h = c.if-rest-eq0.true in so (nothing _) (gap_none _ _ (omega arith))
 
-returns-2 : tie.Need-returns-2
-returns-2 c = let h = c.before.before.before.before.if1.false in so c.before.before.put.ensures (gap_some _ _ (λ e. omega arith))
+returns-2 : tie.Need-returns-else-rest-eq0
+returns-2 c = let h = c.before.before.before.before.if-rest-eq0.false in so c.before.before.put.ensures (gap_some _ _ (λ e. omega arith))
 
-pub put-gap-spec : {M : Type 1} → statement M
-put-gap-spec = tie.close (tie.spec (λ c κs. search rules) returns (λ c. search rules) returns-2)
+pub put_gap_spec : {M : Type 1} → statement M
+put_gap_spec = tie.close (tie.spec (λ c κs. search rules) returns (λ c. search rules) returns-2)

@@ -10,28 +10,28 @@ use Rattle.writer.proofs.Parts.{word_turn}
 use Rattle.writer.proofs.pen.put_word.Statement.{statement}
 use Rattle.writer.proofs.pen.put_word.Tie as tie
 
-abbrev invariant-loop : tie.invariant-loop
+abbrev invariant-loop : tie.invariant-loop-i
 invariant-loop out₀ at word next₀ i₀ out next i = (i ≤ length word) × (length out ≡ length out₀) × Writes (pen next out) (drop i word) (inked (pen next₀ out₀) word)
 
-abbrev decreases-loop : tie.decreases-loop
+abbrev decreases-loop : tie.decreases-loop-i
 decreases-loop out₀ at word next₀ i₀ out next i = length word - i
 
-loop-again : tie.Need-loop-preserved invariant-loop decreases-loop
+loop-again : tie.Need-loop-i-preserved invariant-loop decreases-loop
 loop-again c =
     let put = c.before.before in
-    let test = put.before.before.before.loop-test in
-    let run = put.before.before.before.before.loop in
-    (omega arith, put.put.auto.0 ∙ run.invariant.1, turn put.put.ensures (word_turn _ run.i test.true) run.invariant.2)
+    let test = put.before.before.before.loop-i-test in
+    let run = put.before.before.before.before.loop-i in
+    (omega arith, put.put-next.auto.0 ∙ run.invariant.1, turn put.put-next.ensures (word_turn _ run.i test.true) run.invariant.2)
 
 returns : tie.Need-returns invariant-loop decreases-loop
 returns c =
-    let run = c.before.loop in
+    let run = c.before.loop-i in
     let word = c.before.before.before.before.args.word.now in
     let h : length word ≤ run.i = omega arith in
     done (nothing _) (drop_of_length-le word h) run.invariant.2
 
-pub put-word-spec : {M : Type 1} → statement M
-put-word-spec =
+pub put_word_spec : {M : Type 1} → statement M
+put_word_spec =
     tie.close
     (tie.spec
     invariant-loop
@@ -42,5 +42,5 @@ put-word-spec =
     (λ c. omega arith)
     (λ c. omega arith)
     loop-again
-    (λ c. c.before.loop.invariant.1)
+    (λ c. c.before.loop-i.invariant.1)
     returns)

@@ -9,7 +9,7 @@ returns : tie.Need-returns
 unfolding fact
 returns c =
     let colon = c.before.before.before.before.before.before in
-    after colon.before.before.before.before.put-number.ensures (after colon.put.ensures c.before.before.put-number2.ensures)
+    after colon.before.before.before.before.put_number-next.ensures (after colon.put-next.ensures c.before.before.put_number.ensures)
 
-pub put-fact-spec : {M : Type 1} → statement M
-put-fact-spec = tie.close (tie.spec (λ c κs. search rules) (λ c κs. search rules) (λ c κs. search rules) (λ c. search rules) returns)
+pub put_fact_spec : {M : Type 1} → statement M
+put_fact_spec = tie.close (tie.spec (λ c κs. search rules) (λ c κs. search rules) (λ c κs. search rules) (λ c. search rules) returns)
