@@ -13,13 +13,13 @@ returns c =
     λ i.
     record {
       vars = vars.word_at.ensures i;
-      ops = ops.word-at2.ensures i;
-      maps = maps.word-at3.ensures i;
-      edition = edition.word-at4.ensures i;
-      quota = c.word-at5.ensures i;
+      ops = ops.word_at-2.ensures i;
+      maps = maps.word_at-3.ensures i;
+      edition = edition.word_at-4.ensures i;
+      quota = c.word_at-5.ensures i;
     }
 
-pub counts-in-spec : {M : Type 1} → statement M
-counts-in-spec =
+pub counts_in_spec : {M : Type 1} → statement M
+counts_in_spec =
     tie.close
     (tie.spec (λ c κs. search rules) (λ c κs. search rules) (λ c κs. search rules) (λ c κs. search rules) (λ c κs. search rules) returns)

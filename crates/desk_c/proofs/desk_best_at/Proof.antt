@@ -12,9 +12,9 @@ returns c =
     let made = c.before in
     let beside = made.before in
     let a = beside.before.before.before.before.before.before.before.args in
-    let same = row_tables_lem _ _ _ _ beside.before.counts-in.ensures beside.facts-beside.ensures in
-    (made.best_at.result, subst (λ (t : Tables). BestGiven t a.map a.state.now made.best_at.result) same made.best_at.ensures, c.best-word.ensures)
+    let same = row_tables_lem _ _ _ _ beside.before.counts_in-c.ensures beside.facts_beside-f.ensures in
+    (made.best_at.result, subst (λ (t : Tables). BestGiven t a.map a.state.now made.best_at.result) same made.best_at.ensures, c.best_word.ensures)
 
-pub desk-best-at-spec : {M : Type 1} → statement M
-desk-best-at-spec =
+pub desk_best_at_spec : {M : Type 1} → statement M
+desk_best_at_spec =
     tie.close (tie.spec (λ c κs. search rules) (λ c κs. search rules) (λ c κs. search rules) (λ c κs. search rules) returns)

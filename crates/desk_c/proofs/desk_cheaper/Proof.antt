@@ -13,8 +13,8 @@ returns c =
     let made = c.before in
     let beside = made.before in
     let a = beside.before.before.before.before.before.before.before.before.before.args in
-    let same = row_tables_lem _ _ _ _ beside.before.counts-in.ensures beside.facts-beside.ensures in
-    c.cheaper-word.ensures ∙ ap cheaper_word (made.cheaper.ensures ∙ ap (λ (t : Tables). cheaper_of t a.state.now a.a.now a.b.now) same)
+    let same = row_tables_lem _ _ _ _ beside.before.counts_in-c.ensures beside.facts_beside-f.ensures in
+    c.cheaper_word.ensures ∙ ap cheaper_word (made.cheaper.ensures ∙ ap (λ (t : Tables). cheaper_of t a.state.now a.a.now a.b.now) same)
 
-pub desk-cheaper-spec : {M : Type 1} → statement M
-desk-cheaper-spec = tie.close (tie.spec (λ c κs. search rules) (λ c κs. search rules) (λ c κs. search rules) (λ c κs. search rules) returns)
+pub desk_cheaper_spec : {M : Type 1} → statement M
+desk_cheaper_spec = tie.close (tie.spec (λ c κs. search rules) (λ c κs. search rules) (λ c κs. search rules) (λ c κs. search rules) returns)

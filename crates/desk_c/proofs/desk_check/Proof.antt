@@ -12,8 +12,8 @@ returns : tie.Need-returns
 returns c =
     let made = c.before in
     let beside = made.before in
-    let same = row_tables_lem _ _ _ _ beside.before.counts-in.ensures beside.facts-beside.ensures in
+    let same = row_tables_lem _ _ _ _ beside.before.counts_in-c.ensures beside.facts_beside-f.ensures in
     c.found_word.ensures ∙ ap found_word (made.check.ensures ∙ ap (λ (t : Tables). tables_fault t) same)
 
-pub desk-check-spec : {M : Type 1} → statement M
-desk-check-spec = tie.close (tie.spec (λ c κs. search rules) (λ c κs. search rules) (λ c κs. search rules) (λ c κs. search rules) returns)
+pub desk_check_spec : {M : Type 1} → statement M
+desk_check_spec = tie.close (tie.spec (λ c κs. search rules) (λ c κs. search rules) (λ c κs. search rules) (λ c κs. search rules) returns)

@@ -12,9 +12,9 @@ returns c =
     let made = c.before in
     let beside = made.before in
     let a = beside.before.before.before.before.before.before.before.args in
-    let same = row_tables_lem _ _ _ _ beside.before.counts-in.ensures beside.facts-beside.ensures in
-    (made.distance_at.result, subst (λ (t : Tables). DistanceGiven t a.map a.state.now made.distance_at.result) same made.distance_at.ensures, c.distance-word.ensures)
+    let same = row_tables_lem _ _ _ _ beside.before.counts_in-c.ensures beside.facts_beside-f.ensures in
+    (made.distance_at.result, subst (λ (t : Tables). DistanceGiven t a.map a.state.now made.distance_at.result) same made.distance_at.ensures, c.distance_word.ensures)
 
-pub desk-distance-at-spec : {M : Type 1} → statement M
-desk-distance-at-spec =
+pub desk_distance_at_spec : {M : Type 1} → statement M
+desk_distance_at_spec =
     tie.close (tie.spec (λ c κs. search rules) (λ c κs. search rules) (λ c κs. search rules) (λ c κs. search rules) returns)

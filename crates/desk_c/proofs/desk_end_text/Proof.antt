@@ -8,26 +8,26 @@ use Rattle.desk_c.proofs.desk_end_text.Statement.{statement}
 use Rattle.desk_c.proofs.desk_end_text.Tie as tie
 
 -- the words are long enough
-long : (c : tie.Else1) → text_short c.before.before.before.before.before.before.before.before.before.args.text.now ≡ false
-long c = sym c.before.text_short_lem.ensures ∙ c.if1.false
+long : (c : tie.Else-text_short) → text_short c.before.before.before.before.before.before.before.before.before.args.text-1.now ≡ false
+long c = sym c.before.text_short_lem.ensures ∙ c.if-text_short.false
 
-returns-3 : tie.Need-returns-3
+returns-3 : tie.Need-returns
 returns-3 c =
     let read = c.before.before in
     let over = read.before.before.before.before in
     let end = over.before.before.before.before.before.before.before.before.before in
     let else2 = end.before.before.before.before.before.before in
-    end_told_lem _ _ _ _ _ _ _ (long else2.before) else2.if2.false _ end.before.before.before.before.text_in.ensures _ _ _ _ _ end.end-text.ensures
-    over.hand-ended.ensures read.hand-reading.ensures.0 read.hand-reading.ensures.1
+    end_told_lem _ _ _ _ _ _ _ (long else2.before) else2.if-counts-lt-COUNTS_ROW.false _ end.before.before.before.before.text_in-s.ensures _ _ _ _ _ end.end_text-e.ensures
+    over.hand_ended.ensures read.hand_reading.ensures.0 read.hand_reading.ensures.1
 
-pub desk-end-text-spec : {M : Type 1} → statement M
-desk-end-text-spec =
+pub desk_end_text_spec : {M : Type 1} → statement M
+desk_end_text_spec =
     tie.close
     (tie.spec
     (λ c κs. search rules) (λ c κs. search rules) (λ c. search rules)
-    (λ c. end_short _ _ _ _ _ _ _ (sym c.before.before.text_short_lem.ensures ∙ c.before.if1.true) c.refused-word.ensures)
+    (λ c. end_short _ _ _ _ _ _ _ (sym c.before.before.text_short_lem.ensures ∙ c.before.if-text_short.true) c.refused_word.ensures)
     (λ c κs. search rules) (λ c. search rules)
-    (λ c. end_few _ _ _ _ _ _ _ (long c.before.before) c.before.if2.true c.refused-word2.ensures)
+    (λ c. end_few _ _ _ _ _ _ _ (long c.before.before) c.before.if-counts-lt-COUNTS_ROW.true c.refused_word-then-counts-lt-COUNTS_ROW.ensures)
     (λ c κs. words_long _ (long c.before.before))
     (λ c κs. search rules)
     (λ c κs. words_long _ (long c.before.before.before.before.before.before.before.before.before.before.before.before.before.before.before))

@@ -13,8 +13,8 @@ returns c =
     let made = c.before in
     let beside = made.before in
     let a = beside.before.before.before.before.before.before.before.before.args in
-    let same = row_tables_lem _ _ _ _ beside.before.counts-in.ensures beside.facts-beside.ensures in
-    c.judged-word.ensures ∙ ap judged_word (made.judge.ensures ∙ ap (λ (t : Tables). judged_of t a.state.now a.list.now) same)
+    let same = row_tables_lem _ _ _ _ beside.before.counts_in-c.ensures beside.facts_beside-f.ensures in
+    c.judged_word.ensures ∙ ap judged_word (made.judge.ensures ∙ ap (λ (t : Tables). judged_of t a.state.now a.list.now) same)
 
-pub desk-judge-spec : {M : Type 1} → statement M
-desk-judge-spec = tie.close (tie.spec (λ c κs. search rules) (λ c κs. search rules) (λ c κs. search rules) (λ c κs. search rules) returns)
+pub desk_judge_spec : {M : Type 1} → statement M
+desk_judge_spec = tie.close (tie.spec (λ c κs. search rules) (λ c κs. search rules) (λ c κs. search rules) (λ c κs. search rules) returns)

@@ -9,16 +9,16 @@ use Rattle.desk_c.proofs.Handed.{row_tables_lem}
 use Rattle.desk_c.proofs.desk_offer.Statement.{statement}
 use Rattle.desk_c.proofs.desk_offer.Tie as tie
 
-returns : tie.Need-returns
+returns : tie.Need-returns-then-run_short
 unfolding offer_handed
-returns c = left_short _ _ _ _ (sym c.before.before.run_short.ensures ∙ c.before.if1.true) c.refused-word.ensures
+returns c = left_short _ _ _ _ (sym c.before.before.run_short.ensures ∙ c.before.if-run_short.true) c.refused_word.ensures
 
-hand-back-requires : tie.Need-hand-back-requires
+hand-back-requires : tie.Need-hand_back-requires
 hand-back-requires c κs =
     let long = c.before.before.before.before.before.before.before.before in
-    long_enough _ _ (sym long.before.run_short.ensures ∙ long.if1.false)
+    long_enough _ _ (sym long.before.run_short.ensures ∙ long.if-run_short.false)
 
-returns-2 : tie.Need-returns-2
+returns-2 : tie.Need-returns
 unfolding offer_handed
 returns-2 c =
     let back = c.before.before.before.before in
@@ -27,13 +27,13 @@ returns-2 c =
     let beside = taken.before.before.before in
     let long = beside.before.before in
     let a = long.before.before.before.before.before.before.before.before.before.before.args in
-    let same = row_tables_lem _ _ _ _ beside.before.counts-in.ensures beside.facts-beside.ensures in
-    left_long _ _ _ _ _ (sym long.before.run_short.ensures ∙ long.if1.false)
-    (offered_in _ _ _ _ _ _ (made.offer.ensures ∙ ap (λ (t : Tables). offered t taken.run_in.result a.number a.op) same) taken.run_in.ensures)
-    back.hand-back.ensures
+    let same = row_tables_lem _ _ _ _ beside.before.counts_in-c.ensures beside.facts_beside-f.ensures in
+    left_long _ _ _ _ _ (sym long.before.run_short.ensures ∙ long.if-run_short.false)
+    (offered_in _ _ _ _ _ _ (made.offer-o.ensures ∙ ap (λ (t : Tables). offered t taken.run_in-run.result a.number a.op) same) taken.run_in-run.ensures)
+    back.hand_back.ensures
 
-pub desk-offer-spec : {M : Type 1} → statement M
-desk-offer-spec =
+pub desk_offer_spec : {M : Type 1} → statement M
+desk_offer_spec =
     tie.close
     (tie.spec
     (λ c κs. search rules)
@@ -43,7 +43,7 @@ desk-offer-spec =
     returns
     (λ c κs. search rules)
     (λ c κs. search rules)
-    (λ c κs. long_enough _ _ (sym c.before.before.before.before.before.run_short.ensures ∙ c.before.before.before.before.if1.false))
+    (λ c κs. long_enough _ _ (sym c.before.before.before.before.before.run_short.ensures ∙ c.before.before.before.before.if-run_short.false))
     (λ c κs. search rules)
     hand-back-requires
     (λ c. search rules)

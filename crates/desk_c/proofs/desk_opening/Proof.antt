@@ -14,16 +14,16 @@ returns c =
     let made = c.before in
     let beside = made.before in
     let a = beside.before.before.before.before.before.before.before.before.before.args in
-    let same = row_tables_lem _ _ _ _ beside.before.counts-in.ensures beside.facts-beside.ensures in
-    c.opening-word.ensures
-    ∙ ap opening_word (made.choice-of.ensures ∙ ap (λ (t : Tables). chosen_of t a.state.now a.a.now a.b.now) same)
+    let same = row_tables_lem _ _ _ _ beside.before.counts_in-c.ensures beside.facts_beside-f.ensures in
+    c.opening_word.ensures
+    ∙ ap opening_word (made.choice_of.ensures ∙ ap (λ (t : Tables). chosen_of t a.state.now a.a.now a.b.now) same)
 
-pub desk-opening-spec : {M : Type 1} → statement M
-desk-opening-spec =
+pub desk_opening_spec : {M : Type 1} → statement M
+desk_opening_spec =
     tie.close
     (tie.spec
     (λ c κs. search rules)
     (λ c κs. search rules)
     (λ c κs. search rules)
-    (λ c κs. rw c.choice-of.ensures (chosen_steps_most _ _ _ _))
+    (λ c κs. rw c.choice_of.ensures (chosen_steps_most _ _ _ _))
     returns)

@@ -5,23 +5,20 @@ use native.Mathlib.Omega.{arith}
 use Rattle.desk_c.proofs.desk_read.Statement.{statement}
 use Rattle.desk_c.proofs.desk_read.Tie as tie
 
-returns-2 : tie.Need-returns-2
+returns-2 : tie.Need-returns-in-Accepted
 returns-2 c =
-    let put = c.before.before.before in
-    let made = put.before.before.before.before.before.before.before.before.before.before.before in
-    read_accepted _ _ _ _ _ _ (omega arith) _ _ _ _ made.read.ensures _ put.before.before.before.r.given.1 put.put-counts.ensures c.word.ensures
+    read_accepted _ _ _ _ _ _ (omega arith) _ _ _ _ c.read-r.ensures _ c.in-Accepted.is c.put_counts.ensures c.word.ensures
 
-returns-3 : tie.Need-returns-3
+returns-3 : tie.Need-returns-in-Refused
 returns-3 c =
-    let made = c.before.before.before.before.before.before.before.before.before.before in
-    read_refused _ _ _ _ _ _ (omega arith) _ _ _ _ made.read.ensures _ c.before.before.r2.given.1 c.refused-word2.ensures
+    read_refused _ _ _ _ _ _ (omega arith) _ _ _ _ c.read-r.ensures _ c.in-Refused.is c.refused_word-in-Refused.ensures
 
-pub desk-read-spec : {M : Type 1} → statement M
-desk-read-spec =
+pub desk_read_spec : {M : Type 1} → statement M
+desk_read_spec =
     tie.close
     (tie.spec
     (λ c κs. search rules)
-    (λ c. read_short _ _ _ _ _ _ (omega arith) c.refused-word.ensures)
+    (λ c. read_short _ _ _ _ _ _ (omega arith) c.refused_word.ensures)
     (λ c κs. search rules)
     (λ c. search rules)
     (λ c κs. omega arith)

@@ -11,30 +11,29 @@ use Rattle.desk_c.proofs.desk_take_piece.Statement.{statement}
 use Rattle.desk_c.proofs.desk_take_piece.Tie as tie
 
 -- the words are long enough
-long : (c : tie.Else1) → text_short c.before.before.before.before.before.before.args.text.now ≡ false
-long c = sym c.before.text_short_lem.ensures ∙ c.if1.false
+long : (c : tie.Else-text_short) → text_short c.before.before.before.before.before.before.args.text-1.now ≡ false
+long c = sym c.text_short_lem.ensures ∙ c.if-text_short.false
 
-returns-2 : tie.Need-returns-2
+returns-2 : tie.Need-returns
 returns-2 c =
-    let took = c.before.before.before.before.before in
-    take_told _ _ _ _ (long took.before.before.before.before) _ took.before.before.text_in.ensures _ _ _ took.take-piece.ensures
-    (⊎_elim (λ w. w.6 ∙ w.3.ensures ∙ after_taken _ _ _ w.1.given.1) (λ w. w.2 ∙ after_refused _ _ _ w.1.given.1) c.before.match.branch)
+    take_told _ _ _ _ (long c.before.before.before.before.before.before.before.before.before) _ c.text_in.ensures _ _ _ c.take_piece-t.ensures
+    (⊎_elim (λ w. w.6 ∙ w.3.ensures ∙ after_taken _ _ _ w.1.given.1) (λ w. w.2 ∙ after_refused _ _ _ w.1.given.1) c.in-Clean.branch)
     c.found_word.ensures
 
-words-kept : tie.Need-same-length-2
+words-kept : tie.Need-shape_of-text
 words-kept c =
     let l = words_long _ (long c.before.before.before.before.before.before.before.before.before) in
-    ⊎_elim (λ w. ap length (w.6 ∙ w.3.ensures) ∙ (lengths_kept _ l _).0) (λ w. ap length w.2) c.before.match.branch
+    ⊎_elim (λ w. ap length (w.6 ∙ w.3.ensures) ∙ (lengths_kept _ l _).0) (λ w. ap length w.2) c.in-Clean.branch
 
-pub desk-take-piece-spec : {M : Type 1} → statement M
-desk-take-piece-spec =
+pub desk_take_piece_spec : {M : Type 1} → statement M
+desk_take_piece_spec =
     tie.close
     (tie.spec
     (λ c κs. search rules) (λ c κs. search rules) (λ c. search rules)
-    (λ c. take_short _ _ _ _ (sym c.before.before.text_short_lem.ensures ∙ c.before.if1.true) c.refused-word.ensures)
+    (λ c. take_short _ _ _ _ (sym c.text_short_lem.ensures ∙ c.if-text_short.true) c.refused_word.ensures)
     (λ c κs. words_long _ (long c.before))
     (λ c κs. search rules) (λ c. search rules)
-    (λ c κs. words_long _ (long c.before.before.before.before.before.before.before.before.before.before))
+    (λ c κs. words_long _ (long c.before.before.before.before.before.before.before.before.before))
     (λ c. search rules) (λ c κs. search rules)
     words-kept
     (λ c. search rules)

@@ -13,9 +13,9 @@ returns c =
     let made = c.before.before.before in
     let beside = made.before.before in
     let a = beside.before.before.before.before.before.before.before.args in
-    ap (λ (w : ℕ). write_left w made.write.new.1.1.1.1.0) c.written-word.ensures
+    ap (λ (w : ℕ). write_left w made.write.new.1.1.1.1.0) c.written_word.ensures
     ∙ ap write_told made.write.ensures
-    ∙ ap (λ (t : Tables). write_handed t a.buffer.now) (row_tables_lem _ _ _ _ beside.before.counts-in.ensures beside.facts-beside.ensures)
+    ∙ ap (λ (t : Tables). write_handed t a.buffer-1.now) (row_tables_lem _ _ _ _ beside.before.counts_in-c.ensures beside.facts_beside-f.ensures)
 
-pub desk-write-spec : {M : Type 1} → statement M
-desk-write-spec = tie.close (tie.spec (λ c κs. search rules) (λ c κs. search rules) (λ c κs. search rules) (λ c κs. search rules) (λ c. search rules) returns)
+pub desk_write_spec : {M : Type 1} → statement M
+desk_write_spec = tie.close (tie.spec (λ c κs. search rules) (λ c κs. search rules) (λ c κs. search rules) (λ c κs. search rules) (λ c. search rules) returns)

@@ -6,15 +6,15 @@ use Rattle.desk_c.proofs.Handed.{beside_short, beside_long}
 use Rattle.desk_c.proofs.facts_beside.Statement.{statement}
 use Rattle.desk_c.proofs.facts_beside.Tie as tie
 
-returns : tie.Need-returns
+returns : tie.Need-returns-then-row-lt-COUNTS_ROW
 returns c =
     let a = c.before.before.args in
-    sym (beside_short a.row.now a.facts.now (omega (arith, c.before.if1.true)))
+    sym (beside_short a.row.now a.facts.now (omega (arith, c.before.if-row-lt-COUNTS_ROW.true)))
 
-returns-2 : tie.Need-returns-2
+returns-2 : tie.Need-returns
 returns-2 c =
     let a = c.before.args in
-    sym (beside_long a.row.now a.facts.now (omega (arith, c.if1.false)))
+    sym (beside_long a.row.now a.facts.now (omega (arith, c.if-row-lt-COUNTS_ROW.false)))
 
-pub facts-beside-spec : {M : Type 1} → statement M
-facts-beside-spec = tie.close (tie.spec (λ c. search rules) returns returns-2)
+pub facts_beside_spec : {M : Type 1} → statement M
+facts_beside_spec = tie.close (tie.spec (λ c. search rules) returns returns-2)

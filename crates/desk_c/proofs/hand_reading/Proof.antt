@@ -4,10 +4,10 @@ use borrow.Author.Rules.{rules}
 use Rattle.desk_c.proofs.hand_reading.Statement.{statement}
 use Rattle.desk_c.proofs.hand_reading.Tie as tie
 
-pub hand-reading-spec : {M : Type 1} → statement M
-hand-reading-spec =
+pub hand_reading_spec : {M : Type 1} → statement M
+hand_reading_spec =
     tie.close
     (tie.spec
     (λ c. search rules) (λ c κs. search rules) (λ c κs. search rules) (λ c. search rules) (λ c κs. search rules) (λ c. search rules)
-    (λ c. let put = c.before.before.before in reading_accepted _ _ _ _ put.before.before.before.r.given.1 put.put-counts.ensures c.word.ensures)
-    (λ c. reading_refused _ _ _ _ c.before.before.r2.given.1 c.refused-word.ensures))
+    (λ c. reading_accepted _ _ _ _ c.in-Accepted.is c.put_counts.ensures c.word.ensures)
+    (λ c. reading_refused _ _ _ _ c.in-Refused.is c.refused_word.ensures))

@@ -5,8 +5,8 @@ use Rattle.desk_c.proofs.Handed.{written_long}
 use Rattle.desk_c.proofs.put_counts.Statement.{statement}
 use Rattle.desk_c.proofs.put_counts.Tie as tie
 
-pub put-counts-spec : {M : Type 1} → statement M
-put-counts-spec =
+pub put_counts_spec : {M : Type 1} → statement M
+put_counts_spec =
     tie.close
     (tie.spec
     (λ c. search rules)

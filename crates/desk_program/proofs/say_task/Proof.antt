@@ -4,14 +4,14 @@ use borrow.Author.Rules.{rules}
 use Rattle.desk_program.proofs.say_task.Statement.{statement}
 use Rattle.desk_program.proofs.say_task.Tie as tie
 
-abbrev invariant-loop : tie.invariant-loop
+abbrev invariant-loop : tie.invariant-loop-m
 invariant-loop c facts costs shares init maps m₀ m = m ≤ maps
 
-abbrev decreases-loop : tie.decreases-loop
+abbrev decreases-loop : tie.decreases-loop-m
 decreases-loop c facts costs shares init maps m₀ m = maps - m
 
-pub say-task-spec : {M : Type 1} → statement M
-say-task-spec =
+pub say_task_spec : {M : Type 1} → statement M
+say_task_spec =
     tie.close
     (tie.spec
     invariant-loop

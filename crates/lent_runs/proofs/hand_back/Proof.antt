@@ -14,7 +14,7 @@ returns c =
     ⊎_elim
     (λ w. handed_accepted _ _ _ _ _ _ told w.1.given.1 (w.10 ∙ w.3.ensures) (w.11 ∙ w.7.ensures))
     (λ w. handed_else _ _ _ _ _ _ told w.0.keys2 w.1 w.2)
-    c.before.in-Accepted.branch
+    c.in-Accepted.branch
 
 pub hand_back_spec : {M : Type 1} → statement M
 hand_back_spec =
@@ -24,6 +24,6 @@ hand_back_spec =
     (λ c κs. search rules)
     (λ c κs. search rules)
     (λ c κs. search rules)
-    (λ c. ⊎_elim (λ w. ap length w.10 ∙ bytes_length _ _ _ w.3.ensures) (λ w. ap length w.1) c.before.in-Accepted.branch)
-    (λ c. ⊎_elim (λ w. ap length w.11 ∙ words_length _ _ _ w.7.ensures) (λ w. ap length w.2) c.before.in-Accepted.branch)
+    (λ c. ⊎_elim (λ w. ap length w.10 ∙ bytes_length _ _ _ w.3.ensures) (λ w. ap length w.1) c.in-Accepted.branch)
+    (λ c. ⊎_elim (λ w. ap length w.11 ∙ words_length _ _ _ w.7.ensures) (λ w. ap length w.2) c.in-Accepted.branch)
     returns)

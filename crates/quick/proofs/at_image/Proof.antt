@@ -20,8 +20,8 @@ inside : (c : tie.After-state_index-a) → c.state_index-a.result < most_states
 inside c =
     let s = start (row c) in
     let a = s.args in
-    let below = image_below a.c a.facts.now a.shares.now a.map s.pre.0 s.pre.1 a.s.now s.pre.3 in
-    omega (arith, below, s.pre.0.few_states a.map s.pre.1, c.state_index-a.ensures, c.before.image_of.ensures)
+    let below = image_below a.c a.facts.now a.shares.now a.map s.requires.0 s.requires.1 a.s.now s.requires.3 in
+    omega (arith, below, s.requires.0.few_states a.map s.requires.1, c.state_index-a.ensures, c.before.image_of.ensures)
 
 view-quick-requires : tie.Need-view_quick-requires
 view-quick-requires c κs =
@@ -38,7 +38,7 @@ returns : tie.Need-returns
 returns c =
     let r = row c in
     let a = (start r).args in
-    let pre = (start r).pre in
+    let pre = (start r).requires in
     let tables = c.before.before.before.before.view_quick.ensures in
     at_image a.c a.facts.now a.shares.now a.map pre.0 pre.1 r.share_row-prices.result a.s.now _
     (λ o l. r.share_row-prices.ensures o (omega (arith, pre.0.ops))) tables.0 tables.1 pre.3

@@ -33,8 +33,8 @@ start-requires : tie.Need-start-requires
 start-requires c κs =
     let rows = laid c.before.before.before.before.before.before.before in
     let s = handed rows in
-    let pre = s.pre.0 in
-    let none = s.pre.1.0 in (
+    let pre = s.requires.0 in
+    let none = s.requires.1.0 in (
       (pre.0, pre.2, rows.lay_fits.ensures.0, omega (arith, rows.lay_fits.ensures.1, pre.3)),
       λ prices.
           fresh (space_of s.args.c s.args.facts.now prices) (walkable_closed s.args.c s.args.facts.now prices pre.0) pre.0.few
@@ -47,7 +47,7 @@ run-requires c κs =
     let turns = turned goals in
     let rows = laid turns in
     let s = handed rows in
-    let pre = s.pre.0 in (
+    let pre = s.requires.0 in (
       record {
         walk = pre.0;
         priced = pre.1;
@@ -80,7 +80,7 @@ returns : tie.Need-returns
 returns c =
     let ran = c.before.before.before.before.before.before.before.before.before.before.before.before.before.before.before in
     let s = from-run ran in
-    let pre = s.pre.0 in
+    let pre = s.requires.0 in
     let ended = run_ended s.args.c s.args.facts.now s.args.prices.now pre.0 pre.1 ran.run.ensures.0 ran.run.ensures.1 in
     (distances_shown ended pre.2 c.before.before.before.before.before.before.before.write_distances.ensures, steps_copied ended pre.2 c.before.before.write_steps.ensures)
 

@@ -17,14 +17,14 @@ start c = c.before.before.before.before.before
 walkable : (c : tie.After-class_facts-seen) → Walkable (start c).args.c c.class_facts-seen.result
 walkable c =
     let s = start c in
-    classed_walkable s.args.c s.args.facts.now s.args.map s.pre.0.0 s.pre.0.1 c.class_facts-seen.result c.class_facts-seen.ensures
+    classed_walkable s.args.c s.args.facts.now s.args.map s.requires.0.0 s.requires.0.1 c.class_facts-seen.result c.class_facts-seen.ensures
 
 alike : (c : tie.After-class_facts-seen)
     → let a = (start c).args in Alike (space_of a.c c.class_facts-seen.result a.prices.now) (view_graph_of a.c a.facts.now a.map a.prices.now)
 alike c =
     let s = start c in
     let a = s.args in
-    classed_alike a.c a.facts.now a.map s.pre.0.0 s.pre.0.1 c.class_facts-seen.result c.class_facts-seen.ensures a.prices.now
+    classed_alike a.c a.facts.now a.map s.requires.0.0 s.requires.0.1 c.class_facts-seen.result c.class_facts-seen.ensures a.prices.now
 
 -- there is room for the map's states
 rooms : (c : tie.After-states_of-n)

@@ -12,19 +12,18 @@ use Rattle.scan.proofs.body_fault.Tie as tie
 
 returns : tie.Need-returns-in_default
 unfolding lines_fault operator_fault facts_fault map_fault classes_fault shares_fault split_fault
-returns c = let e = c.enum_told-in_default-1.given in hands_on _ _ _ e.0.0 c.before.before.lines_fault-lines.ensures e.1
+returns c = hands_on _ _ _ c.in_default.field-0 c.lines_fault-lines.ensures c.in_default.is
 
 charges-fault-requires : tie.Need-charges_fault-requires
 charges-fault-requires c κs =
-    let x = c.before.before.before.before.before.before in
-    let a = x.args in (
-      few_ops (task_of (tables a.c a.facts.now [] [])) x.requires,
-      few_maps (task_of (tables a.c a.facts.now a.costs.now [])) (sym c.before.before.lines_fault-lines.ensures ∙ c.enum_told-1.given.1),
+    let a = c.args in (
+      few_ops (task_of (tables a.c a.facts.now [] [])) c.requires,
+      few_maps (task_of (tables a.c a.facts.now a.costs.now [])) (sym c.lines_fault-lines.ensures ∙ c.in-Clean.is),
     )
 
 returns-2 : tie.Need-returns
 unfolding lines_fault operator_fault facts_fault map_fault classes_fault shares_fault split_fault
-returns-2 c = c.charges_fault.ensures ∙ goes_on _ _ _ c.before.before.before.lines_fault-lines.ensures c.before.enum_told-1.given.1
+returns-2 c = c.charges_fault.ensures ∙ goes_on _ _ _ c.lines_fault-lines.ensures c.in-Clean.is
 
 pub body_fault_spec : {M : Type 1} → statement M
 body_fault_spec =

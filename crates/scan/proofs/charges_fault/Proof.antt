@@ -8,11 +8,11 @@ use Rattle.scan.proofs.charges_fault.Tie as tie
 
 returns : tie.Need-returns-in_default
 unfolding shares_fault split_fault
-returns c = let e = c.enum_told-in_default-1.given in hands_on _ _ _ e.0.0 c.before.before.shares_fault-charged.ensures e.1
+returns c = hands_on _ _ _ c.in_default.field-0 c.shares_fault-charged.ensures c.in_default.is
 
 returns-2 : tie.Need-returns
 unfolding shares_fault split_fault
-returns-2 c = c.split_fault.ensures ∙ goes_on _ _ _ c.before.before.before.shares_fault-charged.ensures c.before.enum_told-1.given.1
+returns-2 c = c.split_fault.ensures ∙ goes_on _ _ _ c.shares_fault-charged.ensures c.in-Clean.is
 
 pub charges_fault_spec : {M : Type 1} → statement M
 charges_fault_spec =

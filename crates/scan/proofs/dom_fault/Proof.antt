@@ -8,11 +8,11 @@ use Rattle.scan.proofs.dom_fault.Tie as tie
 
 returns : tie.Need-returns-in_default
 unfolding facts_fault
-returns c = let e = c.enum_told-in_default-1.given in hands_on _ _ _ e.0.0 c.before.before.variables_fault-doms.ensures e.1
+returns c = hands_on _ _ _ c.in_default.field-0 c.variables_fault-doms.ensures c.in_default.is
 
 returns-2 : tie.Need-returns
 unfolding facts_fault
-returns-2 c = c.init_fault.ensures ∙ goes_on _ _ _ c.before.before.before.variables_fault-doms.ensures c.before.enum_told-1.given.1
+returns-2 c = c.init_fault.ensures ∙ goes_on _ _ _ c.variables_fault-doms.ensures c.in-Clean.is
 
 pub dom_fault_spec : {M : Type 1} → statement M
 dom_fault_spec =

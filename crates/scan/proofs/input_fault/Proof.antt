@@ -8,11 +8,11 @@ use Rattle.scan.proofs.input_fault.Tie as tie
 
 returns : tie.Need-returns-in_default
 unfolding input_fault
-returns c = let e = c.enum_told-in_default-1.given in hands_on _ _ _ e.0.0 c.before.before.tables_fault-f.ensures e.1
+returns c = hands_on _ _ _ c.in_default.field-0 c.tables_fault-f.ensures c.in_default.is
 
 returns-2 : tie.Need-returns
 unfolding input_fault
-returns-2 c = c.state_fault.ensures ∙ goes_on _ _ _ c.before.before.before.tables_fault-f.ensures c.before.enum_told-1.given.1
+returns-2 c = c.state_fault.ensures ∙ goes_on _ _ _ c.tables_fault-f.ensures c.in-Clean.is
 
 pub input_fault_spec : {M : Type 1} → statement M
 input_fault_spec =

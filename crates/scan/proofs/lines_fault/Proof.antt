@@ -65,7 +65,7 @@ abbrev fit : AtOps → ℕ → Bool
 fit l = facts_fit l.before.before.before.before.args.facts.now l.loop-o.o
 
 few : (l : AtOps) → (task l).sas.ops ≤ most_ops
-few l = let x = l.before.before.before.before in few_ops (spelled x.args.c x.args.facts.now []) x.pre
+few l = let x = l.before.before.before.before in few_ops (spelled x.args.c x.args.facts.now []) x.requires
 
 -- ---- in an operator: a fault of it is the first of all; its cost is in range; then its facts decide, and then whether it is idle
 
@@ -73,89 +73,71 @@ stops : (x : tie.After-op_line-line Facts decreases-facts Ops decreases-ops Maps
     → let l = x.before.before in
     operator_fault (task l) l.loop-o.o ≡ Fault (r (line_of_op (task l).edition l.loop-o.o)) → Fault (r x.op_line-line.result) ≡ lines_fault (task l)
 stops x r h =
-    let l = x.before.before in
     ap (λ (n : ℕ). Fault (r n)) x.op_line-line.ensures
-    ∙ sym (operator_decides (task l) l.loop-o.o (r (line_of_op (task l).edition l.loop-o.o)) l.loop-o.invariant.1 x.before.loop-o-test.true h)
+    ∙ sym (operator_decides (task x.before.before) x.loop-o.o (r (line_of_op (task x.before.before).edition x.loop-o.o)) x.loop-o.invariant.1 x.loop-o-test.true h)
 
 cheap : (x : tie.Else-cost_at-gt-COST_MOST Facts decreases-facts Ops decreases-ops Maps decreases-maps Scan decreases-scan) → let l = x.before.before.before.before in (task l).sas.cost l.loop-o.o ≤ most_cost
-cheap x = omega (arith, x.before.cost_at.ensures, x.if-cost_at-gt-COST_MOST.false)
+cheap x = omega (arith, x.cost_at.ensures, x.if-cost_at-gt-COST_MOST.false)
 
 -- its facts are in range
 fitting : (x : tie.After-mark_of Facts decreases-facts Ops decreases-ops Maps decreases-maps Scan decreases-scan)
     → let l = x.before.before.before.before.before.before.before in
     each (tests (fit l) (said (task l).edition l.loop-o.o)) (task l).sas.vars 0 ≡ Clean
 fitting x =
-    let i = x.before.before in
-    let l = i.before.before.before.before.before in
-    walk_end (tests (fit l) (said (task l).edition l.loop-o.o)) (task l).sas.vars i.loop-v.v i.loop-v.invariant.1 (omega arith) (omega arith)
+    walk_end (tests (fit x.before.before.before.before.before.before.before) (said (task x.before.before.before.before.before.before.before).edition x.loop-o.o)) (task x.before.before.before.before.before.before.before).sas.vars x.loop-v.v x.loop-v.invariant.1 (omega arith) (omega arith)
 
 ended : (x : tie.After-is_idle Facts decreases-facts Ops decreases-ops Maps decreases-maps Scan decreases-scan)
     → let l = x.before.before.before.before.before.before.before.before.before in
     operator_fault (task l) l.loop-o.o ≡ unless (not x.is_idle.result) (IdleOperator (line_of_op (task l).edition l.loop-o.o))
 ended x =
-    let k = x.before.before in
-    let i = k.before.before in
-    let l = i.before.before.before.before.before in
-    let a = l.before.before.before.before.args in
-    idle_decides (task l) l.loop-o.o (cheap i.before) (fitting k) (omega (arith, k.mark_of.ensures, x.before.if-mark_of-gt-MARK_MOST.false))
-    (x.is_idle.ensures ∙ is_idle_is (tables a.c a.facts.now a.costs.now []) l.loop-o.o)
+    let a = x.args in
+    idle_decides (task x.before.before.before.before.before.before.before.before.before) x.loop-o.o (cheap x.before.before.before.before.before) (fitting x.before.before) (omega (arith, x.mark_of.ensures, x.if-mark_of-gt-MARK_MOST.false))
+    (x.is_idle.ensures ∙ is_idle_is (tables a.c a.facts.now a.costs.now []) x.loop-o.o)
 
 -- ---- after the operators: they are clean; after the count of maps: it is in range
 
 operators : (x : tie.After-loop-o Facts decreases-facts Ops decreases-ops Maps decreases-maps Scan decreases-scan) → let T = task x.before in each (operator_fault T) T.sas.ops 0 ≡ Clean
 operators x =
-    let l = x.before in
-    walk_end (operator_fault (task l)) (task l).sas.ops l.loop-o.o l.loop-o.invariant.1 (omega arith) (omega arith)
+    walk_end (operator_fault (task x.before)) (task x.before).sas.ops x.loop-o.o x.loop-o.invariant.1 (omega arith) (omega arith)
 
 counted : (x : tie.Else-not-lies_within Facts decreases-facts Ops decreases-ops Maps decreases-maps Scan decreases-scan) → within 1 most_maps (task x.before.before.before).maps ≡ true
-counted x = sym x.before.lies_within.ensures ∙ not-false x.before.lies_within.result x.if-not-lies_within.false
+counted x = sym x.lies_within.ensures ∙ x.if-not-lies_within.false
 
 -- ---- the needs
 
 loop2-again : tie.Need-loop-v-preserved Facts decreases-facts Ops decreases-ops Maps decreases-maps Scan decreases-scan
 loop2-again c =
-    let i = c.before.before.before in
-    let l = i.before.before.before.before.before in
-    let w = c.before.facts_fit in
-    (omega arith, tests_more (fit l) (said (task l).edition l.loop-o.o) i.loop-v.v i.loop-v.invariant.1 (sym w.ensures ∙ not-false w.result c.if-not-facts_fit.false))
+    let w = c.facts_fit in
+    (omega arith, tests_more (fit c.before.before.before.before.before.before.before.before) (said (task c.before.before.before.before.before.before.before.before).edition c.loop-o.o) c.loop-v.v c.loop-v.invariant.1 (sym w.ensures ∙ c.if-not-facts_fit.false))
 
 loop-again : tie.Need-loop-o-preserved Facts decreases-facts Ops decreases-ops Maps decreases-maps Scan decreases-scan
 loop-again c =
-    let l = c.before.before.before.before.before.before.before.before.before.before in
-    (omega arith, walk_more (operator_fault (task l)) l.loop-o.o l.loop-o.invariant.1 (ended c.before ∙ rw c.if-is_idle.false refl))
+    (omega arith, walk_more (operator_fault (task c.before.before.before.before.before.before.before.before.before.before)) c.loop-o.o c.loop-o.invariant.1 (ended c.before ∙ rw c.if-is_idle.false refl))
 
 map-fault-requires : tie.Need-map_fault-map-requires Facts decreases-facts Ops decreases-ops Maps decreases-maps Scan decreases-scan
 map-fault-requires c κs =
-    let l = c.before.before.before.before.before in
-    (l.before.before.before.before.requires, omega (arith, within_says 1 most_maps (task l).maps (counted c.before.before)))
+    (c.requires, omega (arith, within_says 1 most_maps (task c.before.before.before.before.before).maps (counted c.before.before)))
 
 loop3-again : tie.Need-loop-m-preserved Facts decreases-facts Ops decreases-ops Maps decreases-maps Scan decreases-scan
 unfolding map_fault classes_fault
 loop3-again c =
-    let i = c.before.before.before.before in
-    let T = task i.before.before.before.before in
-    (omega arith, walk_more (map_fault T) i.loop-m.m i.loop-m.invariant.1 (sym c.before.before.map_fault-map.ensures ∙ c.enum_told-1.given.1))
+    let T = task c.before.before.before.before.before.before.before in
+    (omega arith, walk_more (map_fault T) c.loop-m.m c.loop-m.invariant.1 (sym c.map_fault-map.ensures ∙ c.in-Clean.is))
 
 returns : tie.Need-returns-then-cost_at-gt-COST_MOST Facts decreases-facts Ops decreases-ops Maps decreases-maps Scan decreases-scan
 returns c =
-    let x = c.before.before in
-    stops x OutOfRange (cost_decides (task x.before.before) x.before.before.loop-o.o (omega (arith, c.before.cost_at.ensures, c.if-cost_at-gt-COST_MOST.true)))
+    stops c.before.before OutOfRange (cost_decides (task c.before.before.before.before) c.loop-o.o (omega (arith, c.cost_at.ensures, c.if-cost_at-gt-COST_MOST.true)))
 
 returns-2 : tie.Need-returns-then-not-facts_fit Facts decreases-facts Ops decreases-ops Maps decreases-maps Scan decreases-scan
 returns-2 c =
-    let i = c.before.before.before in
-    let l = i.before.before.before.before.before in
-    let w = c.before.facts_fit in
-    let no = sym w.ensures ∙ not-true w.result c.if-not-facts_fit.true in
-    let out = tests_here (fit l) (said (task l).edition l.loop-o.o) (task l).sas.vars i.loop-v.v i.loop-v.invariant.1 c.before.before.loop-v-test.true no in
-    stops i.before.before.before OutOfRange (fact_decides (task l) l.loop-o.o (cheap i.before) (said (task l).edition l.loop-o.o 0) out)
+    let w = c.facts_fit in
+    let no = sym w.ensures ∙ c.if-not-facts_fit.true in
+    let out = tests_here (fit c.before.before.before.before.before.before.before.before) (said (task c.before.before.before.before.before.before.before.before).edition c.loop-o.o) (task c.before.before.before.before.before.before.before.before).sas.vars c.loop-v.v c.loop-v.invariant.1 c.loop-v-test.true no in
+    stops c.before.before.before.before.before.before OutOfRange (fact_decides (task c.before.before.before.before.before.before.before.before) c.loop-o.o (cheap c.before.before.before.before) (said (task c.before.before.before.before.before.before.before.before).edition c.loop-o.o 0) out)
 
 returns-3 : tie.Need-returns-then-mark_of-gt-MARK_MOST Facts decreases-facts Ops decreases-ops Maps decreases-maps Scan decreases-scan
 returns-3 c =
-    let k = c.before in
-    let i = k.before.before in
-    let l = i.before.before.before.before.before in
-    stops i.before.before.before OutOfRange (mark_decides (task l) l.loop-o.o (cheap i.before) (fitting k) (omega (arith, k.mark_of.ensures, c.if-mark_of-gt-MARK_MOST.true)))
+    stops c.before.before.before.before.before.before OutOfRange (mark_decides (task c.before.before.before.before.before.before.before.before) c.loop-o.o (cheap c.before.before.before.before) (fitting c.before) (omega (arith, c.mark_of.ensures, c.if-mark_of-gt-MARK_MOST.true)))
 
 returns-4 : tie.Need-returns-then-is_idle Facts decreases-facts Ops decreases-ops Maps decreases-maps Scan decreases-scan
 returns-4 c =
@@ -163,27 +145,23 @@ returns-4 c =
 
 returns-5 : tie.Need-returns-then-not-lies_within Facts decreases-facts Ops decreases-ops Maps decreases-maps Scan decreases-scan
 returns-5 c =
-    let x = c.before.before.before in
-    let w = c.before.before.lies_within in
+    let w = c.lies_within in
     ap (λ (n : ℕ). Fault (OutOfRange n)) c.maps_line.ensures
-    ∙ sym (count_decides (task x.before) (operators x) (sym w.ensures ∙ not-true w.result c.before.if-not-lies_within.true))
+    ∙ sym (count_decides (task c.before.before.before.before) (operators c.before.before.before) (sym w.ensures ∙ c.if-not-lies_within.true))
 
 returns-6 : tie.Need-returns-in_default Facts decreases-facts Ops decreases-ops Maps decreases-maps Scan decreases-scan
 unfolding map_fault classes_fault
 returns-6 c =
-    let i = c.before.before.before.before in
-    let T = task i.before.before.before.before in
-    let found = c.before.before.map_fault-map in
-    let e = c.enum_told-in_default-1.given in
-    let here = walk_here (map_fault T) T.maps i.loop-m.m e.0.0 i.loop-m.invariant.1 c.before.before.before.loop-m-test.true (sym found.ensures ∙ e.1) in
-    sym (maps_decide T (operators i.before.before.before) found.result (counted i.before) (here ∙ sym e.1))
+    let T = task c.before.before.before.before.before.before.before in
+    let found = c.map_fault-map in
+    let here = walk_here (map_fault T) T.maps c.loop-m.m c.in_default.field-0 c.loop-m.invariant.1 c.loop-m-test.true (sym found.ensures ∙ c.in_default.is) in
+    sym (maps_decide T (operators c.before.before.before.before.before.before) found.result (counted c.before.before.before.before) (here ∙ sym c.in_default.is))
 
 returns-7 : tie.Need-returns-after-loop-m Facts decreases-facts Ops decreases-ops Maps decreases-maps Scan decreases-scan
 returns-7 c =
-    let i = c.before in
-    let T = task i.before.before.before.before in
-    let all = walk_end (map_fault T) T.maps i.loop-m.m i.loop-m.invariant.1 (omega arith) (omega arith) in
-    sym (maps_decide T (operators i.before.before.before) Clean (counted i.before) all)
+    let T = task c.before.before.before.before.before in
+    let all = walk_end (map_fault T) T.maps c.loop-m.m c.loop-m.invariant.1 (omega arith) (omega arith) in
+    sym (maps_decide T (operators c.before.before.before.before) Clean (counted c.before.before) all)
 
 pub lines_fault_spec : {M : Type 1} → statement M
 lines_fault_spec =
@@ -198,10 +176,10 @@ lines_fault_spec =
     Scan
     decreases-scan
     (λ c. search rules)
-    (λ c. let a = c.before.before.before.args in (omega arith, walk_none (operator_fault (spelled a.c a.facts.now a.costs.now))))
+    (λ c. let a = c.args in (omega arith, walk_none (operator_fault (spelled a.c a.facts.now a.costs.now))))
     (λ c κs. omega (arith, few c.before))
     (λ c κs. search rules)
-    (λ c. let l = c.before.before.before.before in (omega arith, walk_none (tests (fit l) (said (task l).edition l.loop-o.o))))
+    (λ c. (omega arith, walk_none (tests (fit c.before.before.before.before) (said (task c.before.before.before.before).edition c.loop-o.o))))
     (λ c κs. omega (arith, few c.before.before.before.before.before.before))
     (λ c. search rules)
     (λ c. search rules)

@@ -64,68 +64,64 @@ abbrev at : tie.After-classes_of-found invariant-loop decreases-loop → At
 at x = x.before.before.before.before
 
 told : (x : tie.After-classes_of-found invariant-loop decreases-loop) {k : Classes} → x.classes_of-found.result ≡ k → rule (at x) (at x).loop-v.v ≡ fault_in k (at x).before.map_line-line.result
-told x p = found_fault (facts (at x)) x.classes_of-found.ensures x.before.class_row.ensures x.before.before.word_of.ensures (at x).before.map_line-line.result p
+told x p = found_fault (facts (at x)) x.classes_of-found.ensures x.class_row.ensures x.word_of.ensures (at x).before.map_line-line.result p
 
 stops : (x : tie.After-classes_of-found invariant-loop decreases-loop) (r : Refusal) → rule (at x) (at x).loop-v.v ≡ Fault r → Fault r ≡ map_fault (task (at x)) (map (at x))
 unfolding classes_fault
 stops x r p =
     let l = at x in
     classes_decide (task l) (map l) l.before.map_line-line.ensures r
-    (walk_here (rule l) (task l).sas.vars l.loop-v.v r l.loop-v.inv.1 x.before.before.before.loop-v-test.true p)
+    (walk_here (rule l) (task l).sas.vars l.loop-v.v r l.loop-v.invariant.1 x.loop-v-test.true p)
 
 count : (c : tie.In-Count invariant-loop decreases-loop)
-    → let l = at c.before.before.before in
-    let k = c.before.found-1.given.0.0 in
+    → let l = at c.before in
+    let k = c.in-Count.k in
     (k ≡ counts (facts l) (map l) l.loop-v.v) × (k ≤ most_values)
 count c =
-    let x = c.before.before.before in
-    let l = at x in
-    let q = found_count (facts l) x.classes_of-found.ensures x.before.class_row.ensures x.before.before.word_of.ensures c.before.found-1.given.0.0 c.before.found-1.given.1 in
-    (q.0, omega (arith, q.1, few_values (task l) (head l) l.loop-v.v x.before.before.before.loop-v-test.true))
+    let l = at c.before in
+    let q = found_count (facts l) c.classes_of-found.ensures c.class_row.ensures c.word_of.ensures c.in-Count.k c.in-Count.is in
+    (q.0, omega (arith, q.1, few_values (task l) (head l) l.loop-v.v c.loop-v-test.true))
 
 -- where the walk has ended, all variables are clean and their counts multiply to the map's states
 ended : (c : tie.After-loop-v invariant-loop decreases-loop)
     → unless (leb c.before.loop-v.states most_states) (TooManyStates c.before.before.map_line-line.result) ≡ map_fault (task c.before) (map c.before)
 unfolding classes_fault
 ended c =
-    let l = c.before in
-    let all : l.loop-v.v ≡ (task l).sas.vars = omega arith in
-    states_decide (task l) (map l) l.before.map_line-line.ensures (walk_end (rule l) (task l).sas.vars l.loop-v.v l.loop-v.invariant.1 (omega arith) (omega arith))
-    (l.loop-v.invariant.2 ∙ ap (size (counts (facts l) (map l))) all)
+    let all : c.loop-v.v ≡ (task c.before).sas.vars = omega arith in
+    states_decide (task c.before) (map c.before) c.map_line-line.ensures (walk_end (rule c.before) (task c.before).sas.vars c.loop-v.v c.loop-v.invariant.1 (omega arith) (omega arith))
+    (c.loop-v.invariant.2 ∙ ap (size (counts (facts c.before) (map c.before))) all)
 
 -- ---- the needs
 
 classes-of-requires : tie.Need-classes_of-found-requires invariant-loop decreases-loop
 classes-of-requires c κs =
-    let l = c.before.before.before in
-    omega (arith, c.before.word_of.ensures, few_values (task l) (head l) l.loop-v.v c.before.before.loop-v-test.true)
+    omega (arith, c.word_of.ensures, few_values (task c.before.before.before) (head c.before.before.before) c.loop-v.v c.loop-v-test.true)
 
-mul-states : tie.Need-overflow-mul-states invariant-loop decreases-loop
+mul-states : tie.Need-overflow_mul-states invariant-loop decreases-loop
 mul-states c =
-    let l = at c.before.before.before in
-    omega (arith, product_fits l.loop-v.states c.before.found-1.given.0.0 l.loop-v.v l.loop-v.inv.3 (count c).1 (omega (arith, few_vars (task l) (head l))))
+    let l = at c.before in
+    omega (arith, product_fits l.loop-v.states c.in-Count.k l.loop-v.v l.loop-v.invariant.3 (count c).1 (omega (arith, few_vars (task l) (head l))))
 
 returns : tie.Need-returns-in-Missing invariant-loop decreases-loop
-returns c = let x = c.before.before in stops x (ClassMissing (at x).before.map_line-line.result) (told x c.enum_told-1.given.1)
+returns c = stops c.before (ClassMissing (at c.before).before.map_line-line.result) (told c.before c.in-Missing.is)
 
 returns-2 : tie.Need-returns-in-Outside invariant-loop decreases-loop
-returns-2 c = let x = c.before.before in stops x (OutOfRange (at x).before.map_line-line.result) (told x c.enum_told-in-Outside-1.given.1)
+returns-2 c = stops c.before (OutOfRange (at c.before).before.map_line-line.result) (told c.before c.in-Outside.is)
 
 loop-again : tie.Need-loop-v-preserved invariant-loop decreases-loop
 loop-again c =
-    let x = c.before.before.before in
-    let run = (at x).loop-v in (
+    let run = (at c.before).loop-v in (
       omega arith,
-      walk_more (rule (at x)) run.v run.inv.1 (told x c.before.found-1.given.1),
-      rw add-one (ap₂ ◌*◌ run.inv.2 (count c).0),
-      product_more run.states c.before.found-1.given.0.0 run.v run.inv.3 (count c).1,
+      walk_more (rule (at c.before)) run.v run.invariant.1 (told c.before c.in-Count.is),
+      rw add-one (ap₂ ◌*◌ run.invariant.2 (count c).0),
+      product_more run.states c.in-Count.k run.v run.invariant.3 (count c).1,
     )
 
 returns-3 : tie.Need-returns-then-states-gt-STATES_MOST invariant-loop decreases-loop
-returns-3 c = rw (lt-leb c.before.before.loop-v.states most_states c.if-states-gt-STATES_MOST.true) at (ended c.before)
+returns-3 c = rw (lt-leb c.loop-v.states most_states c.if-states-gt-STATES_MOST.true) at (ended c.before)
 
 returns-4 : tie.Need-returns invariant-loop decreases-loop
-returns-4 c = rw (le-leb c.before.before.loop-v.states most_states c.if-states-gt-STATES_MOST.false) at (ended c.before)
+returns-4 c = rw (le-leb c.loop-v.states most_states c.if-states-gt-STATES_MOST.false) at (ended c.before)
 
 pub map_fault_spec : {M : Type 1} → statement M
 map_fault_spec =
@@ -133,8 +129,8 @@ map_fault_spec =
     (tie.spec
     invariant-loop
     decreases-loop
-    (λ c κs. (few_ops (task_of (tables c.before.args.c c.before.args.facts.now [] [])) c.before.requires.0, omega arith))
-    (λ c. (omega arith, walk_none (ruleOf c.before.before.args.facts.now c.before.before.args.m c.map_line-line.result), refl, omega arith))
+    (λ c κs. (few_ops (task_of (tables c.args.c c.args.facts.now [] [])) c.requires.0, omega arith))
+    (λ c. (omega arith, walk_none (ruleOf c.args.facts.now c.args.m c.map_line-line.result), refl, omega arith))
     (λ c κs. search rules)
     (λ c κs. (omega arith, omega (arith, few_vars (task c.before.before) (head c.before.before))))
     classes-of-requires

@@ -46,13 +46,13 @@ returns-2 : tie.Need-returns-then-not-value_fits invariant-loop decreases-loop
 unfolding state_fault
 returns-2 c =
     let l = c.before.before.before.before in
-    let out = told c.before ∙ not-true c.before.value_fits.result c.if-not-value_fits.true in
+    let out = told c.before ∙ c.if-not-value_fits.true in
     sym (rw (long l, tests_here (test l) ValueOutside l.before.before.before.before.args.c.vars l.loop-v.v l.loop-v.invariant.1 (omega arith) out))
 
 loop-again : tie.Need-loop-v-preserved invariant-loop decreases-loop
 loop-again c =
     let l = c.before.before.before.before in
-    (omega arith, tests_more (test l) ValueOutside l.loop-v.v l.loop-v.invariant.1 (told c.before ∙ not-false c.before.value_fits.result c.if-not-value_fits.false))
+    (omega arith, tests_more (test l) ValueOutside l.loop-v.v l.loop-v.invariant.1 (told c.before ∙ c.if-not-value_fits.false))
 
 returns-3 : tie.Need-returns invariant-loop decreases-loop
 unfolding state_fault

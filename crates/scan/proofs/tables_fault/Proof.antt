@@ -8,11 +8,11 @@ use Rattle.scan.proofs.tables_fault.Tie as tie
 
 returns : tie.Need-returns-then-not-has_room
 unfolding tables_fault roomy
-returns c = let w = c.before.has_room in sym (rw (sym w.ensures ∙ not-true w.result c.if-not-has_room.true))
+returns c = let w = c.before.has_room in sym (rw (sym w.ensures ∙ c.if-not-has_room.true))
 
 returns-2 : tie.Need-returns
 unfolding tables_fault roomy
-returns-2 c = let w = c.before.before.has_room in c.task_fault.ensures ∙ sym (rw (sym w.ensures ∙ not-false w.result c.before.if-not-has_room.false))
+returns-2 c = let w = c.before.before.has_room in c.task_fault.ensures ∙ sym (rw (sym w.ensures ∙ c.before.if-not-has_room.false))
 
 pub tables_fault_spec : {M : Type 1} → statement M
 tables_fault_spec =

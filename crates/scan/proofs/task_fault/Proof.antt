@@ -12,20 +12,17 @@ use Rattle.scan.proofs.task_fault.Tie as tie
 
 -- the task handed in
 abbrev task : tie.After-head_fault-head → Task
-task x = let a = x.before.before.before.before.args in task_of (tables a.c a.facts.now a.costs.now a.shares.now)
+task x = let a = x.args in task_of (tables a.c a.facts.now a.costs.now a.shares.now)
 
 returns : tie.Need-returns-in_default
 unfolding head_fault facts_fault
 returns c =
-    let x = c.before.before in
-    let e = c.enum_told-in_default-1.given in
-    hands_on (head_fault (task x)) (body_fault (task x)) _ e.0.0 x.head_fault-head.ensures e.1 ∙ sym (in_parts (task x))
+    hands_on (head_fault (task c.before)) (body_fault (task c.before)) _ c.in_default.field-0 c.head_fault-head.ensures c.in_default.is ∙ sym (in_parts (task c.before))
 
 returns-2 : tie.Need-returns
 unfolding head_fault facts_fault
 returns-2 c =
-    let x = c.before.before.before in
-    c.body_fault.ensures ∙ goes_on (head_fault (task x)) (body_fault (task x)) _ x.head_fault-head.ensures c.before.enum_told-1.given.1 ∙ sym (in_parts (task x))
+    c.body_fault.ensures ∙ goes_on (head_fault (task c.before.before)) (body_fault (task c.before.before)) _ c.head_fault-head.ensures c.in-Clean.is ∙ sym (in_parts (task c.before.before))
 
 pub task_fault_spec : {M : Type 1} → statement M
 task_fault_spec =
@@ -35,5 +32,5 @@ task_fault_spec =
     (λ c. search rules)
     (λ c. search rules)
     returns
-    (λ c κs. sym c.before.before.head_fault-head.ensures ∙ c.enum_told-1.given.1)
+    (λ c κs. sym c.head_fault-head.ensures ∙ c.in-Clean.is)
     returns-2)

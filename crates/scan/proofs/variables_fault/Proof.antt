@@ -32,13 +32,13 @@ returns c =
     let l = c.before.before.before in
     let a = l.before.before.args in
     let w = c.before.variable_holds in
-    sym (tests_here (test l) (said a.line) a.vars l.loop-v.v l.loop-v.invariant.1 c.before.before.loop-v-test.true (sym w.ensures ∙ not-true w.result c.if-not-variable_holds.true))
+    sym (tests_here (test l) (said a.line) a.vars l.loop-v.v l.loop-v.invariant.1 c.before.before.loop-v-test.true (sym w.ensures ∙ c.if-not-variable_holds.true))
 
 loop-again : tie.Need-loop-v-preserved invariant-loop decreases-loop
 loop-again c =
     let l = c.before.before.before in
     let w = c.before.variable_holds in
-    (omega arith, tests_more (test l) (said l.before.before.args.line) l.loop-v.v l.loop-v.invariant.1 (sym w.ensures ∙ not-false w.result c.if-not-variable_holds.false))
+    (omega arith, tests_more (test l) (said l.before.before.args.line) l.loop-v.v l.loop-v.invariant.1 (sym w.ensures ∙ c.if-not-variable_holds.false))
 
 returns-2 : tie.Need-returns invariant-loop decreases-loop
 returns-2 c =

@@ -20,7 +20,7 @@ judge_spec =
     (tie.spec
     (λ c κs. search rules)
     (λ c. search rules)
-    (λ c κs. let x = c.before.before in usable (T x) (first x).args.s.now x.input_fault-f.ensures c.enum_told-1.given.1)
+    (λ c κs. usable (T c.before) (first c.before).args.s.now c.input_fault-f.ensures c.in-Clean.is)
     (λ c. search rules)
-    (λ c. let x = c.before.before.before in c.judge_list.ensures ∙ judged_by (T x) (first x).args.s.now (first x).args.ops.now x.input_fault-f.ensures c.before.enum_told-1.given.1)
-    (λ c. let x = c.before.before.before in judged_by (T x) (first x).args.s.now (first x).args.ops.now x.input_fault-f.ensures c.before.f-1.given.1))
+    (λ c. c.judge_list.ensures ∙ judged_by (T c.before.before) (first c.before.before).args.s.now (first c.before.before).args.ops.now c.input_fault-f.ensures c.in-Clean.is)
+    (λ c. judged_by (T c.before) (first c.before).args.s.now (first c.before).args.ops.now c.input_fault-f.ensures c.in-Fault.is))

@@ -18,17 +18,12 @@ t c = tables c.args.c c.args.facts.now c.args.costs.now c.args.shares.now
 decides : (c : tie.In-Clean) → let s = c.before.before.before.before.before.before in no_such_map (t s) s.args.map ≡ asked_fault (t s) s.args.map
 unfolding asked_fault
 decides c =
-    let f = c.before.before in
-    let s = f.before.before.before.before in
-    goes_on (tables_fault (t s)) (no_such_map (t s) s.args.map) f.tables_fault-found.result f.tables_fault-found.ensures c.enum_told-1.given.1
+    goes_on (tables_fault (t c.before.before.before.before.before)) (no_such_map (t c.before.before.before.before.before) c.args.map) c.tables_fault-found.result c.tables_fault-found.ensures c.in-Clean.is
 
 returns : tie.Need-returns-in_default
 unfolding asked_fault
 returns c =
-    let f = c.before.before in
-    let s = f.before.before.before.before in
-    let e = c.enum_told-in_default-1.given in
-    hands_on (tables_fault (t s)) (no_such_map (t s) s.args.map) f.tables_fault-found.result e.0.0 f.tables_fault-found.ensures e.1
+    hands_on (tables_fault (t c.before.before.before.before.before)) (no_such_map (t c.before.before.before.before.before) c.args.map) c.tables_fault-found.result c.in_default.field-0 c.tables_fault-found.ensures c.in_default.is
 
 pub asked_fault_spec : {M : Type 1} → statement M
 asked_fault_spec =
@@ -37,5 +32,5 @@ asked_fault_spec =
     (λ c. search rules)
     (λ c. search rules)
     returns
-    (λ c. map_there (t c.before.before.before.before.before.before.before.before) _ c.if-map-c.true ∙ decides c.before.before)
-    (λ c. map_missing (t c.before.before.before.before.before.before.before.before) _ c.if-map-c.false ∙ decides c.before.before))
+    (λ c. map_there (t c.before.before.before.before.before.before.before) _ c.if-map-c.true ∙ decides c.before.before)
+    (λ c. map_missing (t c.before.before.before.before.before.before.before) _ c.if-map-c.false ∙ decides c.before.before))

@@ -18,21 +18,19 @@ abbrev start : tie.After-distance_fault-found → tie.Start
 start c = c.before.before.before.before.before
 
 clean : (c : tie.In-Clean) → let s = start c.before.before in distance_fault (t s) s.args.map s.args.s.now ≡ Clean
-clean c = sym c.before.before.distance_fault-found.ensures ∙ c.enum_told-1.given.1
+clean c = sym c.distance_fault-found.ensures ∙ c.in-Clean.is
 
 at-image-requires : tie.Need-at_image-p-requires
-at-image-requires c κs = let s = start c.before.before in image_asked (t s) s.args.map s.args.s.now (clean c)
+at-image-requires c κs = let s = start c.before in image_asked (t s) s.args.map s.args.s.now (clean c)
 
 returns : tie.Need-returns-in-Fault
 returns c =
-    let f = c.before.before.before in
-    let e = c.before.found-1.given in
-    given_best_refused (t (start f)) (start f).args.map (start f).args.s.now e.0.0 (sym f.distance_fault-found.ensures ∙ e.1)
+    given_best_refused (t (start c.before)) (start c.before).args.map (start c.before).args.s.now c.in-Fault.f (sym c.distance_fault-found.ensures ∙ c.in-Fault.is)
 
 returns-2 : tie.Need-returns-in-Clean
 returns-2 c =
-    let s = start c.before.before.before.before in
-    let p = c.before.at_image-p in
+    let s = start c.before.before.before in
+    let p = c.at_image-p in
     given_best (t s) s.args.map s.args.s.now (advised p.result.op) (clean c.before.before) p.ensures.op c.as_best.ensures
 
 pub best_at_spec : {M : Type 1} → statement M

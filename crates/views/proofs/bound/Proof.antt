@@ -18,24 +18,22 @@ abbrev start : tie.After-input_fault-found → tie.Start
 start c = c.before.before.before.before.before
 
 clean : (c : tie.In-Clean) → let s = start c.before.before in input_fault (t s) s.args.s.now ≡ Clean
-clean c = sym c.before.before.input_fault-found.ensures ∙ c.enum_told-1.given.1
+clean c = sym c.input_fault-found.ensures ∙ c.in-Clean.is
 
 sum-of-requires : tie.Need-sum_of-requires
 sum-of-requires c κs =
-    let s = start c.before.before in
+    let s = start c.before in
     let q = bound_clean (t s) s.args.s.now (clean c) in
     (valid_unpriced (t s) q.0, (λ m lm o l. q.0.shares m o lm l), q.1)
 
 returns : tie.Need-returns-in-Fault
 returns c =
-    let f = c.before.before.before in
-    let e = c.before.found-1.given in
-    given_bound_refused (t (start f)) (start f).args.s.now e.0.0 (sym f.input_fault-found.ensures ∙ e.1)
+    given_bound_refused (t (start c.before)) (start c.before).args.s.now c.in-Fault.f (sym c.input_fault-found.ensures ∙ c.in-Fault.is)
 
 returns-2 : tie.Need-returns-in-Clean
 returns-2 c =
-    let s = start c.before.before.before.before in
-    given_bound (t s) s.args.s.now (clean c.before.before) c.before.sum_of.ensures c.as_bound.ensures
+    let s = start c.before.before.before in
+    given_bound (t s) s.args.s.now (clean c.before.before) c.sum_of.ensures c.as_bound.ensures
 
 pub bound_spec : {M : Type 1} → statement M
 bound_spec =

@@ -11,18 +11,18 @@ use Rattle.views.proofs.distance_fault.Tie as tie
 returns : tie.Need-returns-in_default
 unfolding distance_fault
 returns c =
-    let a = c.before.before.before.before.before.before.before.args in
-    let asked-fault = c.before.before.asked_fault-found in
+    let a = c.args in
+    let asked-fault = c.asked_fault-found in
     let t = tables a.c a.facts.now a.costs.now a.shares.now in
-    hands_on (asked_fault t a.map) (state_fault a.c a.facts.now a.s.now) asked-fault.result c.enum_told-in_default-1.given.0.0 asked-fault.ensures c.enum_told-in_default-1.given.1
+    hands_on (asked_fault t a.map) (state_fault a.c a.facts.now a.s.now) asked-fault.result c.in_default.field-0 asked-fault.ensures c.in_default.is
 
-returns-2 : tie.Need-returns
+returns-2 : tie.Need-returns-in_default
 unfolding distance_fault
 returns-2 c =
-    let a = c.before.before.before.before.before.before.before.before.args in
-    let asked-fault = c.before.before.before.asked_fault-found in
+    let a = c.args in
+    let asked-fault = c.asked_fault-found in
     let t = tables a.c a.facts.now a.costs.now a.shares.now in
-    c.state_fault.ensures ∙ goes_on (asked_fault t a.map) (state_fault a.c a.facts.now a.s.now) asked-fault.result asked-fault.ensures c.before.enum_told-1.given.1
+    c.state_fault.ensures ∙ goes_on (asked_fault t a.map) (state_fault a.c a.facts.now a.s.now) asked-fault.result asked-fault.ensures c.in-Clean.is
 
 pub distance_fault_spec : {M : Type 1} → statement M
 distance_fault_spec =

@@ -21,46 +21,38 @@ abbrev start : tie.Else-best-lt-STATES_ROOM → tie.Start
 start c = c.before.before.before.before.before.before.before
 
 clean : (c : tie.In-Clean) → let s = start c.before.before.before in asked_fault (t s) s.args.map ≡ Clean
-clean c = sym c.before.before.asked_fault-found.ensures ∙ c.enum_told-1.given.1
+clean c = sym c.asked_fault-found.ensures ∙ c.in-Clean.is
 
 returns : tie.Need-returns-then-out-lt-STATES_ROOM
 returns c =
-    let s = c.before.before.before.before.before.before in
-    given_short (t s) s.args.map s.args.out-1.now s.args.best-1.now (inl c.if-out-lt-STATES_ROOM.true)
+    given_short (t c.before.before.before.before.before.before) c.args.map c.args.out-1.now c.args.best-1.now (inl c.if-out-lt-STATES_ROOM.true)
 
 returns-2 : tie.Need-returns-then-best-lt-STATES_ROOM
 returns-2 c =
-    let s = c.before.before.before.before.before.before.before in
-    given_short (t s) s.args.map s.args.out-1.now s.args.best-1.now (inr c.if-best-lt-STATES_ROOM.true)
+    given_short (t c.before.before.before.before.before.before.before) c.args.map c.args.out-1.now c.args.best-1.now (inr c.if-best-lt-STATES_ROOM.true)
 
 view-rounds-requires : tie.Need-view_rounds-requires
 view-rounds-requires c κs =
-    let e = c.before.before.before.before in
-    let long = e.before.before.before in
-    let s = start long in
+    let s = start c.before.before.before.before.before.before in
     let m = s.args.map in
-    let row = c.before.before.before.share_row-prices in
-    let q = asked_clean (t s) m (clean e) in
+    let row = c.share_row-prices in
+    let q = asked_clean (t s) m (clean c.before.before.before.before) in
     let prices = shares_priced (t s).counts (t s).shares m row.result q.0.ops row.ensures (λ o l. q.0.shares m o q.1 l) in
-    ((valid_unpriced (t s) q.0, q.1, prices), (long.before.if-out-lt-STATES_ROOM.false, long.if-best-lt-STATES_ROOM.false))
+    ((valid_unpriced (t s) q.0, q.1, prices), (c.if-out-lt-STATES_ROOM.false, c.if-best-lt-STATES_ROOM.false))
 
 returns-3 : tie.Need-returns-in-Fault
 returns-3 c =
-    let long = c.before.before.before.before in
-    let s = start long in
-    let e = c.before.found-1.given in
-    given_refused (t s) s.args.map s.args.out-1.now s.args.best-1.now e.0.0 long.before.if-out-lt-STATES_ROOM.false long.if-best-lt-STATES_ROOM.false
-    (sym c.before.before.before.asked_fault-found.ensures ∙ e.1)
+    let s = start c.before.before in
+    given_refused (t s) s.args.map s.args.out-1.now s.args.best-1.now c.in-Fault.f c.if-out-lt-STATES_ROOM.false c.if-best-lt-STATES_ROOM.false
+    (sym c.asked_fault-found.ensures ∙ c.in-Fault.is)
 
 returns-4 : tie.Need-returns-in-Clean
 returns-4 c =
-    let e = c.before.before.before.before.before.before.before.before.before in
-    let long = e.before.before.before in
-    let s = start long in
+    let s = start c.before.before.before.before.before.before.before.before.before.before.before in
     let m = s.args.map in
-    let row = c.before.before.before.before.before.before.before.before.share_row-prices in
-    given_rounds (t s) m row.result (λ o l. row.ensures o (omega (arith, (asked_clean (t s) m (clean e)).0.ops)))
-    long.before.if-out-lt-STATES_ROOM.false long.if-best-lt-STATES_ROOM.false (clean e) c.before.before.before.before.view_rounds.ensures
+    let row = c.share_row-prices in
+    given_rounds (t s) m row.result (λ o l. row.ensures o (omega (arith, (asked_clean (t s) m (clean c.before.before.before.before.before.before.before.before.before)).0.ops)))
+    c.if-out-lt-STATES_ROOM.false c.if-best-lt-STATES_ROOM.false (clean c.before.before.before.before.before.before.before.before.before) c.view_rounds.ensures
 
 pub distances_spec : {M : Type 1} → statement M
 distances_spec =

@@ -9,11 +9,11 @@ bound_word_spec =
     tie.close
     (tie.spec
     (λ c. search rules)
-    (λ c. omega (arith, rw c.before.a-1.given.1 at c.before.before.before.requires))
+    (λ c. omega (arith, rw c.in-Of.is at c.requires))
     (λ c. search rules)
     (λ c κs. search rules)
     (λ c. search rules)
     (λ c κs. search rules)
-    (λ c. rw c.before.a-1.given.1 (omega arith))
+    (λ c. rw c.in-Of.is (omega arith))
     (λ c. search rules)
-    (λ c. rw c.before.before.a-in-Refused-1.given.1 c.refused_word.ensures))
+    (λ c. rw c.in-Refused.is c.refused_word.ensures))

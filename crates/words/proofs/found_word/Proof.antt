@@ -12,4 +12,4 @@ found_word_spec =
     (λ c. search rules)
     (λ c κs. search rules)
     (λ c. search rules)
-    (λ c. rw c.before.before.found-1.given.1 c.refused_word.ensures))
+    (λ c. rw c.in-Fault.is c.refused_word.ensures))

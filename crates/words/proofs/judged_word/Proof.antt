@@ -11,5 +11,5 @@ judged_word_spec =
     (λ c κs. search rules)
     (λ c. search rules)
     (λ c κs. search rules)
-    (λ c. rw c.before.before.a-1.given.1 c.word.ensures)
-    (λ c. rw c.before.before.a-in-Refused-1.given.1 c.refused_word.ensures))
+    (λ c. rw c.in-Passed.is c.word.ensures)
+    (λ c. rw c.in-Refused.is c.refused_word.ensures))

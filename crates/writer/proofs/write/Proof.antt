@@ -26,12 +26,11 @@ laid t {b = b} e h p =
 
 returns-2 : tie.Need-returns-in-Fault
 returns-2 c =
-    let found = c.before.before.before in
-    sym (fault_told _ _ found.before.if-out-lt-BYTES_MOST.false _ (sym found.tables_fault-found.ensures ∙ c.before.found-1.given.1))
+    sym (fault_told _ _ c.if-out-lt-BYTES_MOST.false _ (sym c.tables_fault-found.ensures ∙ c.in-Fault.is))
 
 put-task-requires : tie.Need-put_task-requires
 put-task-requires c κs =
-    let s = tables_small _ (sym c.before.before.before.tables_fault-found.ensures ∙ c.before.enum_told-1.given.1) in
+    let s = tables_small _ (sym c.tables_fault-found.ensures ∙ c.in_default.is) in
     (s.vars, s.ops, s.maps)
 
 cast-t13 : tie.Need-overflow-cast-t13
@@ -44,11 +43,9 @@ cast-t13 c =
 
 returns-3 : tie.Need-returns
 returns-3 c =
-    let told = c.before.before.before.before in
-    let found = told.before.before in
-    let clean = sym found.tables_fault-found.ensures ∙ told.enum_told-1.given.1 in
-    let e = laid _ c.before.before.put_task.ensures found.before.if-out-lt-BYTES_MOST.false clean in
-    ap₂ (λ (n : ℕ) (o : List ℕ). page (Length n) o) e.0 e.1 ∙ sym (tables_written _ _ found.before.if-out-lt-BYTES_MOST.false clean)
+    let clean = sym c.tables_fault-found.ensures ∙ c.in_default.is in
+    let e = laid _ c.put_task.ensures c.if-out-lt-BYTES_MOST.false clean in
+    ap₂ (λ (n : ℕ) (o : List ℕ). page (Length n) o) e.0 e.1 ∙ sym (tables_written _ _ c.if-out-lt-BYTES_MOST.false clean)
 
 pub write_spec : {M : Type 1} → statement M
 write_spec =

@@ -25,7 +25,7 @@ element-write-self : tie.Need-bounds-self-at
 unfolding most_steps
 element-write-self c = omega (arith, c.before.before.before.before.before.before.before.before.before.requires.2)
 
-add-self : tie.Need-overflow-add-self
+add-self : tie.Need-overflow_add-self
 unfolding most_steps
 add-self c = omega (arith, c.before.before.before.before.before.before.before.before.before.requires.2)
 

@@ -9,35 +9,31 @@ use Rattle.ledger.proofs.Run.answer.Statement.{statement}
 use Rattle.ledger.proofs.Run.answer.Tie as tie
 
 is-run-requires : tie.Need-is_run-requires
-is-run-requires c κs = sym c.before.before.tables_fault-found.ensures ∙ c.enum_told-1.given.1
+is-run-requires c κs = sym c.tables_fault-found.ensures ∙ c.in-Clean.is
 
 returns : tie.Need-returns-then-not-is_run
 returns c =
-    let x = c.before.before in
-    answered_not_a_run _ _ _ _ (sym x.before.before.tables_fault-found.ensures ∙ x.enum_told-1.given.1)
-    (sym c.before.is_run_lem.ensures ∙ not-true c.before.is_run_lem.result c.if-not-is_run.true)
+    answered_not_a_run _ _ _ _ (sym c.tables_fault-found.ensures ∙ c.in-Clean.is)
+    (sym c.is_run_lem.ensures ∙ c.if-not-is_run.true)
 
 judge-requires : tie.Need-judge-requires
 judge-requires c κs =
-    let x = c.before.before in
-    let clean = sym x.before.before.tables_fault-found.ensures ∙ x.enum_told-1.given.1 in
+    let clean = sym c.tables_fault-found.ensures ∙ c.in-Clean.is in
     let valid = clean_valid _ clean in (
       valid.vars.1,
       valid.ops,
       (clean_room _ clean).0,
-      (run_tested _ _ (sym c.before.is_run_lem.ensures ∙ not-false c.before.is_run_lem.result c.if-not-is_run.false)).len,
+      (run_tested _ _ (sym c.is_run_lem.ensures ∙ c.if-not-is_run.false)).len,
     )
 
 returns-2 : tie.Need-returns-else-not-is_run
 returns-2 c =
-    let y = c.before in
-    let x = y.before.before in
     c.judge.ensures
-    ∙ answered_judged _ _ _ _ (sym x.before.before.tables_fault-found.ensures ∙ x.enum_told-1.given.1)
-    (sym y.before.is_run_lem.ensures ∙ not-false y.before.is_run_lem.result y.if-not-is_run.false)
+    ∙ answered_judged _ _ _ _ (sym c.tables_fault-found.ensures ∙ c.in-Clean.is)
+    (sym c.is_run_lem.ensures ∙ c.if-not-is_run.false)
 
 returns-3 : tie.Need-returns-in-Fault
-returns-3 c = answered_fault _ _ _ _ _ (sym c.before.before.before.tables_fault-found.ensures ∙ c.before.found-1.given.1)
+returns-3 c = answered_fault _ _ _ _ _ (sym c.tables_fault-found.ensures ∙ c.in-Fault.is)
 
 pub answer_spec : {M : Type 1} → statement M
 answer_spec =

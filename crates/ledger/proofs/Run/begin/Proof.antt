@@ -7,18 +7,16 @@ use Rattle.ledger.proofs.Run.begin.Statement.{statement}
 use Rattle.ledger.proofs.Run.begin.Tie as tie
 
 copy-requires : tie.Need-copy-requires
-copy-requires c κs = few_vars _ _ (sym c.before.before.input_fault-found.ensures ∙ c.enum_told-1.given.1)
+copy-requires c κs = few_vars _ _ (sym c.input_fault-found.ensures ∙ c.in-Clean.is)
 
 returns : tie.Need-returns-in-Clean
 returns c =
-    let x = c.before.before in
-    begun_clean _ _ _ (sym x.before.before.input_fault-found.ensures ∙ x.enum_told-1.given.1)
-    (c.fresh-run.ensures ∙ ap fresh c.before.copy.ensures)
+    begun_clean _ _ _ (sym c.input_fault-found.ensures ∙ c.in-Clean.is)
+    (c.fresh-run.ensures ∙ ap fresh c.copy.ensures)
 
 returns-2 : tie.Need-returns-in-Fault
 returns-2 c =
-    let x = c.before.before in
-    begun_fault _ _ _ _ (sym x.before.before.input_fault-found.ensures ∙ x.found-1.given.1) c.fresh-run-in-Fault.ensures
+    begun_fault _ _ _ _ (sym c.input_fault-found.ensures ∙ c.in-Fault.is) c.fresh-run-in-Fault.ensures
 
 pub begin_spec : {M : Type 1} → statement M
 begin_spec =

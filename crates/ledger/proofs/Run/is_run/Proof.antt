@@ -30,21 +30,21 @@ unfolding most_steps
 returns c = run_long _ _ c.if-len-gt-STEPS_MOST.true
 
 returns-2 : tie.Need-returns-then-not-start_in
-returns-2 c = let x = c.before.start_in in run_outside _ _ (sym x.ensures ∙ not-true x.result c.if-not-start_in.true)
+returns-2 c = let x = c.before.start_in in run_outside _ _ (sym x.ensures ∙ c.if-not-start_in.true)
 
 returns-3 : tie.Need-returns-then-not-zeros_from
-returns-3 c = let x = c.before.zeros_from in run_used _ _ (sym x.ensures ∙ not-true x.result c.if-not-zeros_from.true)
+returns-3 c = let x = c.before.zeros_from in run_used _ _ (sym x.ensures ∙ c.if-not-zeros_from.true)
 
 replay-requires : tie.Need-replay-t-requires
 unfolding most_steps
 replay-requires c κs =
     let x = after-len (after-start c.before.before.before) in
     let start = x.before.before.before.before in
-    (start.pre, x.if-len-gt-STEPS_MOST.left, omega (arith, x.if-len-gt-STEPS_MOST.left, c.replay-arg-2-1.given))
+    (start.requires, x.if-len-gt-STEPS_MOST.left, omega (arith, x.if-len-gt-STEPS_MOST.left, c.replay-arg-2-1.given))
 
 returns-4 : tie.Need-returns-then-not-t
 unfolding given
-returns-4 c = let x = c.before.before.replay-t in run_stuck _ _ _ x.ensures (not-true x.result.ok c.if-not-t.true)
+returns-4 c = let x = c.before.before.replay-t in run_stuck _ _ _ x.ensures (c.if-not-t.true)
 
 returns-5 : tie.Need-returns
 unfolding given most_steps
@@ -55,9 +55,9 @@ returns-5 c =
     let x2 = after-start x3 in
     let x1 = after-len x2 in
     run_stands _ _ _ r.replay-t.ensures _ x1.if-len-gt-STEPS_MOST.left
-    (sym x2.before.start_in.ensures ∙ not-false x2.before.start_in.result x2.if-not-start_in.left)
-    (sym x3.before.zeros_from.ensures ∙ not-false x3.before.zeros_from.result x3.if-not-zeros_from.left)
-    (not-false r.replay-t.result.ok x4.if-not-t.false)
+    (sym x2.before.start_in.ensures ∙ x2.if-not-start_in.left)
+    (sym x3.before.zeros_from.ensures ∙ x3.if-not-zeros_from.left)
+    (x4.if-not-t.false)
     c.stands_at.ensures
 
 pub is_run_spec : {M : Type 1} → statement M

@@ -17,7 +17,7 @@ returns c = next-full _ _ _ _ _ (omega (arith, c.if-self-ge-STEPS_MOST.true))
 
 returns-2 : tie.Need-returns-then-not-can_run
 unfolding most_steps
-returns-2 c = let x = c.before.can_run in next-not _ _ _ _ _ (omega (arith, c.before.before.before.before.if-self-ge-STEPS_MOST.false)) (sym x.ensures ∙ not-true x.result c.if-not-can_run.true)
+returns-2 c = let x = c.before.can_run in next-not _ _ _ _ _ (omega (arith, c.before.before.before.before.if-self-ge-STEPS_MOST.false)) (sym x.ensures ∙ c.if-not-can_run.true)
 
 -- the run has room, and the operator can run
 module _ (c : tie.Else-not-can_run) where
@@ -29,7 +29,7 @@ module _ (c : tie.Else-not-can_run) where
   room = omega (arith, c.before.before.before.before.if-self-ge-STEPS_MOST.false)
 
   can : let a = first.args in can_run a.c a.facts.now a.t1.now a.op.0 ≡ true
-  can = let x = c.before.can_run in sym x.ensures ∙ not-false x.result c.if-not-can_run.false
+  can = let x = c.before.can_run in sym x.ensures ∙ c.if-not-can_run.false
 
 returns-3 : tie.Need-returns-then-within_quota
 returns-3 c =

@@ -6,16 +6,16 @@ use Rattle.ledger.proofs.Run.offer.Statement.{statement}
 use Rattle.ledger.proofs.Run.offer.Tie as tie
 
 advance-requires : tie.Need-advance-self-requires
-advance-requires c κs = step_asks _ _ _ _ (sym c.before.before.answer-a.ensures ∙ c.enum_told-1.given.1)
+advance-requires c κs = step_asks _ _ _ _ (sym c.answer-a.ensures ∙ c.in-Accepted.is)
 
 returns : tie.Need-returns-in-Accepted
-returns c = offered_accepted _ _ _ _ _ c.before.before.before.answer-a.ensures _ c.before.enum_told-1.given.1 c.advance-self.ensures
+returns c = offered_accepted _ _ _ _ _ c.answer-a.ensures _ c.in-Accepted.is c.advance-self.ensures
 
 returns-2 : tie.Need-returns-in-Repeated
-returns-2 c = offered_repeated _ _ _ _ _ c.before.before.answer-a.ensures c.enum_told-in-Repeated-1.given.1
+returns-2 c = offered_repeated _ _ _ _ _ c.answer-a.ensures c.in-Repeated.is
 
 returns-3 : tie.Need-returns-in-Refused
-returns-3 c = offered_refused _ _ _ _ _ c.before.before.answer-a.ensures _ c.enum_told-in-Refused-1.given.1
+returns-3 c = offered_refused _ _ _ _ _ c.answer-a.ensures _ c.in-Refused.is
 
 pub offer_spec : {M : Type 1} → statement M
 offer_spec =

@@ -7,13 +7,13 @@ use Rattle.ledger.proofs.Run.stands_at.Statement.{statement}
 use Rattle.ledger.proofs.Run.stands_at.Tie as tie
 
 returns : tie.Need-returns-then-not-same_bytes
-returns c = let x = c.before.same_bytes in now_differs _ _ (sym x.ensures ∙ not-true x.result c.if-not-same_bytes.true)
+returns c = let x = c.before.same_bytes in now_differs _ _ (sym x.ensures ∙ c.if-not-same_bytes.true)
 
 returns-2 : tie.Need-returns
 returns-2 c =
     let y = c.before.before.before.before.before.before.before in
     let x = y.before.same_bytes in
-    columns_decide _ _ _ (sym x.ensures ∙ not-false x.result y.if-not-same_bytes.false) c.same_words.ensures
+    columns_decide _ _ _ (sym x.ensures ∙ y.if-not-same_bytes.false) c.same_words.ensures
 
 pub stands_at_spec : {M : Type 1} → statement M
 stands_at_spec = tie.close (tie.spec

@@ -46,7 +46,7 @@ abbrev task : Loop → Task
 task x = task_of (T x)
 
 valid : (x : Loop) → Valid (task x)
-valid x = clean_valid (T x) (first x).pre.0
+valid x = clean_valid (T x) (first x).requires.0
 
 -- ---- in a turn
 
@@ -55,7 +55,7 @@ module _ (x : Loop) (turn : x.loop-m.m < (first x).args.c.maps) where
   a-map = omega (arith, (valid x).maps.1)
 
   within : share_place x.loop-m.m (first x).args.op.0 < length (first x).args.shares.now
-  within = omega (arith, a-map, (clean_room (T x) (first x).pre.0).2, (first x).pre.1, (valid x).ops)
+  within = omega (arith, a-map, (clean_room (T x) (first x).requires.0).2, (first x).requires.1, (valid x).ops)
 
   -- what the map's column has, and what the shares are together, fit with one share more
   abbrev share : ℕ
@@ -65,18 +65,18 @@ module _ (x : Loop) (turn : x.loop-m.m < (first x).args.c.maps) where
   column_fits =
       omega (
         arith,
-        filled_still _ _ _ _ x.loop-m.inv.1,
-        (valid x).shares x.loop-m.m (first x).args.op.0 turn (first x).pre.1,
-        (first x).pre.2 x.loop-m.m (omega (arith, a-map)),
+        filled_still _ _ _ _ x.loop-m.invariant.1,
+        (valid x).shares x.loop-m.m (first x).args.op.0 turn (first x).requires.1,
+        (first x).requires.2 x.loop-m.m (omega (arith, a-map)),
       )
 
   shared-fits : x.loop-m.shared + share < 4294967296
   shared-fits =
       omega (
         arith,
-        x.loop-m.inv.2,
-        shares_fit (task x) (valid x) (first x).args.op.0 (first x).pre.1 x.loop-m.m turn,
-        (valid x).costs (first x).args.op.0 (first x).pre.1,
+        x.loop-m.invariant.2,
+        shares_fit (task x) (valid x) (first x).args.op.0 (first x).requires.1 x.loop-m.m turn,
+        (valid x).costs (first x).args.op.0 (first x).requires.1,
       )
 
 loop-again : tie.Need-loop-m-preserved invariant-loop decreases-loop
@@ -95,22 +95,22 @@ module _ (x : Loop) (done : (first x).args.c.maps ≤ x.loop-m.m) where
   o = (first x).args.op.0
 
   all_shares : x.loop-m.shared ≡ sum (λ m. (task x).share m o) (first x).args.c.maps
-  all_shares = sum_end _ (first x).args.c.maps x.loop-m.m _ x.loop-m.inv.2 x.loop-m.inv.0 done
+  all_shares = sum_end _ (first x).args.c.maps x.loop-m.m _ x.loop-m.invariant.2 x.loop-m.invariant.0 done
 
   a-cost : o < length (first x).args.costs.now
-  a-cost = omega (arith, (clean_room (T x) (first x).pre.0).1, (first x).pre.1, (valid x).ops)
+  a-cost = omega (arith, (clean_room (T x) (first x).requires.0).1, (first x).requires.1, (valid x).ops)
 
   shares-within : x.loop-m.shared ≤ cost_at (first x).args.costs.now o
-  shares-within = omega (arith, all_shares, (valid x).split o (first x).pre.1)
+  shares-within = omega (arith, all_shares, (valid x).split o (first x).requires.1)
 
   unshared-fits : get_or x.loop-m.columns-1 unshared 0 + (cost_at (first x).args.costs.now o - x.loop-m.shared) < 4294967296
   unshared-fits =
-      let few : x.loop-m.m ≤ unshared = omega (arith, x.loop-m.inv.0, (valid x).maps.1) in
+      let few : x.loop-m.m ≤ unshared = omega (arith, x.loop-m.invariant.0, (valid x).maps.1) in
       omega (
         arith,
-        column_still (task x) (first x).args.columns-1.now x.loop-m.columns-1 o x.loop-m.m unshared few x.loop-m.inv.1,
-        (valid x).costs o (first x).pre.1,
-        (first x).pre.2 unshared (omega arith),
+        column_still (task x) (first x).args.columns-1.now x.loop-m.columns-1 o x.loop-m.m unshared few x.loop-m.invariant.1,
+        (valid x).costs o (first x).requires.1,
+        (first x).requires.2 unshared (omega arith),
       )
 
   -- with the rest booked only the stored tests are left
@@ -120,7 +120,7 @@ module _ (x : Loop) (done : (first x).args.c.maps ≤ x.loop-m.m) where
   rest-booked : with_rest ≡ overwritten (booked_at (task x) (first x).args.columns-1.now o) (first x).args.columns-1.now stored_tests
   rest-booked =
       booked_rest (task x) (first x).args.columns-1.now x.loop-m.columns-1 o _ (valid x).maps.1
-      (filled_end _ _ _ (first x).args.c.maps x.loop-m.m x.loop-m.inv.1 x.loop-m.inv.0 done)
+      (filled_end _ _ _ (first x).args.c.maps x.loop-m.m x.loop-m.invariant.1 x.loop-m.invariant.0 done)
       (rest_is (task x) o _ _ refl all_shares)
 
   stored-fits : get_or with_rest stored_tests 0 + (task x).mark o < 4294967296
@@ -128,8 +128,8 @@ module _ (x : Loop) (done : (first x).args.c.maps ≤ x.loop-m.m) where
       omega (
         arith,
         column_still (task x) (first x).args.columns-1.now with_rest o stored_tests stored_tests (omega arith) rest-booked,
-        (valid x).marks o (first x).pre.1,
-        (first x).pre.2 stored_tests (omega arith),
+        (valid x).marks o (first x).requires.1,
+        (first x).requires.2 stored_tests (omega arith),
       )
 
 abbrev marked : tie.After-mark_of invariant-loop decreases-loop → Loop
@@ -151,8 +151,8 @@ book_spec =
     loop-holds
     (λ c. search rules)
     (λ c. omega (arith, within c.before.before c.loop-m-test.true, a-map c.before.before c.loop-m-test.true))
-    (λ c. omega (arith, within c.before.before c.loop-m-test.true, a-map c.before.before c.loop-m-test.true, (first c.before.before).pre.1, (valid c.before.before).ops))
-    (λ c. omega (arith, a-map c.before.before c.loop-m-test.true, (first c.before.before).pre.1, (valid c.before.before).ops))
+    (λ c. omega (arith, within c.before.before c.loop-m-test.true, a-map c.before.before c.loop-m-test.true, (first c.before.before).requires.1, (valid c.before.before).ops))
+    (λ c. omega (arith, a-map c.before.before c.loop-m-test.true, (first c.before.before).requires.1, (valid c.before.before).ops))
     (λ c. within c.before.before.before c.before.loop-m-test.true)
     (λ c. omega (arith, a-map c.before.before.before c.before.loop-m-test.true))
     (λ c. omega (arith, a-map c.before.before.before c.before.loop-m-test.true))
@@ -164,7 +164,7 @@ book_spec =
     (λ c. search rules)
     loop-again
     (λ c. search rules)
-    (λ c. omega (arith, (first c.before.before.before).pre.1, (valid c.before.before.before).ops))
+    (λ c. omega (arith, (first c.before.before.before).requires.1, (valid c.before.before.before).ops))
     (λ c. a-cost c.before.before.before.before c.before.before.loop-m-test.false)
     (λ c. shares-within c.before.before.before.before c.before.before.loop-m-test.false)
     (λ c. omega (arith, unshared-fits c.before.before.before.before c.before.before.loop-m-test.false))

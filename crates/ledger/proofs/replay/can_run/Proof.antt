@@ -55,12 +55,12 @@ decided x e =
 returns-2 : tie.Need-returns-then-not-fact_holds invariant-loop decreases-loop
 returns-2 c =
     let x = c.before.before.before.before.before in
-    decided x (every_false (says x) (first x).args.c.vars x.loop-v.v (omega arith) (told c.before ∙ not-true c.before.fact_holds.result c.if-not-fact_holds.true))
+    decided x (every_false (says x) (first x).args.c.vars x.loop-v.v (omega arith) (told c.before ∙ c.if-not-fact_holds.true))
 
 loop-again : tie.Need-loop-v-preserved invariant-loop decreases-loop
 loop-again c =
     let x = c.before.before.before.before.before in
-    (omega arith, every_more (says x) x.loop-v.v x.loop-v.invariant.1 (told c.before ∙ not-false c.before.fact_holds.result c.if-not-fact_holds.false))
+    (omega arith, every_more (says x) x.loop-v.v x.loop-v.invariant.1 (told c.before ∙ c.if-not-fact_holds.false))
 
 returns-3 : tie.Need-returns invariant-loop decreases-loop
 returns-3 c =
@@ -81,7 +81,7 @@ can_run_spec =
     (λ c. search rules)
     (λ c. omega (arith, within c.before c.loop-v-test.true))
     (λ c. within c.before.before c.before.loop-v-test.true)
-    (λ c. omega (arith, c.before.loop-v-test.true, (first c.before.before).pre.0))
+    (λ c. omega (arith, c.before.loop-v-test.true, (first c.before.before).requires.0))
     (λ c κs. search rules)
     returns-2
     (λ c. search rules)

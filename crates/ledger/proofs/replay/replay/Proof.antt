@@ -47,14 +47,14 @@ abbrev next : Loop → ℕ
 next x = get_or (first x).args.log.now x.loop-i.i 0
 
 valid : (x : Loop) → Valid (task_of (T x))
-valid x = clean_valid (T x) (first x).pre.0
+valid x = clean_valid (T x) (first x).requires.0
 
 abbrev asked : tie.After-can_follow invariant-loop decreases-loop → Loop
 asked y = y.before.before.before.before.before
 
 -- the next operator can follow
 can : (c : tie.Else-not-can_follow invariant-loop decreases-loop) → let x = asked c.before in can_follow (first x).args.c (first x).args.facts.now (stands x) (next x) ≡ true
-can c = let y = c.before.can_follow in sym y.ensures ∙ not-false y.result c.if-not-can_follow.false
+can c = let y = c.before.can_follow in sym y.ensures ∙ c.if-not-can_follow.false
 
 exists : (c : tie.Else-not-can_follow invariant-loop decreases-loop) → let x = asked c.before in next x < (first x).args.c.ops
 exists c = follow_exists _ _ _ _ (can c)
@@ -73,20 +73,20 @@ can-follow-requires c κs =
 step-requires : tie.Need-step-requires invariant-loop decreases-loop
 step-requires c κs =
     let x = asked c.before.before in
-    ((valid x).vars.1, omega (arith, exists c.before, (valid x).ops), (clean_room (T x) (first x).pre.0).0)
+    ((valid x).vars.1, omega (arith, exists c.before, (valid x).ops), (clean_room (T x) (first x).requires.0).0)
 
 book-requires : tie.Need-book-requires invariant-loop decreases-loop
 book-requires c κs =
     let z = c.before.before.before in
     let x = asked z.before in
-    let room = column_room x.loop-i.i x.loop-i.columns-1 (omega (arith, (first x).pre.1, z.before.before.before.before.before.loop-i-test.true)) in
-    ((first x).pre.0, exists z, room x.loop-i.inv.2)
+    let room = column_room x.loop-i.i x.loop-i.columns-1 (omega (arith, (first x).requires.1, z.before.before.before.before.before.loop-i-test.true)) in
+    ((first x).requires.0, exists z, room x.loop-i.invariant.2)
 
 returns : tie.Need-returns-then-not-can_follow invariant-loop decreases-loop
 returns c =
     let y = c.before in
     let x = asked y in
-    given_stop (T x) _ _ _ (first x).pre.2 (stands x) _ x.loop-i.inv.1 (omega arith) (sym y.can_follow.ensures ∙ not-true y.can_follow.result c.if-not-can_follow.true)
+    given_stop (T x) _ _ _ (first x).requires.2 (stands x) _ x.loop-i.invariant.1 (omega arith) (sym y.can_follow.ensures ∙ c.if-not-can_follow.true)
 
 loop-again : tie.Need-loop-i-preserved invariant-loop decreases-loop
 loop-again c =
@@ -94,8 +94,8 @@ loop-again c =
     let x = asked z.before in
     let on = stepped_onward (T x) (stands x) (next x) _ _ c.before.before.step.ensures c.book.ensures in (
       omega arith,
-      given_next (T x) _ _ _ (first x).pre.2 (stands x) _ x.loop-i.inv.1 _ (omega arith) (can z) on,
-      bounded_step (T x) (valid x) _ (stands x) _ (next x) (exists z) x.loop-i.inv.2 on,
+      given_next (T x) _ _ _ (first x).requires.2 (stands x) _ x.loop-i.invariant.1 _ (omega arith) (can z) on,
+      bounded_step (T x) (valid x) _ (stands x) _ (next x) (exists z) x.loop-i.invariant.2 on,
     )
 
 returns-2 : tie.Need-returns invariant-loop decreases-loop
@@ -111,7 +111,7 @@ replay_spec =
     decreases-loop
     loop-holds
     (λ c. search rules)
-    (λ c. omega (arith, (first c.before.before).pre.2, c.before.loop-i-test.true))
+    (λ c. omega (arith, (first c.before.before).requires.2, c.before.loop-i-test.true))
     can-follow-requires
     returns
     step-requires

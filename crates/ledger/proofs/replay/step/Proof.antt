@@ -71,9 +71,9 @@ step_spec =
     (λ c. search rules)
     (λ c. omega (arith, within c.before c.loop-v-test.true))
     (λ c. within c.before.before c.before.loop-v-test.true)
-    (λ c. omega (arith, c.before.loop-v-test.true, (first c.before.before).pre.0))
+    (λ c. omega (arith, c.before.loop-v-test.true, (first c.before.before).requires.0))
     (λ c κs. search rules)
-    (λ c. omega (arith, c.before.before.before.loop-v-test.true, (first c.before.before.before.before).pre.0))
+    (λ c. omega (arith, c.before.before.before.loop-v-test.true, (first c.before.before.before.before).requires.0))
     (λ c. search rules)
     (λ c. search rules)
     loop-again

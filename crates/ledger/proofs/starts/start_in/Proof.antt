@@ -28,7 +28,7 @@ returns c =
     let a = l.before.before.args in
     sym
     (every_false (starts_at a.c a.facts.now a.t3) most_vars l.loop-v.v (omega arith)
-    (sym c.before.start_at.ensures ∙ not-true c.before.start_at.result c.if-not-start_at.true))
+    (sym c.before.start_at.ensures ∙ c.if-not-start_at.true))
 
 loop-again : tie.Need-loop-v-preserved invariant-loop decreases-loop
 loop-again c =
@@ -36,7 +36,7 @@ loop-again c =
     let a = l.before.before.args in (
       omega arith,
       every_more (starts_at a.c a.facts.now a.t3) l.loop-v.v l.loop-v.invariant.1
-          (sym c.before.start_at.ensures ∙ not-false c.before.start_at.result c.if-not-start_at.false),
+          (sym c.before.start_at.ensures ∙ c.if-not-start_at.false),
     )
 
 returns-2 : tie.Need-returns invariant-loop decreases-loop

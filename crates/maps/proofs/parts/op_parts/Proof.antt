@@ -43,7 +43,7 @@ adds : (c : tie.After-row_at-in-loop-o invariant-loop decreases-loop)
     → put (eff_at (start (turn c)).args.facts.now (turn c).before.loop-o.o (start (turn c)).args.v) (start (turn c)).args.x * (start (turn c)).args.stride
     < most_states
 adds c =
-    let pre = (start (turn c)).pre.0 in
+    let pre = (start (turn c)).requires.0 in
     op_adds (start (turn c)).args.stride pre.0 pre.1 pre.2 pre.3 (turn c).before.loop-o.o (turn c).loop-o-test.true
 
 loop-again : tie.Need-loop-o-preserved invariant-loop decreases-loop
@@ -52,7 +52,7 @@ loop-again c =
     let a = (start i).args in
     let pre = c.before.before.before.row_at.ensures ∙ ap (λ (r : ℕ). row_at a.facts.now r a.v) c.before.before.before.before.pre_row.ensures in
     let part = ap₂ (λ (p e : ℕ). part_of p e a.x a.stride) pre (eff c.before) in
-    (search rules, op_more i.before.loop-o.inv.1 (op i) (inside i) (c.part_of.ensures ∙ part) (adds c.before))
+    (search rules, op_more i.before.loop-o.invariant.1 (op i) (inside i) (c.part_of.ensures ∙ part) (adds c.before))
 
 pub op_parts_spec : {M : Type 1} → statement M
 op_parts_spec =

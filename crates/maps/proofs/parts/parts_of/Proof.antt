@@ -43,10 +43,10 @@ loop-again c =
     let i = turn c in
     let l = i.before.loop-v in
     let a = (start i).args in
-    let stride = ap₂ ◌*◌ l.inv.1 (dom c) ∙ mul_assoc a.unit (size (dom_at a.facts.now) l.v) (dom_at a.facts.now l.v) in (
+    let stride = ap₂ ◌*◌ l.invariant.1 (dom c) ∙ mul_assoc a.unit (size (dom_at a.facts.now) l.v) (dom_at a.facts.now l.v) in (
       search rules,
       rw add-one stride,
-      parted_more l.inv.2 (start i).pre.0 i.loop-v-test.taken l.inv.1 c.before.before.before.before.before.row_at-k.ensures
+      parted_more l.invariant.2 (start i).requires.0 i.loop-v-test.taken l.invariant.1 c.before.before.before.before.before.row_at-k.ensures
           c.before.before.before.variable_parts.ensures,
     )
 

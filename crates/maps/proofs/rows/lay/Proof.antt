@@ -70,10 +70,10 @@ lay-variable-requires c κs =
           laid_fits (K i) a.parts.now l.v l.t-1 l.invariant.3 pre.1 few (positive i) j o (omega (arith, l.invariant.1)) g,
     )
 
-mul-len : tie.Need-overflow-mul-len invariant-loop decreases-loop
+mul-len : tie.Need-overflow_mul-len invariant-loop decreases-loop
 mul-len c =
     let w = c.before.before.before.before in
-    omega (arith, product w, within w.before.before, (start w.before.before).pre.0.few)
+    omega (arith, product w, within w.before.before, (start w.before.before).requires.0.few)
 
 loop-again : tie.Need-loop-v-preserved invariant-loop decreases-loop
 loop-again c =

@@ -21,7 +21,7 @@ relax-op-requires : tie.Need-relax_op-requires
 relax-op-requires c κs =
     let then = c.before.before.before in
     let s = start then.before.before in
-    let pre = s.pre.0 in (
+    let pre = s.requires.0 in (
       (
         pre.0,
         record {
@@ -31,16 +31,16 @@ relax-op-requires c κs =
         },
         pre.3,
       ),
-      s.pre.1,
+      s.requires.1,
     )
 
 returns-2 : tie.Need-returns-else-fits-b-eq0
 returns-2 c =
     let s = start c.before.before in
-    let pre = s.pre.0 in
+    let pre = s.requires.0 in
     op_skip pre.0 pre.1
     (sym (pre.0.fit.ops s.args.o s.args.b pre.1 (omega (arith, pre.2, pre.0.states))) ∙ ne_eqb _ 0 c.if-fits-b-eq0.false)
-    pre.3 s.pre.1
+    pre.3 s.requires.1
 
 pub relax_if_spec : {M : Type 1} → statement M
 relax_if_spec =

@@ -29,7 +29,7 @@ start-in c = c.before.before.before.before.before.before.before.before.before.be
 
 -- the price is small
 price : (c : tie.After-cost_at invariant-loop decreases-loop) → c.cost_at.result ≤ 1000000
-price c = let s = start c in omega (arith, c.cost_at.ensures, s.pre.0.0.priced s.args.o s.pre.0.1.op)
+price c = let s = start c in omega (arith, c.cost_at.ensures, s.requires.0.0.priced s.args.o s.requires.0.1.op)
 
 -- the operator's places are there
 places : (s : tie.Start invariant-loop decreases-loop) → (s.args.o < 64) × (128 + s.args.o < length s.args.turns.now)
@@ -52,7 +52,7 @@ base s =
 
 inside : (c : tie.In-loop-i invariant-loop decreases-loop)
     → (start-in c).args.o * (start-in c).args.n + c.before.loop-i.i < length (start-in c).args.back.now
-inside c = let s = start-in c in list_place s.pre.0.0 s.pre.0.1 c.before.loop-i.i c.loop-i-test.true
+inside c = let s = start-in c in list_place s.requires.0.0 s.requires.0.1 c.before.loop-i.i c.loop-i-test.true
 
 relax-one-requires : tie.Need-relax_one-requires invariant-loop decreases-loop
 unfolding back_at
@@ -61,7 +61,7 @@ relax-one-requires c κs =
     let s = start-in i in
     let l = i.before.loop-i in
     let priced = i.before.before.before.before.before in (
-      (s.pre.0.0, s.pre.0.1, l.invariant.1.held),
+      (s.requires.0.0, s.requires.0.1, l.invariant.1.held),
       ((i.loop-i-test.true, refl, omega (arith, priced.scaled_price.ensures, priced.before.cost_at.ensures)), l.invariant.1.run),
     )
 
@@ -85,7 +85,7 @@ relax_op_spec =
     decreases-loop
     (λ c κs. search rules)
     (λ c κs. price c)
-    (λ c. omega (arith, c.scaled_price.ensures, price c.before, (start c.before).pre.0.2.finite))
+    (λ c. omega (arith, c.scaled_price.ensures, price c.before, (start c.before).requires.0.2.finite))
     (λ c. omega (arith, places (start c.before)))
     (λ c. omega (arith, places (start c.before.before)))
     (λ c. (base (start c.before.before)).0)
@@ -96,14 +96,14 @@ relax_op_spec =
     (λ c. omega (arith, places (start c.before.before.before)))
     (λ c. omega (arith, places (start c.before.before.before)))
     (λ c. omega (arith, places (start c.before.before.before.before)))
-    (λ c. let s = start c.before.before.before.before in omega (arith, list_place s.pre.0.0 s.pre.0.1 0 (some s)))
-    (λ c. let s = start c.before.before.before.before in (omega arith, op_none s.pre.0.0 s.pre.0.2 s.pre.1, refl, refl))
+    (λ c. let s = start c.before.before.before.before in omega (arith, list_place s.requires.0.0 s.requires.0.1 0 (some s)))
+    (λ c. let s = start c.before.before.before.before in (omega arith, op_none s.requires.0.0 s.requires.0.2 s.requires.1, refl, refl))
     (λ c. omega (arith, inside c))
     (λ c. omega (arith, inside c))
     (λ c. omega (arith, inside c))
     (λ c. inside c.before)
     (λ c. let s = start-in c.before in omega (arith, c.shared_slice_known-in-loop-i-1.given (s.args.o * s.args.n + c.before.before.loop-i.i)))
-    (λ c. let s = start-in c.before in omega (arith, (back_small s.pre.0.0 s.pre.0.1 c.before.before.loop-i.i c.before.loop-i-test.true).2))
+    (λ c. let s = start-in c.before in omega (arith, (back_small s.requires.0.0 s.requires.0.1 c.before.before.loop-i.i c.before.loop-i-test.true).2))
     relax-one-requires
     (λ c. let i = c.before.before.before.before.before.before.before.before.before.before.before in omega (arith, i.loop-i-test.true, few (start-in i)))
     (λ c. let i = c.before.before.before.before.before.before.before.before.before.before.before in omega (arith, i.loop-i-test.true))

@@ -37,18 +37,18 @@ task : (c : tie.At-loop-a invariant-loop decreases-loop) (prices : List ℕ)
     → Run (scaled_of (start c).args.c (start c).args.facts.now prices) c.loop-a.a 0 Nothing c.loop-a.labels-1 c.loop-a.t-1 c.loop-a.best-1
 task c prices =
     let s = start c in
-    let pre = s.pre.0 in
+    let pre = s.requires.0 in
     c.loop-a.invariant.4 (scaled_of s.args.c s.args.facts.now prices) (sym pre.1) (few s)
-    (λ x l. pre.2.goal x (omega (arith, pre.1))) (s.pre.1 prices)
+    (λ x l. pre.2.goal x (omega (arith, pre.1))) (s.requires.1 prices)
 
 -- the state's lane is in the table
 lane : (c : tie.In-loop-a invariant-loop decreases-loop) → c.before.loop-a.a * lanes + goal_lane < length (start c.before).args.fits.now
-lane c = omega (arith, c.loop-a-test.true, (start c.before).pre.0.3)
+lane c = omega (arith, c.loop-a-test.true, (start c.before).requires.0.3)
 
 offer-requires : tie.Need-offer-requires invariant-loop decreases-loop
 offer-requires c κs =
     let i = c.before.before.before.before.before in
-    let pre = (start i.before).pre.0 in
+    let pre = (start i.before).requires.0 in
     may_offer (task i.before []) pre.0.few i.before.loop-a.a (omega (arith, i.loop-a-test.true, pre.1))
 
 looked : (c : tie.Joined-fits-a-eq0 invariant-loop decreases-loop)

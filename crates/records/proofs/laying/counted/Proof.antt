@@ -6,7 +6,7 @@ use Rattle.records.proofs.Laws.{at_most_limit}
 use Rattle.records.proofs.laying.counted.Statement.{statement}
 use Rattle.records.proofs.laying.counted.Tie as tie
 
-cast-ops : tie.Need-overflow-cast-ops
+cast-ops : tie.Need-overflow_cast-ops
 cast-ops c = omega (arith, at_most_limit more_ops c.before.args.n, c.at_most-ops.ensures)
 
 returns : tie.Need-returns

@@ -16,9 +16,8 @@ T c = let a = (first c).args in tables a.c a.facts.now a.costs.now a.shares.now
 
 returns : tie.Need-returns-in-Clean
 returns c =
-    let x = c.before.before.before in
-    let a = (first x).args in
-    c.choose_lists.ensures ∙ chosen_by (T x) a.s.now a.a.now a.b.now x.input_fault-f.ensures c.before.enum_told-1.given.1
+    let a = (first c.before.before).args in
+    c.choose_lists.ensures ∙ chosen_by (T c.before.before) a.s.now a.a.now a.b.now c.input_fault-f.ensures c.in-Clean.is
 
 pub choice_of_spec : {M : Type 1} → statement M
 choice_of_spec =
@@ -26,7 +25,7 @@ choice_of_spec =
     (tie.spec
     (λ c κs. search rules)
     (λ c. search rules)
-    (λ c κs. let x = c.before.before in usable (T x) (first x).args.s.now x.input_fault-f.ensures c.enum_told-1.given.1)
+    (λ c κs. usable (T c.before) (first c.before).args.s.now c.input_fault-f.ensures c.in-Clean.is)
     (λ c. search rules)
     returns
-    (λ c. let x = c.before.before.before in let a = (first x).args in chosen_by (T x) a.s.now a.a.now a.b.now x.input_fault-f.ensures c.before.f-1.given.1))
+    (λ c. let a = (first c.before).args in chosen_by (T c.before) a.s.now a.a.now a.b.now c.input_fault-f.ensures c.in-Fault.is))

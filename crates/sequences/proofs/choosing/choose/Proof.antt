@@ -8,20 +8,18 @@ use Rattle.sequences.proofs.choosing.choose.Tie as tie
 
 -- both lists reached a goal, at the costs p and q
 abbrev p : tie.In-After-b-3 → ℕ
-p x = x.before.before.before.a-1.given.0.1.0
+p x = x.in-After.p
 
 abbrev q : tie.In-After-b-3 → ℕ
-q x = x.b-1.given.0.1.0
+q x = x.in-After-b.q
 
 returns : tie.Need-returns-then-p-q
 returns c =
-    let x = c.before.before in
-    rw (x.before.before.before.a-1.given.1, x.b-1.given.1, le-leb (p x) (q x) (omega (arith, c.if-p-q.true)))
+    rw (c.in-After.is, c.in-After-b.is, le-leb (p c.before.before{-?-}) (q c.before.before{-?-}) (omega (arith, c.if-p-q.true)))
 
 returns-2 : tie.Need-returns-else-p-q
 returns-2 c =
-    let x = c.before.before in
-    rw (x.before.before.before.a-1.given.1, x.b-1.given.1, lt-leb (p x) (q x) (omega (arith, c.if-p-q.false)))
+    rw (c.in-After.is, c.in-After-b.is, lt-leb (p c.before.before{-?-}) (q c.before.before{-?-}) (omega (arith, c.if-p-q.false)))
 
 pub choose_spec : {M : Type 1} → statement M
 choose_spec =
@@ -35,6 +33,6 @@ choose_spec =
     (λ c. search rules)
     returns
     returns-2
-    (λ c. rw (c.before.before.before.a-1.given.1, c.enum_told-1.given.1))
-    (λ c. rw (c.before.b-in-Out-1.given.1, c.before.before.before.enum_told-in-Out-1.given.1))
+    (λ c. rw (c.in-After.is, c.in-Out-b.is))
+    (λ c. rw (c.in-After-b-2.is, c.in-Out.is))
     (λ c. search rules))

@@ -4,13 +4,13 @@ use Rattle.sequences.proofs.choosing.named.Statement.{statement}
 use Rattle.sequences.proofs.choosing.named.Tie as tie
 
 returns : tie.Need-returns-in-FirstPart
-returns c = rw c.before.d-1.given.1
+returns c = rw c.in-FirstPart.is
 
 returns-2 : tie.Need-returns-in-SecondPart
-returns-2 c = rw c.before.d-in-SecondPart-1.given.1
+returns-2 c = rw c.in-SecondPart.is
 
 returns-4 : tie.Need-returns-in-Unread
-returns-4 c = rw c.before.d-in-Unread-1.given.1
+returns-4 c = rw c.in-Unread.is
 
 pub named_spec : {M : Type 1} → statement M
 named_spec =

@@ -42,11 +42,11 @@ abbrev inside : tie.Else-meets_goal invariant-loop decreases-loop → tie.In-loo
 inside z = z.before.before.before
 
 no-goal : (z : tie.Else-meets_goal invariant-loop decreases-loop) → let x = (inside z).before in complies (sas_of (T x)) (sas_of (T x)).goal (state_of x.loop-i.s-1) ≡ false
-no-goal z = let x = (inside z).before in goal_said (T x) x.loop-i.s-1 z.before.meets_goal.ensures z.if-meets_goal.false
+no-goal z = let x = (inside z).before in goal_said (T x) x.loop-i.s-1 z.meets_goal.ensures z.if-meets_goal.false
 
 -- the turn of a step that was taken, and where in it the goal was tested
 abbrev asked : tie.After-mark_of-stored invariant-loop decreases-loop → tie.After-step-m invariant-loop decreases-loop
-asked c = c.before.before.before.before.before
+asked c = c.before.before.before
 
 abbrev tested : tie.After-mark_of-stored invariant-loop decreases-loop → tie.Else-meets_goal invariant-loop decreases-loop
 tested c = (asked c).before.before.before
@@ -55,21 +55,19 @@ took : (c : tie.After-mark_of-stored invariant-loop decreases-loop)
     → let x = (inside (tested c)).before in Turn (task_of (T x)) x.loop-i.stored x.loop-i.s-1 c.before.state_after-s.result (next x) c.before.before.before.m-1.given.0.0 c.mark_of-stored.result
 took c =
     let x = (inside (tested c)).before in
-    turn (T x) (first x).pre.0 x.loop-i.inv.size (asked c).step-m.ensures c.before.before.before.m-1.given.1 c.before.state_after-s.ensures c.mark_of-stored.ensures
+    turn (T x) (first x).requires.0 x.loop-i.invariant.size (asked c).step-m.ensures c.in-Ran.is c.state_after-s.ensures c.mark_of-stored.ensures
 
 -- ---- the needs
 
 returns-2 : tie.Need-returns-in_default invariant-loop decreases-loop
 returns-2 c =
-    let z = c.before.before.before.before in
-    let x = (inside z).before in
-    reached_refused (task_of (T x)) x.loop-i.inv (no-goal z) (inside z).loop-i-test.true c.before.step-m.result c.before.step-m.ensures c.in-Ran.keys2
+    let x = (inside c.before.before.before.before).before in
+    reached_refused (task_of (T x)) x.loop-i.invariant (no-goal c.before.before.before.before) (inside c.before.before.before.before).loop-i-test.true c.step-m.result c.step-m.ensures c.in-Ran.keys2
 
 state-after-requires : tie.Need-state_after-s-requires invariant-loop decreases-loop
 state-after-requires c κs =
-    let y = c.before.before.before in
-    let x = (inside y.before.before.before).before in
-    (search rules, taken_exists (T x) (first x).pre.0 x.loop-i.stored (state_of x.loop-i.s-1) (next x) y.step-m.ensures c.before.m-1.given.1)
+    let x = (inside c.before.before.before.before).before in
+    (search rules, taken_exists (T x) (first x).requires.0 x.loop-i.stored (state_of x.loop-i.s-1) (next x) c.step-m.ensures c.in-Ran.is)
 
 pub reach_spec : {M : Type 1} → statement M
 reach_spec =
@@ -78,23 +76,23 @@ reach_spec =
     invariant-loop
     decreases-loop
     (λ c. record { inside = omega arith; size = search rules; paid = omega arith; rest = refl })
-    (λ c. sym c.before.before.loop-i.invariant.size)
+    (λ c. sym c.loop-i.invariant.size)
     (λ c κs. search rules)
-    (λ c. let x = c.before.before.before.before in reached_first (task_of (T x)) x.loop-i.invariant (goal_said (T x) x.loop-i.s-1 c.before.meets_goal.ensures c.if-meets_goal.true))
+    (λ c. reached_first (task_of (T c.before.before.before.before)) c.loop-i.invariant (goal_said (T c.before.before.before.before) c.loop-i.s-1 c.meets_goal.ensures c.if-meets_goal.true))
     (λ c. search rules)
     (λ c. search rules)
-    (λ c. sym (inside c.before.before).before.loop-i.inv.size)
+    (λ c. sym (inside c.before.before).before.loop-i.invariant.size)
     (λ c κs. search rules)
     (λ c. search rules)
     returns-2
     state-after-requires
     (λ c κs. search rules)
-    (λ c. let x = (inside (tested c)).before in record { fits = storable (T x) (first x).pre.0 (took c) })
-    (λ c. let z = inside (tested c) in omega (arith, payable z.before.loop-i.inv (took c) z.loop-i-test.taken (first z.before).pre.1))
+    (λ c. let x = (inside (tested c)).before in record { fits = storable (T x) (first x).requires.0 (took c) })
+    (λ c. let z = inside (tested c) in omega (arith, payable z.before.loop-i.invariant (took c) z.loop-i-test.taken (first z.before).requires.1))
     (λ c. search rules)
     (λ c. search rules)
-    (λ c. let z = inside (tested c) in reached_on (task_of (T z.before)) z.before.loop-i.inv (no-goal (tested c)) z.loop-i-test.taken (took c))
-    (λ c. sym c.before.before.loop-i.invariant.size)
+    (λ c. let z = inside (tested c) in reached_on (task_of (T z.before)) z.before.loop-i.invariant (no-goal (tested c)) z.loop-i-test.taken (took c))
+    (λ c. sym c.loop-i.invariant.size)
     (λ c κs. search rules)
-    (λ c. let x = c.before.before.before.before in reached_first (task_of (T x)) x.loop-i.invariant (goal_said (T x) x.loop-i.s-1 c.before.meets_goal-2.ensures c.if-meets_goal-2.true))
-    (λ c. let x = c.before.before.before.before in reached_end (task_of (T x)) x.loop-i.invariant (goal_said (T x) x.loop-i.s-1 c.before.meets_goal-2.ensures c.if-meets_goal-2.false) (omega arith)))
+    (λ c. reached_first (task_of (T c.before.before.before.before)) c.loop-i.invariant (goal_said (T c.before.before.before.before) c.loop-i.s-1 c.meets_goal-2.ensures c.if-meets_goal-2.true))
+    (λ c. reached_end (task_of (T c.before.before.before.before)) c.loop-i.invariant (goal_said (T c.before.before.before.before) c.loop-i.s-1 c.meets_goal-2.ensures c.if-meets_goal-2.false) (omega arith)))

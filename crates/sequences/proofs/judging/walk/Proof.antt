@@ -44,33 +44,31 @@ inside y = y.before.before.before
 
 -- the turn of a step that was taken
 abbrev asked : tie.After-mark_of-stored invariant-loop decreases-loop → tie.After-step-m invariant-loop decreases-loop
-asked c = c.before.before.before.before.before
+asked c = c.before.before.before
 
 took : (c : tie.After-mark_of-stored invariant-loop decreases-loop)
     → let x = (inside (asked c)).before in Turn (task_of (T x)) x.loop-i.stored x.loop-i.s-1 c.before.state_after-s.result (next x) c.before.before.before.m-1.given.0.0 c.mark_of-stored.result
 took c =
     let y = asked c in
     let x = (inside y).before in
-    turn (T x) (first x).pre.0 x.loop-i.inv.size y.step-m.ensures c.before.before.before.m-1.given.1 c.before.state_after-s.ensures c.mark_of-stored.ensures
+    turn (T x) (first x).requires.0 x.loop-i.invariant.size y.step-m.ensures c.in-Ran.is c.state_after-s.ensures c.mark_of-stored.ensures
 
 -- ---- the needs
 
 returns : tie.Need-returns-in_default invariant-loop decreases-loop
 returns c =
-    let y = c.before.before in
-    let z = inside y in
+    let z = inside c.before.before in
     c.refusal.ensures
-    ∙ walked_refused (task_of (T z.before)) z.before.loop-i.inv z.loop-i-test.taken y.step-m.result y.step-m.ensures c.before.in-Ran.keys2
+    ∙ walked_refused (task_of (T z.before)) z.before.loop-i.invariant z.loop-i-test.taken c.step-m.result c.step-m.ensures c.in-Ran.keys2
 
 state-after-requires : tie.Need-state_after-s-requires invariant-loop decreases-loop
 state-after-requires c κs =
-    let y = c.before.before.before in
-    let x = (inside y).before in
-    (search rules, taken_exists (T x) (first x).pre.0 x.loop-i.stored (state_of x.loop-i.s-1) (next x) y.step-m.ensures c.before.m-1.given.1)
+    let x = (inside c.before).before in
+    (search rules, taken_exists (T x) (first x).requires.0 x.loop-i.stored (state_of x.loop-i.s-1) (next x) c.step-m.ensures c.in-Ran.is)
 
 ended : (y : tie.After-meets_goal invariant-loop decreases-loop) {b : Bool} → y.meets_goal.result ≡ b
     → let x = y.before.before.before in cond b (Passed x.loop-i.paid) (Refused (NoGoal x.loop-i.i)) ≡ walked (task_of (T x)) 0 0 0 (state_of (first x).args.start) (first x).args.ops.now
-ended y e = let x = y.before.before.before in walked_end (task_of (T x)) x.loop-i.invariant (omega arith) (goal_said (T x) x.loop-i.s-1 y.meets_goal.ensures e)
+ended y e = walked_end (task_of (T y.before.before.before)) y.loop-i.invariant (omega arith) (goal_said (T y.before.before.before) y.loop-i.s-1 y.meets_goal.ensures e)
 
 pub walk_spec : {M : Type 1} → statement M
 walk_spec =
@@ -81,22 +79,22 @@ walk_spec =
     (λ c. record { inside = omega arith; size = search rules; paid = omega arith; rest = refl })
     (λ c. search rules)
     (λ c. search rules)
-    (λ c. sym c.before.before.before.loop-i.invariant.size)
+    (λ c. sym c.loop-i.invariant.size)
     (λ c κs. search rules)
     (λ c. search rules)
     (λ c. search rules)
-    (λ c. omega (arith, few (first (inside c.before).before).pre.1))
+    (λ c. omega (arith, few (first (inside c.before).before).requires.1))
     (λ c κs. search rules)
     returns
     state-after-requires
     (λ c κs. search rules)
-    (λ c. let x = (inside (asked c)).before in record { fits = storable (T x) (first x).pre.0 (took c) })
-    (λ c. let z = inside (asked c) in omega (arith, payable z.before.loop-i.inv (took c) z.loop-i-test.taken (first z.before).pre.1))
+    (λ c. let x = (inside (asked c)).before in record { fits = storable (T x) (first x).requires.0 (took c) })
+    (λ c. let z = inside (asked c) in omega (arith, payable z.before.loop-i.invariant (took c) z.loop-i-test.taken (first z.before).requires.1))
     (λ c. search rules)
     (λ c. search rules)
-    (λ c. let z = inside (asked c) in walked_on (task_of (T z.before)) z.before.loop-i.inv z.loop-i-test.taken (took c))
-    (λ c. sym c.before.before.loop-i.invariant.size)
+    (λ c. let z = inside (asked c) in walked_on (task_of (T z.before)) z.before.loop-i.invariant z.loop-i-test.taken (took c))
+    (λ c. sym c.loop-i.invariant.size)
     (λ c κs. search rules)
     (λ c. ended c.before c.if-meets_goal.true)
-    (λ c. omega (arith, few (first c.before.before.before.before).pre.1))
+    (λ c. omega (arith, few (first c.before.before.before.before).requires.1))
     (λ c. ended c.before c.if-meets_goal.false))

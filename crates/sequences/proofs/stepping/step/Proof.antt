@@ -36,13 +36,13 @@ o x = x.args.o.0
 abbrev first : tie.After-may_run → tie.Start
 first y = y.before.before.before.before.before.before.before
 
-runs : (y : tie.After-may_run) {b : Bool} → y.may_run.result ≡ b → let x = first y in complies (T x).sas ((T x).sas.pre (o x)) (s x) ≡ b
+runs : (y : tie.After-may_run) {b : Bool} → y.may_run.result ≡ b → let x = first y in complies (T x).sas ((T x).sas.requires (o x)) (s x) ≡ b
 runs y e =
     let a = (first y).args in
     sym (y.may_run.ensures ∙ may_run_is (tables a.c a.facts.now a.costs.now []) a.s.now a.o.0) ∙ e
 
 may-run : (y : tie.After-may_run) → y.may_run.result ≡ true → let x = first y in MayRun (T x).sas (o x) (s x)
-may-run y e = let x = first y in complies_true (T x).sas ((T x).sas.pre (o x)) (s x) (runs y e)
+may-run y e = let x = first y in complies_true (T x).sas ((T x).sas.requires (o x)) (s x) (runs y e)
 
 stores : (z : tie.After-can_store) {b : Bool} → z.can_store.result ≡ b → let x = first z.before.before in may_store (T x) (n x) (o x) ≡ b
 stores z e =
@@ -55,23 +55,23 @@ returns c = let x = c.before.before.before.before.before.before in sym (no_such_
 returns-2 : tie.Need-returns-then-not-may_run
 returns-2 c =
     let x = first c.before in
-    sym (may_not_before_beyond (T x) (n x) (s x) (o x) c.before.before.if-c-o.false (runs c.before (not-true _ c.if-not-may_run.true)))
+    sym (may_not_before_beyond (T x) (n x) (s x) (o x) c.before.before.if-c-o.false (runs c.before (c.if-not-may_run.true)))
 
 returns-3 : tie.Need-returns-then-not-can_store
 returns-3 c =
     let z = c.before in
     let y = z.before.before in
     let x = first y in
-    let over = may_not_store (T x) (n x) (o x) (stores z (not-true _ c.if-not-can_store.true)) in
-    sym (beyond_last (T x) (n x) (s x) (o x) y.before.if-c-o.false (may-run y (not-false _ z.before.if-not-may_run.false)) over)
+    let over = may_not_store (T x) (n x) (o x) (stores z (c.if-not-can_store.true)) in
+    sym (beyond_last (T x) (n x) (s x) (o x) y.before.if-c-o.false (may-run y (z.before.if-not-may_run.false)) over)
 
 returns-4 : tie.Need-returns
 returns-4 c =
     let z = c.before.before in
     let y = z.before.before in
     let x = first y in
-    let fits = may_store_lem (T x) (n x) (o x) (stores z (not-false _ c.before.if-not-can_store.false)) in
-    ap Ran c.cost_at.ensures ∙ sym (takes (T x) (n x) (s x) (o x) y.before.if-c-o.false (may-run y (not-false _ z.before.if-not-may_run.false)) fits)
+    let fits = may_store_lem (T x) (n x) (o x) (stores z (c.before.if-not-can_store.false)) in
+    ap Ran c.cost_at.ensures ∙ sym (takes (T x) (n x) (s x) (o x) y.before.if-c-o.false (may-run y (z.before.if-not-may_run.false)) fits)
 
 pub step_spec : {M : Type 1} → statement M
 step_spec =

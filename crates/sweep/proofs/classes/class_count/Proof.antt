@@ -28,7 +28,7 @@ returns c =
     let a = c.before.before.before.before.before.args in
     count_is a.c a.facts.now a.m pre.0 pre.1 a.v _ _ _ (dom c.before.before) c.before.class_row.ensures c.count_of.ensures
 
-cast-result : tie.Need-overflow-cast-result
+cast-result : tie.Need-overflow_cast-result
 cast-result c =
     let pre = c.before.before.before.before.before.requires in
     let a = c.before.before.before.before.before.args in

@@ -47,7 +47,7 @@ read c =
     let x = wide.ensures.0 ∙ c.before.before.before.byte_at.ensures in
     c.wide-in-loop-v.ensures.0 ∙ c.before.row_at-class.ensures ∙ ap₂ (row_at a.facts.now) c.before.before.before.before.class_row.ensures x
 
-add-b : tie.Need-overflow-add-b invariant-loop decreases-loop
+add-b : tie.Need-overflow_add-b invariant-loop decreases-loop
 add-b c =
     let i = c.before.before.before.before.before in
     omega (arith, (numbered_small (numbered_more i.before.loop-v.invariant i.loop-v-test.true (read c) refl) (digital i)).1)
@@ -63,7 +63,7 @@ loop-again c =
     let i = c.before.before.before.before.before.before.before in
     numbered_more i.before.loop-v.invariant i.loop-v-test.true (read c.before.before) (c.wide-stride.ensures.0 ∙ c.before.class_count.ensures)
 
-mul-stride : tie.Need-overflow-mul-stride invariant-loop decreases-loop
+mul-stride : tie.Need-overflow_mul-stride invariant-loop decreases-loop
 mul-stride c = omega (arith, (numbered_small (loop-again c) (digital c.before.before.before.before.before.before.before)).0)
 
 pub image_of_spec : {M : Type 1} → statement M

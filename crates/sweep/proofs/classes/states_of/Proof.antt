@@ -21,7 +21,7 @@ product : (c : tie.After-wide-n invariant-loop decreases-loop)
     → c.before.before.before.loop-v.n * c.wide-n.result ≡ size (dom_at c.before.before.before.before.before.args.facts.now) (c.before.before.before.loop-v.v + 1)
 product c = let l = c.before.before.before.loop-v in rw add-one (ap₂ ◌*◌ l.invariant.1 (c.wide-n.ensures.0 ∙ c.before.row_at.ensures))
 
-mul-n : tie.Need-overflow-mul-n invariant-loop decreases-loop
+mul-n : tie.Need-overflow_mul-n invariant-loop decreases-loop
 mul-n c =
     let i = c.before.before in
     let s = i.before.before.before in

@@ -11,10 +11,10 @@ use Rattle.sweep.proofs.rounds.beyond.Tie as tie
 
 returns : tie.Need-returns-in-To
 returns c =
-    let args = c.before.before.before.before.before.before.args in
-    let s = c.before.before.before.s-1 in
+    let args = c.args in
+    let s = c.s-1 in
     let old = args.old.now in
-    ap said (c.word_at.ensures ∙ ap (λ (i : ℕ). get_or old i 0) c.before.state_index.ensures)
+    ap said (c.word_at.ensures ∙ ap (λ (i : ℕ). get_or old i 0) c.state_index.ensures)
     ∙ sym (ap (λ s. after_step (said_at old) (next_of s)) s.given.1)
 
 returns-2 : tie.Need-returns-in-Stop

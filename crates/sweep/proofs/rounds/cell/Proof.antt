@@ -58,14 +58,14 @@ with-price-requires : tie.Need-with_price-x-requires invariant-loop decreases-lo
 with-price-requires c κs =
     let i = c.before.before.before.before in
     let x = (start i.before).args in
-    let pre = (start i.before).pre in
+    let pre = (start i.before).requires in
     let s = (spelt i.before).digits-s in
     price_fits x.c x.facts.now x.prices.now pre.0 x.old.now s.result pre.1 pre.2 i.loop-o-test.true pre.3 s.ensures
     c.before.step_from.ensures c.before.before.before.cost_at.ensures c.beyond.ensures
 
 -- an operator's number fits in a byte, and isn't what stands for none
 small : (c : tie.In-loop-o invariant-loop decreases-loop) → c.before.loop-o.o < HALT
-small c = omega (arith, c.loop-o-test.true, (start c.before).pre.0.ops)
+small c = omega (arith, c.loop-o-test.true, (start c.before).requires.0.ops)
 
 -- the operator's way, and whether it undercuts the cost so far
 loop-again : tie.Need-loop-o-preserved invariant-loop decreases-loop

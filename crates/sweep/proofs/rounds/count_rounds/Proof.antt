@@ -32,13 +32,13 @@ good c =
     walkable_good x.c x.facts.now x.prices.now (start c).requires.0.0 (start c).requires.0.1
 
 old-room : (c : tie.At-loop-c invariant-loop decreases-loop) → (start (filled c)).args.n ≤ length c.loop-c.t-1
-old-room c = omega (arith, c.loop-c.invariant.table.size, (filled c).fill.ensures.size, (start (filled c)).pre.1.0)
+old-room c = omega (arith, c.loop-c.invariant.table.size, (filled c).fill.ensures.size, (start (filled c)).requires.1.0)
 
 best-room : (c : tie.At-loop-c invariant-loop decreases-loop) → (start (filled c)).args.n ≤ length c.loop-c.best-1
-best-room c = omega (arith, c.loop-c.invariant.notes.size, (cleared c).clear.ensures.size, (start (filled c)).pre.1.1)
+best-room c = omega (arith, c.loop-c.invariant.notes.size, (cleared c).clear.ensures.size, (start (filled c)).requires.1.1)
 
 new-room : (c : tie.At-loop-c invariant-loop decreases-loop) → (start (filled c)).args.n ≤ length c.loop-c.w-1
-new-room c = omega (arith, c.loop-c.invariant.work, (start (filled c)).pre.1.2)
+new-room c = omega (arith, c.loop-c.invariant.work, (start (filled c)).requires.1.2)
 
 -- ---- the needs
 
@@ -56,21 +56,21 @@ loop-holds c =
 sweep-requires : tie.Need-sweep-changed-requires invariant-loop decreases-loop
 sweep-requires c κs =
     let l = c.before.before.before in
-    let p = (start (filled l)).pre.0 in
+    let p = (start (filled l)).requires.0 in
     (p, (old-room l, new-room l, best-room l, turn_within (good (filled l)) p.2 l.loop-c.invariant))
 
-add_rounds : tie.Need-overflow-add-rounds invariant-loop decreases-loop
+add_rounds : tie.Need-overflow_add-rounds invariant-loop decreases-loop
 add_rounds c =
     let l = c.before.before.before.before.before.before.before.before in
-    omega (arith, l.loop-c.invariant.less, (start (filled l)).pre.0.0.few)
+    omega (arith, l.loop-c.invariant.less, (start (filled l)).requires.0.0.few)
 
 returns : tie.Need-returns-then-not-changed invariant-loop decreases-loop
 returns c =
     let s = c.before.before.before.before.before in
     let l = s.before.before.before.before in
     let f = filled l in
-    ends (good f) (start f).pre.0.2 l.loop-c.invariant s.sweep-changed.ensures.0 s.sweep-changed.ensures.1 f.fill.ensures (cleared l).clear.ensures
-    (not-true s.sweep-changed.result c.if-not-changed.true)
+    ends (good f) (start f).requires.0.2 l.loop-c.invariant s.sweep-changed.ensures.0 s.sweep-changed.ensures.1 f.fill.ensures (cleared l).clear.ensures
+    (c.if-not-changed.true)
 
 copy-requires : tie.Need-copy-requires invariant-loop decreases-loop
 copy-requires c κs =
@@ -81,15 +81,15 @@ copy-requires c κs =
 loop-less : tie.Need-loop-c-smaller invariant-loop decreases-loop
 loop-less c =
     let l = c.before.before.before.before.before.before.before.before.before.before.before.before.before.before in
-    omega (arith, l.loop-c.invariant.less, (start (filled l)).pre.0.2)
+    omega (arith, l.loop-c.invariant.less, (start (filled l)).requires.0.2)
 
 loop-again : tie.Need-loop-c-preserved invariant-loop decreases-loop
 loop-again c =
     let e = c.before.before.before.before.before in
     let s = e.before.before.before.before.before in
     let l = s.before.before.before.before in
-    goes_on (good (filled l)) (start (filled l)).pre.0.2 l.loop-c.invariant s.sweep-changed.ensures.0 s.sweep-changed.ensures.1 c.before.before.copy.ensures
-    (not-false s.sweep-changed.result e.if-not-changed.false)
+    goes_on (good (filled l)) (start (filled l)).requires.0.2 l.loop-c.invariant s.sweep-changed.ensures.0 s.sweep-changed.ensures.1 c.before.before.copy.ensures
+    (e.if-not-changed.false)
 
 pub count_rounds_spec : {M : Type 1} → statement M
 count_rounds_spec =

@@ -26,18 +26,18 @@ abbrev start : tie.At-loop-a invariant-loop decreases-loop → tie.Start invaria
 start c = c.before.before.before.before.before.before
 
 small : (c : tie.In-loop-a invariant-loop decreases-loop) → c.before.loop-a.a < most_states
-small c = let pre = (start c.before).pre in omega (arith, c.loop-a-test.true, pre.0.2, pre.0.0.few)
+small c = let pre = (start c.before).requires in omega (arith, c.loop-a-test.true, pre.0.2, pre.0.0.few)
 
 inside : (c : tie.In-loop-a invariant-loop decreases-loop) → c.before.loop-a.a < length c.before.loop-a.new
-inside c = omega (arith, c.before.loop-a.invariant.1.table.size, (start c.before).pre.1.1, c.loop-a-test.true)
+inside c = omega (arith, c.before.loop-a.invariant.1.table.size, (start c.before).requires.1.1, c.loop-a-test.true)
 
 inside-best : (c : tie.In-loop-a invariant-loop decreases-loop) → c.before.loop-a.a < length c.before.loop-a.best
-inside-best c = omega (arith, c.before.loop-a.invariant.2.size, (start c.before).pre.1.2, c.loop-a-test.true)
+inside-best c = omega (arith, c.before.loop-a.invariant.2.size, (start c.before).requires.1.2, c.loop-a-test.true)
 
 cell-requires : tie.Need-cell-p-requires invariant-loop decreases-loop
 cell-requires c κs =
     let x = (start c.before).args in
-    let p = (start c.before).pre in
+    let p = (start c.before).requires in
     (p.0.0, p.0.1, omega (arith, c.loop-a-test.true, p.0.2), subst (λ (k : ℕ). Addable k x.old.now) p.0.2 p.1.3)
 
 loop-again : tie.Need-loop-a-preserved invariant-loop decreases-loop

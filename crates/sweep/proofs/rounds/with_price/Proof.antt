@@ -4,7 +4,7 @@ use Rattle.sweep.proofs.Saids.{price_none, price_added}
 use Rattle.sweep.proofs.rounds.with_price.Statement.{statement}
 use Rattle.sweep.proofs.rounds.with_price.Tie as tie
 
-add-result : tie.Need-overflow-add-result
+add-result : tie.Need-overflow_add-result
 add-result c = omega (arith, c.before.requires (omega arith))
 
 returns : tie.Need-returns-then-beyond-eq-NO_COST

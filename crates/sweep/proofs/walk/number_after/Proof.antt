@@ -30,7 +30,7 @@ digital c = let pre = c.before.before.before.before.requires in record { positiv
 read : (c : tie.After-wide invariant-loop decreases-loop) → c.wide.result ≡ value c.before.before.before.before c.before.before.before.before.before.loop-v.v
 read c = c.wide.ensures.0 ∙ c.before.value_after-x.ensures ∙ ap₂ put c.before.before.before.row_at.ensures c.before.before.byte_at.ensures
 
-add-b : tie.Need-overflow-add-b invariant-loop decreases-loop
+add-b : tie.Need-overflow_add-b invariant-loop decreases-loop
 add-b c =
     let i = c.before.before.before.before in
     omega (arith, (numbered_small (numbered_more i.before.loop-v.invariant i.loop-v-test.true (read c) refl) (digital i)).1)
@@ -40,7 +40,7 @@ loop-again c =
     let i = c.before.before.before.before.before.before in
     numbered_more i.before.loop-v.invariant i.loop-v-test.true (read c.before.before) (c.wide-stride.ensures.0 ∙ c.before.row_at-in-loop-v.ensures)
 
-mul-stride : tie.Need-overflow-mul-stride invariant-loop decreases-loop
+mul-stride : tie.Need-overflow_mul-stride invariant-loop decreases-loop
 mul-stride c = omega (arith, (numbered_small (loop-again c) (digital c.before.before.before.before.before.before)).0)
 
 pub number_after_spec : {M : Type 1} → statement M

@@ -10,18 +10,18 @@ use Rattle.text.proofs.after.after_number.Tie as tie
 returns-7 : tie.Need-returns-in_default
 unfolding after_number
 returns-7 c =
-    let late = c.before.in-1.rest in
+    let late = c.in-1.rest in
     let early = late.0.0.0 in
-    let k = c.before.before.kind_of-k in
-    simp (no_mark _ _ c.before.before.before.before.requires (λ e. early.1 (k.ensures ∙ e)))
+    let k = c.kind_of-k in
+    simp (no_mark _ _ c.requires (λ e. early.1 (k.ensures ∙ e)))
     (simp (← k.ensures, ne_eqb _ _ early.0.0.1, ne_eqb _ _ early.0.1, ne_eqb _ _ early.1)
     (simp (ne_eqb _ _ late.0.0.1, ne_eqb _ _ late.0.1, ne_eqb _ _ late.1) c.end_line.ensures))
 
 returns-3 : tie.Need-returns-in-3
 unfolding after_number after_value
 returns-3 c =
-    let k = c.before.before.kind_of-k in
-    simp (← k.ensures, c.before.in-1.keys3) (simp (comma_next _ _ c.before.before.before.before.requires (sym k.ensures ∙ c.before.in-1.keys3), c.next_fact.ensures))
+    let k = c.kind_of-k in
+    simp (← k.ensures, c.in-1.keys3) (simp (comma_next _ _ c.requires (sym k.ensures ∙ c.in-1.keys3), c.next_fact.ensures))
 
 pub after_number_spec : {M : Type 1} → statement M
 unfolding after_number
@@ -39,10 +39,10 @@ after_number_spec =
     (λ c κs. search rules)
     (λ c κs. search rules)
     (λ c κs. search rules)
-    (λ c. simp (← c.before.before.kind_of-k.ensures, c.before.in-1.keys1) c.after_var.ensures)
-    (λ c. let n = c.before.before in simp (← n.before.before.kind_of-k.ensures, n.before.in-1.keys2, ← n.one_more.ensures, ← c.before.await_number.ensures) c.expect.ensures)
+    (λ c. simp (← c.kind_of-k.ensures, c.in-1.keys1) c.after_var.ensures)
+    (λ c. simp (← c.kind_of-k.ensures, c.in-1.keys2, ← c.one_more.ensures, ← c.await_number.ensures) c.expect.ensures)
     returns-3
-    (λ c. simp (← c.before.before.before.kind_of-k.ensures, c.before.before.in-1.keys4, ← c.before.await_number-in-4.ensures) c.expect-in-4.ensures)
-    (λ c. simp (← c.before.before.kind_of-k.ensures, c.before.in-1.keys5) c.after_class.ensures)
-    (λ c. simp (← c.before.before.kind_of-k.ensures, c.before.in-1.keys6) c.after_share.ensures)
+    (λ c. simp (← c.kind_of-k.ensures, c.in-1.keys4, ← c.await_number-in-4.ensures) c.expect-in-4.ensures)
+    (λ c. simp (← c.kind_of-k.ensures, c.in-1.keys5) c.after_class.ensures)
+    (λ c. simp (← c.kind_of-k.ensures, c.in-1.keys6) c.after_share.ensures)
     returns-7)

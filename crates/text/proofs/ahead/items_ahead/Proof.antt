@@ -9,13 +9,13 @@ shares-due-requires : tie.Need-shares_due-requires
 shares-due-requires c κs =
     let clear = c.before.before.before in
     let start = clear.before.before.before.before.before.before in
-    (start.requires.0, clear.before.none_seen.ensures (not-false _ clear.if-not-none_seen.false), c.before.if-c-eq-FIELD_SHARE.true, start.requires.1)
+    (start.requires.0, clear.before.none_seen.ensures (clear.if-not-none_seen.false), c.before.if-c-eq-FIELD_SHARE.true, start.requires.1)
 
 facts-due-requires : tie.Need-facts_due-requires
 facts-due-requires c κs =
     let clear = c.before.before.before in
     let start = clear.before.before.before.before.before.before in
-    (start.requires.0, clear.before.none_seen.ensures (not-false _ clear.if-not-none_seen.false), start.requires.1)
+    (start.requires.0, clear.before.none_seen.ensures (clear.if-not-none_seen.false), start.requires.1)
 
 pub items_ahead_spec : {M : Type 1} → statement M
 items_ahead_spec =

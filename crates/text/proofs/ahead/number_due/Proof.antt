@@ -14,7 +14,7 @@ returns-5 c z =
     let part = run.before.before in
     let going = part.before.before in
     record {
-      halt = going_on _ (sym going.before.goes_on.ensures ∙ not-false _ going.if-not-goes_on.false);
+      halt = going_on _ (sym going.before.goes_on.ensures ∙ going.if-not-goes_on.false);
       part = part.if-c-ne-PART_NUMBER.false;
       key = eqb-true _ _ z;
       run = run.if-c-ne-RUN_NONE.false;

@@ -8,11 +8,11 @@ use Rattle.text.proofs.end.last_fault.Tie as tie
 
 returns : tie.Need-returns-in_default
 unfolding last_fault
-returns c = let x = c.before.before.refusal_of-found in hands_on _ _ x.result c.enum_told-in_default-1.given.0.0 x.ensures c.enum_told-in_default-1.given.1
+returns c = let x = c.refusal_of-found in hands_on _ _ x.result c.in_default.field-0 x.ensures c.in_default.is
 
 returns-2 : tie.Need-returns
 unfolding last_fault
-returns-2 c = let x = c.before.before.before.refusal_of-found in c.over_fault.ensures ∙ goes_on _ _ x.result x.ensures c.before.enum_told-1.given.1
+returns-2 c = let x = c.refusal_of-found in c.over_fault.ensures ∙ goes_on _ _ x.result x.ensures c.in-Clean.is
 
 pub last_fault_spec : {M : Type 1} → statement M
 last_fault_spec =

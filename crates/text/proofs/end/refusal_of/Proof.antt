@@ -4,22 +4,22 @@ use Rattle.text.proofs.end.refusal_of.Statement.{statement}
 use Rattle.text.proofs.end.refusal_of.Tie as tie
 
 returns-2 : tie.Need-returns-in-Form
-returns-2 c = simp c.enum_told-in-Form-1.given.1
+returns-2 c = simp c.in-Form.is
 
 returns-3 : tie.Need-returns-in-Range
-returns-3 c = simp c.enum_told-in-Range-1.given.1
+returns-3 c = simp c.in-Range.is
 
 returns-4 : tie.Need-returns-in-Order
-returns-4 c = simp c.enum_told-in-Order-1.given.1
+returns-4 c = simp c.in-Order.is
 
 returns-5 : tie.Need-returns-in-Missing
-returns-5 c = simp c.enum_told-in-Missing-1.given.1
+returns-5 c = simp c.in-Missing.is
 
 returns-6 : tie.Need-returns-in-States
-returns-6 c = simp c.enum_told-in-States-1.given.1
+returns-6 c = simp c.in-States.is
 
 returns-7 : tie.Need-returns-in-Idle
-returns-7 c = simp c.enum_told-in-Idle-1.given.1
+returns-7 c = simp c.in-Idle.is
 
 pub refusal_of_spec : {M : Type 1} → statement M
 refusal_of_spec =

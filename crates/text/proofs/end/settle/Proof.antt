@@ -5,16 +5,12 @@ use Rattle.text.proofs.end.settle.Statement.{statement}
 use Rattle.text.proofs.end.settle.Tie as tie
 
 returns : tie.Need-returns-in-Fault
-returns c = settled_refused _ _ _ _ _ c.before.before.before.last_fault-found.ensures _ c.before.found-1.given.1
+returns c = settled_refused _ _ _ _ _ c.last_fault-found.ensures _ c.in-Fault.is
 
 returns-2 : tie.Need-returns
 returns-2 c =
-    let shares = c.before.before.before in
-    let costs = shares.before.before.before.before in
-    let facts = costs.before.before.before.before in
-    let told = facts.before.before in
-    settled_accepted _ _ _ _ _ told.before.before.last_fault-found.ensures
-    _ _ _ told.enum_told-1.given.1 facts.fill_bytes.ensures costs.fill_words.ensures shares.fill_words-2.ensures
+    settled_accepted _ _ _ _ _ c.last_fault-found.ensures
+    _ _ _ c.in_default.is c.fill_bytes.ensures c.fill_words.ensures c.fill_words-2.ensures
 
 pub settle_spec : {M : Type 1} → statement M
 settle_spec =

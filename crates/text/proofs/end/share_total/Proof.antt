@@ -21,7 +21,7 @@ loop-holds c = (omega arith, refl, omega arith)
 word-at-requires : tie.Need-word_at-total-requires invariant-loop decreases-loop
 word-at-requires c κs = c.share_byte.ensures.1
 
-add_total : tie.Need-overflow-add-total invariant-loop decreases-loop
+add_total : tie.Need-overflow_add-total invariant-loop decreases-loop
 add_total c = omega (arith, c.word_at-total.ensures.1)
 
 loop-again : tie.Need-loop-m-preserved invariant-loop decreases-loop

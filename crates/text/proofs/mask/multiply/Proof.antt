@@ -11,7 +11,7 @@ returns : tie.Need-returns-then-p-gt-STATES_MOST
 unfolding times
 returns c = simp (lt-ltb _ _ c.if-p-gt-STATES_MOST.true)
 
-mul-x : tie.Need-overflow-mul-x
+mul-x : tie.Need-overflow_mul-x
 mul-x c =
     let x = c.before.before in
     let h = small_product x.before.args.p x.before.args.n x.if-p-gt-STATES_MOST.false (omega arith) in

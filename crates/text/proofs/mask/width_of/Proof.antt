@@ -5,7 +5,7 @@ use mathlib.Core.Path.{refl}
 use Rattle.text.proofs.mask.width_of.Statement.{statement}
 use Rattle.text.proofs.mask.width_of.Tie as tie
 
-sub-result : tie.Need-overflow-sub-result
+sub-result : tie.Need-overflow_sub-result
 sub-result c = leading_le 32 c.args.m
 
 returns : tie.Need-returns

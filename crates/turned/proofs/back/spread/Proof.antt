@@ -16,7 +16,7 @@ invariant-loop t₀ at len ways stride end j₀ t j = (len ≤ j) × (j ≤ end)
 abbrev decreases-loop : tie.decreases-loop-j
 decreases-loop t₀ at len ways stride end j₀ t j = end - j
 
-mul-end : tie.Need-overflow-mul-end invariant-loop decreases-loop
+mul-end : tie.Need-overflow_mul-end invariant-loop decreases-loop
 mul-end c = omega (arith, c.requires.0.3)
 
 loop-holds : tie.Need-loop-j-init invariant-loop decreases-loop

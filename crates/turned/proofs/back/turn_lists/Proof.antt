@@ -79,7 +79,7 @@ dropped : (c : tie.After-wide invariant-loop decreases-loop)
     (l.drop + c.wide.result * l.stride)
 dropped c =
     let i = at_drop c in
-    numbered_more i.before.loop-v.inv.0 i.loop-v-test.taken
+    numbered_more i.before.loop-v.invariant.0 i.loop-v-test.taken
     (c.wide.ensures.0 ∙ c.before.value_after.ensures ∙ ap (λ (e : ℕ). put e 0) (eff-is c.before.before))
     (dom-is c.before.before.before.before.before.before)
 
@@ -87,7 +87,7 @@ dropped c =
 drop-small : (c : tie.After-wide invariant-loop decreases-loop)
     → let l = (at_drop c).before.loop-v in
     (l.stride * c.before.before.before.before.before.before.wide-k.result ≤ most_states) × (l.drop + c.wide.result * l.stride < most_states)
-drop-small c = let i = at_drop c in numbered_small (dropped c) (drop_digital (start i).pre.0 (start i).pre.1)
+drop-small c = let i = at_drop c in numbered_small (dropped c) (drop_digital (start i).requires.0 (start i).requires.1)
 
 lifted : (c : tie.After-wide-in-loop-v invariant-loop decreases-loop)
     → let i = at-lift c in
@@ -97,12 +97,12 @@ lifted : (c : tie.After-wide-in-loop-v invariant-loop decreases-loop)
 lifted c =
     let i = at-lift c in
     let eff = c.before.before.before.before in
-    numbered_more i.before.loop-v.inv.1 i.loop-v-test.taken
+    numbered_more i.before.loop-v.invariant.1 i.loop-v-test.taken
     (c.wide-in-loop-v.ensures.0 ∙ c.before.lift_of.ensures ∙ ap₂ lift_of (pre_is eff.before.before) (eff-is eff))
     (dom-is eff.before.before.before.before)
 
 lift-small : (c : tie.After-wide-in-loop-v invariant-loop decreases-loop) → (at-lift c).before.loop-v.lift + c.wide-in-loop-v.result * (at-lift c).before.loop-v.stride < most_states
-lift-small c = let i = at-lift c in (numbered_small (lifted c) (lift_digital (start i).pre.0 (start i).pre.1)).1
+lift-small c = let i = at-lift c in (numbered_small (lifted c) (lift_digital (start i).requires.0 (start i).requires.1)).1
 
 -- ---- the offsets
 
@@ -121,8 +121,8 @@ ready c =
     let i = at-ways c in
     let s = start i in
     let l = i.before.loop-v in
-    spread_ready s.pre.0 s.pre.1 i.loop-v-test.taken (omega (arith, s.pre.2, length-set s.args.t-1.now s.args.at 0)) l.inv.2 (ways-is c)
-    l.inv.0.stride_is
+    spread_ready s.requires.0 s.requires.1 i.loop-v-test.taken (omega (arith, s.requires.2, length-set s.args.t-1.now s.args.at 0)) l.invariant.2 (ways-is c)
+    l.invariant.0.stride_is
 
 loop-again : tie.Need-loop-v-preserved invariant-loop decreases-loop
 loop-again c =
@@ -132,7 +132,7 @@ loop-again c =
     let l = i.before.loop-v in (
       dropped w.before.before.before,
       lifted w.before,
-      listed_more (facts i) (op i) l.inv.2 (λ u h. (start i).pre.0.values u (omega (arith, i.loop-v-test.taken))) (ways-is w) l.inv.0.stride_is
+      listed_more (facts i) (op i) l.invariant.2 (λ u h. (start i).requires.0.values u (omega (arith, i.loop-v-test.taken))) (ways-is w) l.invariant.0.stride_is
           s.spread.ensures,
     )
 

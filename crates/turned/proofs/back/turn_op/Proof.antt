@@ -35,8 +35,8 @@ returns : tie.Need-returns
 returns c =
     let s = start c in
     let lists = c.before.before.turn_lists-r in (
-      turned_more s.args.turns.now s.args.o.0 lists.result s.pre.0.3 (few s) s.pre.0.0 s.pre.0.1 lists.ensures.0
-          lists.ensures.1 s.pre.1,
+      turned_more s.args.turns.now s.args.o.0 lists.result s.requires.0.3 (few s) s.requires.0.0 s.requires.0.1 lists.ensures.0
+          lists.ensures.1 s.requires.1,
       (size c, lists.ensures.1.size),
     )
 
@@ -55,12 +55,12 @@ turn_op_spec =
     (λ c. search rules)
     (λ c.
     let s = start c in
-    omega (arith, few s, drops_size s.args.turns.now s.args.o.0 (found c) s.pre.0.3 (few s)))
+    omega (arith, few s, drops_size s.args.turns.now s.args.o.0 (found c) s.requires.0.3 (few s)))
     (λ c. search rules)
     (λ c. search rules)
     (λ c.
     let s = start c in
-    omega (arith, few s, lifts_size s.args.turns.now s.args.o.0 (found c) s.pre.0.3 (few s)))
+    omega (arith, few s, lifts_size s.args.turns.now s.args.o.0 (found c) s.requires.0.3 (few s)))
     (λ c. size c ∙ sym (start c).requires.0.3)
     (λ c. c.before.before.turn_lists-r.ensures.1.size)
     returns)

@@ -3,14 +3,14 @@ use Rattle.std.proofs.Common.{◌-◌, length, rules}
 use Rattle.vectors.proofs.answers.say_opening.Statement.{statement}
 use Rattle.vectors.proofs.answers.say_opening.Tie as tie
 
-abbrev invariant-loop : tie.invariant-loop
+abbrev invariant-loop : tie.invariant-loop-i
 invariant-loop list part i₀ i = Unit {0}
 
-abbrev decreases-loop : tie.decreases-loop
+abbrev decreases-loop : tie.decreases-loop-i
 decreases-loop list part i₀ i = length part - i
 
-pub say-opening-spec : {M : Type 1} → statement M
-say-opening-spec =
+pub say_opening_spec : {M : Type 1} → statement M
+say_opening_spec =
     tie.close
     (tie.spec
     invariant-loop

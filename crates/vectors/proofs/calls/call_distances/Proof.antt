@@ -4,24 +4,24 @@ use lib.Seq.{length_front}
 use Rattle.vectors.proofs.calls.call_distances.Statement.{statement}
 use Rattle.vectors.proofs.calls.call_distances.Tie as tie
 
-slice-aggregate-save-words : tie.Need-slice-aggregate-save-words
+slice-aggregate-save-words : tie.Need-slice_bounds-save_words-end
 slice-aggregate-save-words c =
     let called = c.before.before.before.before.before in
     let measured = called.before.before.before.before.before.before.before.before in
     let copied = measured.before.before.before.before.before.before.before.before in
-    let kept = length_front copied.load-words.new.1.1.0 called.distances.new.1.1.1.1.1.0 measured.least.result called.distances.auto.1.1.1.1.1.0 in
-    sym (kept ∙ copied.load-words.auto.1.1.0)
+    let kept = length_front copied.load_words.new.1.1.0 called.distances.new.1.1.1.1.1.0 measured.least-n.result called.distances.auto.1.1.1.1.1.0 in
+    sym (kept ∙ copied.load_words.auto.1.1.0)
 
-slice-aggregate-save-bytes : tie.Need-slice-aggregate-save-bytes
+slice-aggregate-save-bytes : tie.Need-slice_bounds-save_bytes-end
 slice-aggregate-save-bytes c =
     let called = c.before.before.before.before.before.before.before.before.before.before in
     let measured = called.before.before.before.before.before in
     let copied = measured.before.before.before.before.before.before.before in
-    let kept = length_front copied.load-bytes.new.1.1.0 called.distances.new.1.1.1.1.1.1.0 measured.least2.result called.distances.auto.1.1.1.1.1.1.0 in
-    sym (kept ∙ copied.load-bytes.auto.1.1.0)
+    let kept = length_front copied.load_bytes.new.1.1.0 called.distances.new.1.1.1.1.1.1.0 measured.least-b.result called.distances.auto.1.1.1.1.1.1.0 in
+    sym (kept ∙ copied.load_bytes.auto.1.1.0)
 
-pub call-distances-spec : {M : Type 1} → statement M
-call-distances-spec =
+pub call_distances_spec : {M : Type 1} → statement M
+call_distances_spec =
     tie.close
     (tie.spec
     (λ c. search rules)

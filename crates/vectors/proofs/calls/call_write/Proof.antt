@@ -4,16 +4,16 @@ use lib.Seq.{length_front}
 use Rattle.vectors.proofs.calls.call_write.Statement.{statement}
 use Rattle.vectors.proofs.calls.call_write.Tie as tie
 
-slice-aggregate-save-bytes : tie.Need-slice-aggregate-save-bytes
+slice-aggregate-save-bytes : tie.Need-slice_bounds-save_bytes-end
 slice-aggregate-save-bytes c =
     let called = c.before.before.before.before in
     let measured = called.before.before.before.before in
     let copied = measured.before.before.before.before in
-    let kept = length_front copied.load-bytes.new.1.1.0 called.write.new.1.1.1.1.0 measured.least.result called.write.auto.1.1.1.1.0 in
-    sym (kept ∙ copied.load-bytes.auto.1.1.0)
+    let kept = length_front copied.load_bytes.new.1.1.0 called.write.new.1.1.1.1.0 measured.least-n.result called.write.auto.1.1.1.1.0 in
+    sym (kept ∙ copied.load_bytes.auto.1.1.0)
 
-pub call-write-spec : {M : Type 1} → statement M
-call-write-spec =
+pub call_write_spec : {M : Type 1} → statement M
+call_write_spec =
     tie.close
     (tie.spec
     (λ c. search rules)

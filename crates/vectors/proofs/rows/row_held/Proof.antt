@@ -3,14 +3,14 @@ use Rattle.std.proofs.Common.{◌≡◌, ◌-◌, length, rules}
 use Rattle.vectors.proofs.rows.row_held.Statement.{statement}
 use Rattle.vectors.proofs.rows.row_held.Tie as tie
 
-abbrev invariant-loop : tie.invariant-loop
+abbrev invariant-loop : tie.invariant-loop-o
 invariant-loop held rows₀ o₀ rows o = length rows ≡ 80
 
-abbrev decreases-loop : tie.decreases-loop
+abbrev decreases-loop : tie.decreases-loop-o
 decreases-loop held rows₀ o₀ rows o = 80 - o
 
-pub row-held-spec : {M : Type 1} → statement M
-row-held-spec =
+pub row_held_spec : {M : Type 1} → statement M
+row_held_spec =
     tie.close
     (tie.spec
     invariant-loop

@@ -36,7 +36,7 @@ returns c =
     let s = c.before.before in
     let f = first s in
     let x = (start f).args in
-    let pre = (start f).pre in
+    let pre = (start f).requires in
     lowered x.t-1.now _ f.sink.last.0 s.sink-2.new.0 x.a x.key _ _ _ _ _ pre.0 pre.1 pre.2 (omega arith) (omega arith) (omega arith)
     refl f.sink.ensures.0 s.sink-2.ensures.0 pre.3 refl refl
 

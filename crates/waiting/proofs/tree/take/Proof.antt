@@ -37,7 +37,7 @@ returns c =
     let s = c.before.before in
     let f = first s in
     let x = (start f).args in
-    let pre = (start f).pre in
+    let pre = (start f).requires in
     mended x.t-1.now _ f.mend.last.0 s.mend-2.new.0 x.a NOKEY _ _ _ _ _ pre.0 pre.1 pre.2 (omega arith) (omega arith) (omega arith)
     refl f.mend.ensures.0 s.mend-2.ensures.0 refl refl
 
