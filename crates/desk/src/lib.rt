@@ -8,7 +8,7 @@
 #![tactic(auto)]
 
 ghost use Rattle.std.specs.Prelude.{◌≡◌};
-ghost use Rattle.tables.specs.Task.{lent, was, left};
+ghost use Rattle.tables.specs.Task.{lent, was};
 ghost use Rattle.scan.specs.Scan.{tables_fault};
 ghost use Rattle.grammar.specs.Fields.{leaves};
 ghost use Rattle.grammar.specs.Grammar.{read_text};
@@ -34,7 +34,7 @@ use views::{BestAnswer, BoundAnswer, DistanceAnswer, DistancesAnswer};
 // Accepted: the tables hold the task's numbers, and 0 in every place beyond. Refused: every lent place is as it was.
 // `read_unique`.
 pub fn read(task: &[u8], facts: &mut [u8], costs: &mut [u32], shares: &mut [u32]) -> Reading
-    ensures { leaves result (left facts) (left costs) (left shares) ≡ read_text (was task) (was facts) (was costs) (was shares) }
+    ensures { leaves result facts.new costs.new shares.new ≡ read_text (was task) facts.old costs.old shares.old }
 {
     text::read(task, facts, costs, shares)
 }
@@ -51,7 +51,7 @@ pub fn begin_text() -> SoFar
 // 8,192 bytes, which are nobody's answer; before the first byte they may hold anything. Refused: nothing changes.
 // `take_piece_unique`.
 pub fn take_piece(text: SoFar, area: &mut [u8], piece: &[u8]) -> Taken
-    ensures { piece_left result.text result.found (left area) ≡ piece_taken text (was area) (was piece) }
+    ensures { piece_left result.text result.found area.new ≡ piece_taken text area.old (was piece) }
 {
     pieces::take_piece(text, area, piece)
 }
@@ -66,7 +66,7 @@ pub fn end_text(
     costs: &mut [u32],
     shares: &mut [u32],
 ) -> Ended
-    ensures { end_left result.text result.reading (left facts) (left costs) (left shares) ≡ text_ended text (was area) (was facts) (was costs) (was shares) }
+    ensures { end_left result.text result.reading facts.new costs.new shares.new ≡ text_ended text (was area) facts.old costs.old shares.old }
 {
     pieces::end_text(text, area, facts, costs, shares)
 }
@@ -76,7 +76,7 @@ pub fn end_text(
 // Each accepted task has one text, and reading it gives the same tables (proofs/RoundTrips.antt).
 // `write_unique`.
 pub fn write(c: Counts, facts: &[u8], costs: &[u32], shares: &[u32], buffer: &mut [u8]) -> Written
-    ensures { page result (left buffer) ≡ write_text (lent c facts costs shares) (was buffer) }
+    ensures { page result buffer.new ≡ write_text (lent c facts costs shares) buffer.old }
 {
     writer::write(c, facts, costs, shares, buffer)
 }
@@ -102,7 +102,7 @@ pub fn distances(
     out: &mut [u32],
     best: &mut [u8],
 ) -> DistancesAnswer
-    ensures { DistancesGiven (lent c facts costs shares) map (was out) (was best) result (left out) (left best) }
+    ensures { DistancesGiven (lent c facts costs shares) map out.old best.old result out.new best.new }
 {
     views::distances(c, facts, costs, shares, map, out, best)
 }

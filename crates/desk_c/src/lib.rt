@@ -14,7 +14,7 @@ ghost use Rattle.desk_c.specs.Handing.{counts_row, counts_in, counts_put, counts
 ghost use Rattle.desk_c.specs.Handing.{read_left, read_handed, write_left, write_handed, DistancesHanded, DistanceHanded, BestHanded, BoundHanded};
 ghost use Rattle.lent_texts.specs.Lent.{text_words};
 ghost use Rattle.desk_c.specs.Pieces.{begin_after, begin_text_handed, piece_after, take_piece_handed, ended_by, end_after, end_text_handed};
-ghost use Rattle.tables.specs.Task.{was, left};
+ghost use Rattle.tables.specs.Task.{was};
 
 use grammar::Reading;
 use lent_runs::{hand_back, run_in, run_short};
@@ -49,7 +49,7 @@ fn counts_in(row: &[u32]) -> Counts
 // Puts counts into a lent row.
 fn put_counts(row: &mut [u32], c: Counts)
     requires { counts_row ≤ length row.old }
-    ensures { left row ≡ counts_put c (was row) }
+    ensures { row.new ≡ counts_put c row.old }
 {
     row[0] = c.vars;
     row[1] = c.ops;
@@ -78,7 +78,7 @@ pub extern "C" fn desk_read(
     costs: &mut [u32],
     shares: &mut [u32],
 ) -> u64
-    ensures { read_left result (left counts) (left facts) (left costs) (left shares) ≡ read_handed (was task) (was counts) (was facts) (was costs) (was shares) }
+    ensures { read_left result counts.new facts.new costs.new shares.new ≡ read_handed (was task) counts.old facts.old costs.old shares.old }
 {
     if counts.len() < COUNTS_ROW {
         return refused_word(Refusal::TableTooShort);
@@ -96,7 +96,7 @@ pub extern "C" fn desk_read(
 // Hands back a reading: its counts go into the lent row if it was accepted.
 fn hand_reading(r: Reading, counts: &mut [u32]) -> u64
     requires { counts_row ≤ length counts.old }
-    ensures { (result ≡ reading_word r) × (left counts ≡ counts_after r (was counts)) }
+    ensures { (result ≡ reading_word r) × (counts.new ≡ counts_after r counts.old) }
 {
     match r {
         Reading::Accepted(c) => {
@@ -110,7 +110,7 @@ fn hand_reading(r: Reading, counts: &mut [u32]) -> u64
 // Ends the text in lent words if it has ended now and had not before.
 fn hand_ended(before: bool, ended: bool, text: &mut [u32])
     requires { text_words ≤ length text.old }
-    ensures { left text ≡ ended_by before ended (was text) }
+    ensures { text.new ≡ ended_by before ended text.old }
 {
     if before {
         return;
@@ -124,7 +124,7 @@ fn hand_ended(before: bool, ended: bool, text: &mut [u32])
 // `begin_text_unique`.
 #[unsafe(no_mangle)]
 pub extern "C" fn desk_begin_text(text: &mut [u32]) -> u64
-    ensures { begin_after result (left text) ≡ begin_text_handed (was text) }
+    ensures { begin_after result text.new ≡ begin_text_handed text.old }
 {
     if text_short(text) {
         return refused_word(Refusal::TableTooShort);
@@ -137,7 +137,7 @@ pub extern "C" fn desk_begin_text(text: &mut [u32]) -> u64
 // `take_piece_unique`.
 #[unsafe(no_mangle)]
 pub extern "C" fn desk_take_piece(text: &mut [u32], area: &mut [u8], piece: &[u8]) -> u64
-    ensures { piece_after result (left text) (left area) ≡ take_piece_handed (was text) (was area) (was piece) }
+    ensures { piece_after result text.new area.new ≡ take_piece_handed text.old area.old (was piece) }
 {
     if text_short(text) {
         return refused_word(Refusal::TableTooShort);
@@ -162,7 +162,7 @@ pub extern "C" fn desk_end_text(
     costs: &mut [u32],
     shares: &mut [u32],
 ) -> u64
-    ensures { end_after (read_left result (left counts) (left facts) (left costs) (left shares)) (left text) ≡ end_text_handed (was text) (was area) (was counts) (was facts) (was costs) (was shares) }
+    ensures { end_after (read_left result counts.new facts.new costs.new shares.new) text.new ≡ end_text_handed text.old (was area) counts.old facts.old costs.old shares.old }
 {
     if text_short(text) {
         return refused_word(Refusal::TableTooShort);
@@ -189,7 +189,7 @@ pub extern "C" fn desk_write(
     shares: &[u32],
     buffer: &mut [u8],
 ) -> u64
-    ensures { write_left result (left buffer) ≡ write_handed (lent_task counts facts costs shares) (was buffer) }
+    ensures { write_left result buffer.new ≡ write_handed (lent_task counts facts costs shares) buffer.old }
 {
     let c = counts_in(counts);
     let f = facts_beside(counts, facts);
@@ -219,7 +219,7 @@ pub extern "C" fn desk_distances(
     out: &mut [u32],
     best: &mut [u8],
 ) -> u64
-    ensures { DistancesHanded (lent_task counts facts costs shares) map (was out) (was best) result (left out) (left best) }
+    ensures { DistancesHanded (lent_task counts facts costs shares) map out.old best.old result out.new best.new }
 {
     let c = counts_in(counts);
     let f = facts_beside(counts, facts);
@@ -348,7 +348,7 @@ pub extern "C" fn desk_begin(
     bytes: &mut [u8],
     words: &mut [u32],
 ) -> u64
-    ensures { run_left result (left bytes) (left words) ≡ begin_handed (lent_task counts facts costs shares) (was start) (was bytes) (was words) }
+    ensures { run_left result bytes.new words.new ≡ begin_handed (lent_task counts facts costs shares) (was start) bytes.old words.old }
 {
     if run_short(bytes, words) {
         return refused_word(Refusal::TableTooShort);
@@ -372,7 +372,7 @@ pub extern "C" fn desk_offer(
     number: u32,
     op: u32,
 ) -> u64
-    ensures { run_left result (left bytes) (left words) ≡ offer_handed (lent_task counts facts costs shares) (was bytes) (was words) number op }
+    ensures { run_left result bytes.new words.new ≡ offer_handed (lent_task counts facts costs shares) bytes.old words.old number op }
 {
     if run_short(bytes, words) {
         return refused_word(Refusal::TableTooShort);

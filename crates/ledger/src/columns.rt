@@ -1,6 +1,6 @@
 // What a step books.
 ghost use Rattle.std.specs.Prelude.{◌≡◌, ◌<◌};
-ghost use Rattle.tables.specs.Task.{task_of, tables, lent, was, left};
+ghost use Rattle.tables.specs.Task.{task_of, tables, lent};
 ghost use Rattle.scan.specs.declared.Found.TheVariants.{Clean};
 ghost use Rattle.scan.specs.Scan.{tables_fault};
 ghost use Rattle.ledger.specs.Ledger.{booked};
@@ -22,7 +22,7 @@ pub fn book(
     op: OpNo,
 )
     requires { (tables_fault (tables c facts.now costs.now shares.now) ≡ Clean) × (op.0 < c.ops) × HasRoom columns.old }
-    ensures { left columns ≡ booked (task_of (lent c facts costs shares)) (was columns) op.0 }
+    ensures { columns.new ≡ booked (task_of (lent c facts costs shares)) columns.old op.0 }
 {
     let o = op.0 as usize;
     let mut shared: u32 = 0;

@@ -4,7 +4,7 @@ ghost use Rattle.std.specs.Prelude.{◌≡◌, ◌≤◌, ◌<◌, length, take}
 ghost use Rattle.meaning.specs.Limits.{most_vars, most_ops, most_steps};
 ghost use Rattle.tables.specs.Layout.{facts_room};
 ghost use Rattle.tables.specs.Steps.{stepped};
-ghost use Rattle.tables.specs.Task.{tables, lent, was, left};
+ghost use Rattle.tables.specs.Task.{tables, lent, was};
 ghost use Rattle.scan.specs.declared.Found.TheVariants.{Clean};
 ghost use Rattle.scan.specs.Scan.{tables_fault};
 ghost use Rattle.ledger.specs.Ledger.{at_start, can_run, within_quota, can_follow, replayed};
@@ -77,7 +77,7 @@ pub fn can_follow(
 // The state after the operator: each effect holds and all else stays.
 pub fn step(c: Counts, facts: &[u8], state: &mut [u8; 8], op: OpNo)
     requires { (c.vars ≤ most_vars) × (op.0 < most_ops) × (facts_room ≤ length facts.now) }
-    ensures { left state ≡ stepped c (was facts) (was state) op.0 }
+    ensures { state.new ≡ stepped c (was facts) state.old op.0 }
 {
     let vars = c.vars as usize;
     let row = eff_row(op) as usize;

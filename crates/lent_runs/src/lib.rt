@@ -4,7 +4,7 @@
 ghost use Rattle.std.specs.Prelude.{◌≡◌, ◌+◌, ◌≤◌, length, get_or};
 ghost use Rattle.lent_runs.specs.Lent.{placed, run_bytes, run_words, run_in, bytes_with, words_with};
 ghost use Rattle.lent_runs.specs.Left.{run_short, run_left, handed};
-ghost use Rattle.tables.specs.Task.{was, left};
+ghost use Rattle.tables.specs.Task.{was};
 
 use ledger::{Answer, COLUMNS, Offered, Run};
 use meaning::limits::STEPS_MOST;
@@ -24,7 +24,7 @@ const RUN_WORDS: usize = COLUMNS_FROM + COLUMNS;
 // Sets n bytes of `to` from its place j on to those of `from` from its place i on.
 fn copy_bytes(from: &[u8], i: usize, to: &mut [u8], j: usize, n: usize)
     requires { (i + n ≤ length from.now) × (j + n ≤ length to.old) }
-    ensures { left to ≡ placed (λ k. get_or (was from) (i + k) 0) j (was to) n }
+    ensures { to.new ≡ placed (λ k. get_or (was from) (i + k) 0) j to.old n }
 {
     let mut k = 0usize;
     while k < n {
@@ -36,7 +36,7 @@ fn copy_bytes(from: &[u8], i: usize, to: &mut [u8], j: usize, n: usize)
 // The same for words.
 fn copy_words(from: &[u32], i: usize, to: &mut [u32], j: usize, n: usize)
     requires { (i + n ≤ length from.now) × (j + n ≤ length to.old) }
-    ensures { left to ≡ placed (λ k. get_or (was from) (i + k) 0) j (was to) n }
+    ensures { to.new ≡ placed (λ k. get_or (was from) (i + k) 0) j to.old n }
 {
     let mut k = 0usize;
     while k < n {
@@ -80,7 +80,7 @@ pub fn run_in(bytes: &[u8], words: &[u32]) -> Run
 // Writes a run's start and state now into lent memory.
 fn put_bytes(run: Run, bytes: &mut [u8])
     requires { run_bytes ≤ length bytes.old }
-    ensures { left bytes ≡ bytes_with run (was bytes) }
+    ensures { bytes.new ≡ bytes_with run bytes.old }
 {
     let start = run.start;
     let now = run.now;
@@ -91,7 +91,7 @@ fn put_bytes(run: Run, bytes: &mut [u8])
 // Writes a run's log, number of steps and columns into lent memory.
 fn put_words(run: Run, words: &mut [u32])
     requires { run_words ≤ length words.old }
-    ensures { left words ≡ words_with run (was words) }
+    ensures { words.new ≡ words_with run words.old }
 {
     let log = run.log;
     let columns = run.columns;
@@ -103,7 +103,7 @@ fn put_words(run: Run, words: &mut [u32])
 // Hands back the answer to a start or an offer, with the run in lent memory if it was accepted; else nothing there moves.
 pub fn hand_back(o: Offered, bytes: &mut [u8], words: &mut [u32]) -> u64
     requires { (run_bytes ≤ length bytes.old) × (run_words ≤ length words.old) }
-    ensures { run_left result (left bytes) (left words) ≡ handed o (was bytes) (was words) }
+    ensures { run_left result bytes.new words.new ≡ handed o bytes.old words.old }
 {
     let a = o.answer;
     let run = o.run;

@@ -3,7 +3,7 @@
 
 ghost use Rattle.std.specs.Prelude.{◌≡◌, ◌≤◌, length};
 ghost use Rattle.lent_texts.specs.Lent.{text_words, text_short, halt_word, halt_of, ended_word, so_far_in, words_with, words_ended};
-ghost use Rattle.tables.specs.Task.{was, left};
+ghost use Rattle.tables.specs.Task.{was};
 
 use pieces::SoFar;
 use tables::Counts;
@@ -103,7 +103,7 @@ fn ended_word(ended: bool) -> u32
 // Writes a text so far into lent words, one place after the other; those beyond stay.
 pub fn put_text(s: SoFar, words: &mut [u32])
     requires { text_words ≤ length words.old }
-    ensures { left words ≡ words_with s (was words) }
+    ensures { words.new ≡ words_with s words.old }
 {
     let c = s.at;
     let halt = c.halt;
@@ -132,7 +132,7 @@ pub fn put_text(s: SoFar, words: &mut [u32])
 // Ends the text so far in lent words: no other word moves.
 pub fn put_ended(words: &mut [u32])
     requires { text_words ≤ length words.old }
-    ensures { left words ≡ words_ended (was words) }
+    ensures { words.new ≡ words_ended words.old }
 {
     words[0] = 1;
 }

@@ -4,7 +4,7 @@ ghost use Rattle.std.specs.Prelude.{◌≡◌, ◌+◌, ◌*◌, ◌≤◌, ◌<
 ghost use Rattle.meaning.specs.Limits.{most_states};
 ghost use Rattle.meaning.specs.Sas.{put};
 ghost use Rattle.tables.specs.Layout.{dom_at};
-ghost use Rattle.tables.specs.Task.{was, left};
+ghost use Rattle.tables.specs.Task.{was};
 ghost use Rattle.maps.specs.Inside.Walks.{Walkable, states_of};
 ghost use Rattle.maps.specs.Inside.Rows.{lanes, Parts};
 ghost use Rattle.maps.specs.Inside.Parts.{part_of, OpParts, ValueParts, VariableParts, Parted, Stepped};
@@ -36,7 +36,7 @@ fn part_of(pre: u8, eff: u8, x: u8, stride: u32) -> u16
 fn op_parts(c: Counts, facts: &[u8], v: u32, x: u8, stride: u32, at: usize, parts: &mut [u16])
     requires walkable { Walkable c facts.now × (v < c.vars) × (x < dom_at facts.now v) × (dom_at facts.now v * stride ≤ most_states) }
     requires parts { Parts parts.old × (at + lanes ≤ length parts.old) }
-    ensures { OpParts c.ops (was facts) v x stride at (was parts) (left parts) }
+    ensures { OpParts c.ops (was facts) v x stride at parts.old parts.new }
 {
     let ops = c.ops;
     let mut o = 0u32;
@@ -54,7 +54,7 @@ fn op_parts(c: Counts, facts: &[u8], v: u32, x: u8, stride: u32, at: usize, part
 // Sets all parts of the value x of variable v.
 fn value_parts(c: Counts, facts: &[u8], v: u32, x: u8, stride: u32, parts: &mut [u16])
     requires { Walkable c facts.now × (v < c.vars) × (x < dom_at facts.now v) × (dom_at facts.now v * stride ≤ most_states) × Parts parts.old }
-    ensures { ValueParts c (was facts) v x stride (was parts) (left parts) }
+    ensures { ValueParts c (was facts) v x stride parts.old parts.new }
 {
     let at = (v as usize * 8 + x as usize) * LANES;
     op_parts(c, facts, v, x, stride, at, parts);
@@ -64,7 +64,7 @@ fn value_parts(c: Counts, facts: &[u8], v: u32, x: u8, stride: u32, parts: &mut 
 // Sets the parts of the k values of variable v.
 fn variable_parts(c: Counts, facts: &[u8], v: u32, k: u8, stride: u32, parts: &mut [u16])
     requires { Walkable c facts.now × (v < c.vars) × (k ≡ dom_at facts.now v) × (dom_at facts.now v * stride ≤ most_states) × Parts parts.old }
-    ensures { VariableParts c (was facts) v k stride (was parts) (left parts) }
+    ensures { VariableParts c (was facts) v k stride parts.old parts.new }
 {
     let mut x = 0u8;
     while x < k {
@@ -76,7 +76,7 @@ fn variable_parts(c: Counts, facts: &[u8], v: u32, k: u8, stride: u32, parts: &m
 // Sets the parts of all values. The values of variable 0 are `unit` apart: 1 for the numbers of the states after the steps, 0 to learn only whether facts fail.
 fn parts_of(c: Counts, facts: &[u8], unit: u32, parts: &mut [u16])
     requires { Walkable c facts.now × (unit ≤ 1) × Parts parts.old }
-    ensures { Parted c (was facts) unit c.vars (left parts) }
+    ensures { Parted c (was facts) unit c.vars parts.new }
 {
     let vars = c.vars;
     let mut stride = unit;
@@ -92,8 +92,8 @@ fn parts_of(c: Counts, facts: &[u8], unit: u32, parts: &mut [u16])
 // Lays a row for each state: where each operator leads, if it may run, and whether the goal is met.
 pub fn lay_steps(c: Counts, facts: &[u8], unit: u32, t: &mut [u16])
     requires { Walkable c facts.now × (unit ≤ 1) × (states_of c facts.now * lanes ≤ length t.old) }
-    ensures stepped { Stepped c (was facts) unit (left t) }
-    ensures t_len { length (left t) ≡ length (was t) }
+    ensures stepped { Stepped c (was facts) unit t.new }
+    ensures t_len { length t.new ≡ length t.old }
 {
     let mut parts = [0u16; PARTS_ROOM];
     parts_of(c, facts, unit, &mut parts);

@@ -4,7 +4,7 @@ ghost use Rattle.std.specs.Prelude.{◌≡◌, ℕ, ◌+◌, ◌*◌, ◌≤◌,
 ghost use Rattle.meaning.specs.Limits.{most_vars, most_values, most_states};
 ghost use Rattle.meaning.specs.Numbering.{size};
 ghost use Rattle.tables.specs.Layout.{dom_at};
-ghost use Rattle.tables.specs.Task.{was, left};
+ghost use Rattle.tables.specs.Task.{was};
 ghost use Rattle.maps.specs.Inside.Walks.{Walkable};
 ghost use Rattle.maps.specs.Inside.Rows.{lanes, most_laid, most_part, lane_at, Parts, RowLaid, ValueLaid, VariableLaid, Laid};
 
@@ -26,7 +26,7 @@ pub const ROWS_ROOM: usize = 266240;
 fn lay_row(t: &mut [u16], a: usize, b: usize, parts: &[u16], at: usize)
     requires lanes_in_bounds { (a * lanes + lanes ≤ length t.old) × (b * lanes + lanes ≤ length t.old) × (a < most_states) × (b < most_states) × (at + lanes ≤ length parts.now) }
     requires by_index { (o : ℕ) → o < lanes → lane_at t.old a o + get_or parts.now (at + o) 0 ≤ most_laid }
-    ensures { RowLaid a b (was parts) at (was t) (left t) }
+    ensures { RowLaid a b (was parts) at t.old t.new }
 {
     let from = a * LANES;
     let to = b * LANES;
@@ -41,7 +41,7 @@ fn lay_row(t: &mut [u16], a: usize, b: usize, parts: &[u16], at: usize)
 fn lay_value(t: &mut [u16], len: usize, base: usize, parts: &[u16], at: usize)
     requires len_le_base { (1 ≤ base → len ≤ base) × (base + len ≤ most_states) × ((base + len) * lanes ≤ length t.old) × (at + lanes ≤ length parts.now) }
     requires by_index { (i o : ℕ) → i < len → o < lanes → lane_at t.old i o + get_or parts.now (at + o) 0 ≤ most_laid }
-    ensures { ValueLaid len base (was parts) at len (was t) (left t) }
+    ensures { ValueLaid len base (was parts) at len t.old t.new }
 {
     let mut i = 0usize;
     while i < len {
@@ -55,7 +55,7 @@ fn lay_value(t: &mut [u16], len: usize, base: usize, parts: &[u16], at: usize)
 fn lay_variable(t: &mut [u16], len: usize, k: usize, parts: &[u16], v: usize)
     requires le_len { (1 ≤ len) × (k ≤ most_values) × (v < most_vars) × (len * k ≤ most_states) × (len * k * lanes ≤ length t.old) × Parts parts.now }
     requires by_index { (i o : ℕ) → i < len → o < lanes → lane_at t.old i o + most_part ≤ most_laid }
-    ensures { VariableLaid len k (was parts) v 0 (was t) (left t) }
+    ensures { VariableLaid len k (was parts) v 0 t.old t.new }
 {
     let mut x = k;
     let mut base = len * k;
@@ -69,8 +69,8 @@ fn lay_variable(t: &mut [u16], len: usize, k: usize, parts: &[u16], v: usize)
 // Sets the first row to 0.
 fn clear_row(t: &mut [u16])
     requires { lanes ≤ length t.old }
-    ensures by_index { (o : ℕ) → o < lanes → lane_at (left t) 0 o ≡ 0 }
-    ensures t_len { length (left t) ≡ length (was t) }
+    ensures by_index { (o : ℕ) → o < lanes → lane_at t.new 0 o ≡ 0 }
+    ensures t_len { length t.new ≡ length t.old }
 {
     let mut o = 0usize;
     while o < LANES {
@@ -82,8 +82,8 @@ fn clear_row(t: &mut [u16])
 // Lays the rows of all states of the facts' variables.
 pub fn lay(c: Counts, facts: &[u8], parts: &[u16], t: &mut [u16])
     requires { Walkable c facts.now × Parts parts.now × (size (dom_at facts.now) c.vars * lanes ≤ length t.old) }
-    ensures laid { Laid (dom_at (was facts)) (was parts) c.vars (left t) }
-    ensures t_len { length (left t) ≡ length (was t) }
+    ensures laid { Laid (dom_at (was facts)) (was parts) c.vars t.new }
+    ensures t_len { length t.new ≡ length t.old }
 {
     clear_row(t);
     let vars = c.vars;

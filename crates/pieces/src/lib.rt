@@ -4,7 +4,7 @@
 
 ghost use Rattle.std.specs.Prelude.{◌≡◌, ◌≤◌, length, replicate};
 ghost use Rattle.pieces.specs.Pieces.{begun_text, bytes_with, lent_short, piece_left, piece_taken, end_left, text_ended};
-ghost use Rattle.tables.specs.Task.{was, left};
+ghost use Rattle.tables.specs.Task.{was};
 
 use grammar::Reading;
 use meaning::limits::BYTES_MOST;
@@ -59,7 +59,7 @@ fn more_bytes(bytes: u32, n: usize) -> u32
 
 // Clears what a reading goes on in.
 fn clear(w: &mut [u8])
-    ensures { left w ≡ replicate (length (was w)) 0 }
+    ensures { w.new ≡ replicate (length w.old) 0 }
 {
     clear_bytes(0, w);
 }
@@ -77,7 +77,7 @@ pub fn begin_text() -> SoFar
 
 // TAKES A PIECE: its bytes are read one after the other in the lent area, which is cleared as long as no byte was read.
 pub fn take_piece(s: SoFar, area: &mut [u8], piece: &[u8]) -> Taken
-    ensures { piece_left result.text result.found (left area) ≡ piece_taken s (was area) (was piece) }
+    ensures { piece_left result.text result.found area.new ≡ piece_taken s area.old (was piece) }
 {
     if area.len() < AREA_LENT {
         return Taken {
@@ -131,7 +131,7 @@ pub fn end_text(
     costs: &mut [u32],
     shares: &mut [u32],
 ) -> Ended
-    ensures { end_left result.text result.reading (left facts) (left costs) (left shares) ≡ text_ended s (was area) (was facts) (was costs) (was shares) }
+    ensures { end_left result.text result.reading facts.new costs.new shares.new ≡ text_ended s (was area) facts.old costs.old shares.old }
 {
     if lent_short(area, facts, costs, shares) {
         return Ended {

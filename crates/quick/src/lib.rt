@@ -7,7 +7,7 @@ ghost use Rattle.std.specs.Prelude.{◌≡◌, [], ℕ, ◌*◌, ◌≤◌, ◌<
 ghost use Rattle.meaning.specs.Limits.{most_states};
 ghost use Rattle.meaning.specs.Sas.{IsState};
 ghost use Rattle.meaning.specs.Split.{Valid};
-ghost use Rattle.tables.specs.Task.{task_of, tables, state_of, was, left};
+ghost use Rattle.tables.specs.Task.{task_of, tables, state_of, was};
 ghost use Rattle.maps.specs.Said.{HALT};
 ghost use Rattle.maps.specs.Inside.Walks.{Walkable, states_of, space_of, PricesSmall};
 ghost use Rattle.maps.specs.Inside.Classes.{unpriced, view_graph_of, SharesSmall};
@@ -54,7 +54,7 @@ fn show(label: u64) -> u32
 // Sets the first places of a distance table to what the labels show.
 fn write_distances(n: u32, labels: &[u64], out: &mut [u32])
     requires { (n ≤ most_states) × (n ≤ length labels.now) × (n ≤ length out.old) × ((a : ℕ) → a < n → get_or labels.now a 0 ≤ NOLABEL) }
-    ensures { Made (λ a x. x ≡ shown (get_or (was labels) a 0)) n (was out) (left out) }
+    ensures { Made (λ a x. x ≡ shown (get_or (was labels) a 0)) n out.old out.new }
 {
     let mut a = 0u32;
     while a < n {
@@ -66,7 +66,7 @@ fn write_distances(n: u32, labels: &[u64], out: &mut [u32])
 // Sets the first places of a table of best steps to the steps found.
 fn write_steps(n: u32, found: &[u8], best: &mut [u8])
     requires { (n ≤ most_states) × (n ≤ length found.now) × (n ≤ length best.old) }
-    ensures { Copied n (was found) (was best) (left best) }
+    ensures { Copied n (was found) best.old best.new }
 {
     let mut a = 0u32;
     while a < n {
@@ -91,8 +91,8 @@ fn quick_in(
     requires walkable { Walkable c facts.now × PricesSmall c prices.now × (n ≡ states_of c facts.now) × (n * lanes ≤ length fits.old) × (c.ops * n ≤ length back.old) }
     requires n_in_bounds { (n ≤ length labels.old) × (n ≤ length found.old) × ((a : ℕ) → a < n → (get_or labels.old a 0 ≡ NOLABEL) × (get_or found.old a 0 ≡ HALT)) }
     requires n_in_bounds_2 { (n ≤ length out.old) × (n ≤ length best.old) }
-    ensures distances { Distances (space_of c (was facts) (was prices)) (was out) (left out) }
-    ensures best_steps { BestSteps (space_of c (was facts) (was prices)) (was best) (left best) }
+    ensures distances { Distances (space_of c (was facts) (was prices)) out.old out.new }
+    ensures best_steps { BestSteps (space_of c (was facts) (was prices)) best.old best.new }
 {
     lay_fits(c, facts, fits);
     let mut turns = [0u32; TURNS_ROOM];
@@ -109,8 +109,8 @@ fn quick_in(
 // The same for a small map, in little room.
 fn quick_small(c: Counts, facts: &[u8], prices: &[u32], n: u32, out: &mut [u32], best: &mut [u8])
     requires { Walkable c facts.now × PricesSmall c prices.now × (n ≡ states_of c facts.now) × (n ≤ 64) × (n ≤ length out.old) × (n ≤ length best.old) }
-    ensures distances { Distances (space_of c (was facts) (was prices)) (was out) (left out) }
-    ensures best_steps { BestSteps (space_of c (was facts) (was prices)) (was best) (left best) }
+    ensures distances { Distances (space_of c (was facts) (was prices)) out.old out.new }
+    ensures best_steps { BestSteps (space_of c (was facts) (was prices)) best.old best.new }
 {
     let mut fits = [0u16; SMALL_ROWS];
     let mut back = [0u16; SMALL_BACK];
@@ -133,8 +133,8 @@ fn quick_small(c: Counts, facts: &[u8], prices: &[u32], n: u32, out: &mut [u32],
 // The same for any map.
 fn quick_large(c: Counts, facts: &[u8], prices: &[u32], n: u32, out: &mut [u32], best: &mut [u8])
     requires { Walkable c facts.now × PricesSmall c prices.now × (n ≡ states_of c facts.now) × (n ≤ length out.old) × (n ≤ length best.old) }
-    ensures distances { Distances (space_of c (was facts) (was prices)) (was out) (left out) }
-    ensures best_steps { BestSteps (space_of c (was facts) (was prices)) (was best) (left best) }
+    ensures distances { Distances (space_of c (was facts) (was prices)) out.old out.new }
+    ensures best_steps { BestSteps (space_of c (was facts) (was prices)) best.old best.new }
 {
     let mut fits = [0u16; ROWS_ROOM];
     let mut back = [0u16; BACK_ROOM];
@@ -165,8 +165,8 @@ pub fn view_quick(
 )
     requires valid { Valid (unpriced c facts.now) × (map < c.maps) × PricesSmall c prices.now }
     requires most_states_in_bounds { (most_states ≤ length out.old) × (most_states ≤ length best.old) }
-    ensures distances { Distances (view_graph_of c (was facts) map (was prices)) (was out) (left out) }
-    ensures best_steps { BestSteps (view_graph_of c (was facts) map (was prices)) (was best) (left best) }
+    ensures distances { Distances (view_graph_of c (was facts) map (was prices)) out.old out.new }
+    ensures best_steps { BestSteps (view_graph_of c (was facts) map (was prices)) best.old best.new }
 {
     let seen = class_facts(c, facts, map);
     let n = states_of(c, &seen);

@@ -2,7 +2,7 @@
 // What is shown is that nobody waits in the end, and that the labels are right then; that the least key comes first is for speed alone.
 ghost use Rattle.std.specs.Prelude.{◌≡◌, List, ℕ, ◌+◌, ◌*◌, ◌≤◌, ◌<◌, length, get_or};
 ghost use Rattle.meaning.specs.Limits.{most_cost};
-ghost use Rattle.tables.specs.Task.{was, left};
+ghost use Rattle.tables.specs.Task.{was};
 ghost use Rattle.maps.specs.Inside.Walks.{Walkable, states_of};
 ghost use Rattle.maps.specs.Inside.Rows.{lanes};
 ghost use Rattle.turned.specs.Inside.Wants.{Fits};
@@ -49,7 +49,7 @@ fn relax_one(
     requires ready { Ready c facts.now prices.now n fits.now turns.now back.now × Into c facts.now o b × Held b label labels.old t.old }
     requires i_bound { (i < count_at turns.now o) × (a ≡ back_at n turns.now back.now o b i) × (new ≡ label + (get_or prices.now o 0 * 4096 + 1)) }
     requires run { Run (scaled_of c facts.now prices.now) (states_of c facts.now) b (Left n turns.now back.now b o i) labels.old t.old best.old }
-    ensures { Relaxed (scaled_of c (was facts) (was prices)) b label (Left n (was turns) (was back) b o (i + 1)) (was labels) (was t) (was best) (left labels) (left t) (left best) }
+    ensures { Relaxed (scaled_of c (was facts) (was prices)) b label (Left n (was turns) (was back) b o (i + 1)) labels.old t.old best.old labels.new t.new best.new }
 {
     offer(labels, t, best, a as usize, o as u8, new);
 }
@@ -72,7 +72,7 @@ fn relax_op(
 )
     requires ready { Ready c facts.now prices.now n fits.now turns.now back.now × Into c facts.now o b × Held b label labels.old t.old }
     requires run { Run (scaled_of c facts.now prices.now) (states_of c facts.now) b (From o) labels.old t.old best.old }
-    ensures { Relaxed (scaled_of c (was facts) (was prices)) b label (From (o + 1)) (was labels) (was t) (was best) (left labels) (left t) (left best) }
+    ensures { Relaxed (scaled_of c (was facts) (was prices)) b label (From (o + 1)) labels.old t.old best.old labels.new t.new best.new }
 {
     let new = label + scaled_price(cost_at(prices, OpNo(o)));
     let base = b - turns[o as usize] + turns[64 + o as usize];
@@ -106,7 +106,7 @@ fn relax_if(
 )
     requires ready { Ready c facts.now prices.now n fits.now turns.now back.now × (o < c.ops) × (b < n) × Held b label labels.old t.old }
     requires run { Run (scaled_of c facts.now prices.now) (states_of c facts.now) b (From o) labels.old t.old best.old }
-    ensures { Relaxed (scaled_of c (was facts) (was prices)) b label (From (o + 1)) (was labels) (was t) (was best) (left labels) (left t) (left best) }
+    ensures { Relaxed (scaled_of c (was facts) (was prices)) b label (From (o + 1)) labels.old t.old best.old labels.new t.new best.new }
 {
     if fits[b as usize * LANES + o as usize] == 0 {
         relax_op(
@@ -132,7 +132,7 @@ fn relax_into(
 )
     requires ready { Ready c facts.now prices.now n fits.now turns.now back.now × (b < n) × Held b label labels.old t.old }
     requires run { Run (scaled_of c facts.now prices.now) (states_of c facts.now) b Every labels.old t.old best.old }
-    ensures { Relaxed (scaled_of c (was facts) (was prices)) b label Nothing (was labels) (was t) (was best) (left labels) (left t) (left best) }
+    ensures { Relaxed (scaled_of c (was facts) (was prices)) b label Nothing labels.old t.old best.old labels.new t.new best.new }
 {
     let ops = c.ops;
     let mut o = 0u32;
@@ -159,8 +159,8 @@ pub fn run(
 )
     requires ready { Ready c facts.now prices.now n fits.now turns.now back.now }
     requires run { Run (scaled_of c facts.now prices.now) (states_of c facts.now) 0 Nothing labels.old t.old best.old }
-    ensures run_2 { Run (scaled_of c (was facts) (was prices)) (states_of c (was facts)) 0 Nothing (left labels) (left t) (left best) }
-    ensures by_index { (a : ℕ) → a < 4096 → NOKEY ≤ leaf (left t) a }
+    ensures run_2 { Run (scaled_of c (was facts) (was prices)) (states_of c (was facts)) 0 Nothing labels.new t.new best.new }
+    ensures by_index { (a : ℕ) → a < 4096 → NOKEY ≤ leaf t.new a }
 {
     let mut key = low(t, 0);
     while key < NO_KEY {
@@ -186,7 +186,7 @@ pub fn start(
 )
     requires walkable { Walkable c facts.now × (n ≡ states_of c facts.now) × Fits c facts.now fits.now × (n * lanes ≤ length fits.now) }
     requires by_index { (prices : List ℕ) → Run (scaled_of c facts.now prices) 0 0 Nothing labels.old t.old best.old }
-    ensures { (prices : List ℕ) → Run (scaled_of c (was facts) prices) n 0 Nothing (left labels) (left t) (left best) }
+    ensures { (prices : List ℕ) → Run (scaled_of c (was facts) prices) n 0 Nothing labels.new t.new best.new }
 {
     let mut a = 0u32;
     while a < n {

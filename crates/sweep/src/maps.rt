@@ -4,7 +4,7 @@ ghost use Rattle.meaning.specs.Limits.{most_ops, most_states};
 ghost use Rattle.meaning.specs.Sas.{IsState};
 ghost use Rattle.meaning.specs.Split.{Valid};
 ghost use Rattle.tables.specs.Layout.{share_at};
-ghost use Rattle.tables.specs.Task.{task_of, tables, state_of, was, left};
+ghost use Rattle.tables.specs.Task.{task_of, tables, state_of, was};
 ghost use Rattle.sweep.specs.Inside.Sweeps.{PricesSmall, Counted};
 ghost use Rattle.sweep.specs.Inside.Classes.{unpriced, view_graph_of, SharesSmall, AtImage};
 
@@ -29,7 +29,7 @@ pub fn view_rounds(
 ) -> u32
     requires valid { Valid (unpriced c facts.now) × (map < c.maps) × PricesSmall c prices.now }
     requires most_states_in_bounds { (most_states ≤ length out.old) × (most_states ≤ length best.old) }
-    ensures { Counted (view_graph_of c (was facts) map (was prices)) (was out) (left out) (was best) (left best) result }
+    ensures { Counted (view_graph_of c (was facts) map (was prices)) out.old out.new best.old best.new result }
 {
     let seen = class_facts(c, facts, map);
     let n = states_of(c, &seen);

@@ -9,7 +9,7 @@ ghost use Rattle.tables.specs.Layout.{dom_at};
 ghost use Rattle.sweep.specs.Said.{NONE, said, said_at, advised};
 ghost use Rattle.sweep.specs.Inside.Walks.{Walkable, next_of, space_of};
 ghost use Rattle.sweep.specs.Inside.Sweeps.{PricesSmall, Addable, Filled, Cleared, Copied, Picks, Swept, Noted, Counted};
-ghost use Rattle.tables.specs.Task.{was, left};
+ghost use Rattle.tables.specs.Task.{was};
 
 use crate::walk::{Step, digits, step_from};
 use meaning::{OpNo, StateNo, state_index};
@@ -102,8 +102,8 @@ fn sweep(
 ) -> bool
     requires walkable { Walkable c facts.now × PricesSmall c prices.now × (n ≡ size (dom_at facts.now) c.vars) }
     requires n_in_bounds { (n ≤ length old.now) × (n ≤ length new.old) × (n ≤ length best.old) × Addable n old.now }
-    ensures swept { Swept n (space_of c (was facts) (was prices)) (was old) (was new) (left new) result }
-    ensures noted { Noted n (space_of c (was facts) (was prices)) (was old) (was best) (left best) }
+    ensures swept { Swept n (space_of c (was facts) (was prices)) (was old) new.old new.new result }
+    ensures noted { Noted n (space_of c (was facts) (was prices)) (was old) best.old best.new }
 {
     let mut changed = false;
     let mut a = 0u32;
@@ -124,7 +124,7 @@ fn sweep(
 // Sets the places of the states to the costs over no steps.
 fn fill(c: Counts, facts: &[u8], n: u32, t: &mut [u32])
     requires { Walkable c facts.now × (n ≡ size (dom_at facts.now) c.vars) × (n ≤ length t.old) }
-    ensures { Filled n (space_of c (was facts) []) (was t) (left t) }
+    ensures { Filled n (space_of c (was facts) []) t.old t.new }
 {
     let mut a = 0u32;
     while a < n {
@@ -137,7 +137,7 @@ fn fill(c: Counts, facts: &[u8], n: u32, t: &mut [u32])
 // Sets the places of the states to no operator.
 fn clear(n: u32, best: &mut [u8])
     requires { n ≤ length best.old }
-    ensures { Cleared n (was best) (left best) }
+    ensures { Cleared n best.old best.new }
 {
     let mut a = 0u32;
     while a < n {
@@ -149,7 +149,7 @@ fn clear(n: u32, best: &mut [u8])
 // Sets the first places of `to` to those of `from`.
 fn copy(n: u32, from: &[u32], to: &mut [u32])
     requires { (n ≤ length from.now) × (n ≤ length to.old) }
-    ensures { Copied n (was from) (was to) (left to) }
+    ensures { Copied n (was from) to.old to.new }
 {
     let mut a = 0u32;
     while a < n {
@@ -170,7 +170,7 @@ pub fn count_rounds(
 ) -> u32
     requires walkable { Walkable c facts.now × PricesSmall c prices.now × (n ≡ size (dom_at facts.now) c.vars) }
     requires n_in_bounds { (n ≤ length t.old) × (n ≤ length best.old) × (n ≤ length w.old) }
-    ensures { Counted (space_of c (was facts) (was prices)) (was t) (left t) (was best) (left best) result }
+    ensures { Counted (space_of c (was facts) (was prices)) t.old t.new best.old best.new result }
 {
     fill(c, facts, n, t);
     clear(n, best);

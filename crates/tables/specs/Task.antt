@@ -35,12 +35,9 @@ task_of t =
 abbrev pub tables : Counts → List ℕ → List ℕ → List ℕ → Tables
 tables c facts costs shares = record { counts = c; facts = facts; costs = costs; shares = shares }
 
--- a slice in a contract: what stood in it at the call, and what is left in it
+-- a lent slice in a contract: what stands in it. What is left in one that may be written is `s.new`, and what stood in it `s.old`
 abbrev pub was : {A : Type 0} → Both (Bor A) (Bor A) → A
 was s = s.entry.now
-
-abbrev pub left : {A : Type 0} → Both (Bor A) (Bor A) → A
-left s = s.exit.now
 
 abbrev pub Slice : Type 0
 Slice = Both (Bor (List ℕ)) (Bor (List ℕ))

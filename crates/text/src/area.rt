@@ -1,7 +1,7 @@
 // The work area: bytes, and numbers in 3 bytes. Every place may be asked for: past the end stands 0, and nothing is stored there.
 ghost use Rattle.std.specs.Prelude.{◌≡◌, ◌+◌, ◌<◌, get_or};
 ghost use Rattle.text.specs.Inside.Area.{put_byte, word_in, put_word, dom_in};
-ghost use Rattle.tables.specs.Task.{was, left};
+ghost use Rattle.tables.specs.Task.{was};
 
 pub fn wide(x: u32) -> usize
     ensures { result ≡ x }
@@ -22,7 +22,7 @@ pub fn byte_at(w: &[u8], i: usize) -> u8
 }
 
 pub fn put_byte(w: &mut [u8], i: usize, v: u32)
-    ensures { left w ≡ put_byte (was w) i v }
+    ensures { w.new ≡ put_byte w.old i v }
 {
     if i < w.len() {
         w[i] = (v % 256) as u8;
@@ -42,7 +42,7 @@ pub fn word_at(w: &[u8], i: usize) -> u32
 
 pub fn put_word(w: &mut [u8], i: usize, v: u32)
     requires { i < 1099511627776 }
-    ensures { left w ≡ put_word (was w) i v }
+    ensures { w.new ≡ put_word w.old i v }
 {
     put_byte(w, i, v);
     put_byte(w, i + 1, v / 256);

@@ -7,7 +7,7 @@ ghost use Rattle.grammar.specs.Fields.{leaves};
 ghost use Rattle.text.specs.Inside.Area.{area_room, share_in};
 ghost use Rattle.text.specs.Inside.Control.{mk};
 ghost use Rattle.text.specs.Inside.End.{over, refusal_of, last_fault, settled_as, machine_end};
-ghost use Rattle.tables.specs.Task.{was, left};
+ghost use Rattle.tables.specs.Task.{was};
 
 use crate::area::word_at;
 use crate::fill::{fill_bytes, fill_words};
@@ -89,7 +89,7 @@ pub fn last_fault(c: Ctrl, w: &[u8]) -> Found
 // What a reading that is over leaves behind: the answer, and the lent tables on acceptance only.
 pub fn settle(e: Ctrl, w: &[u8], facts: &mut [u8], costs: &mut [u32], shares: &mut [u32]) -> Reading
     requires { (facts_room ≤ length w.now) × (facts_room ≤ length facts.old) × (costs_room ≤ length costs.old) × (shares_room ≤ length shares.old) }
-    ensures { leaves result (left facts) (left costs) (left shares) ≡ settled_as (mk e (was w)) (was facts) (was costs) (was shares) }
+    ensures { leaves result facts.new costs.new shares.new ≡ settled_as (mk e (was w)) facts.old costs.old shares.old }
 {
     let found = last_fault(e, w);
     if let Found::Fault(r) = found {
@@ -106,7 +106,7 @@ pub fn settle(e: Ctrl, w: &[u8], facts: &mut [u8], costs: &mut [u32], shares: &m
 // known, so that it is inlined.
 pub fn finish(c: Ctrl, w: &[u8], facts: &mut [u8], costs: &mut [u32], shares: &mut [u32]) -> Reading
     requires { (length w.now ≡ area_room) × (facts_room ≤ length facts.old) × (costs_room ≤ length costs.old) × (shares_room ≤ length shares.old) }
-    ensures { leaves result (left facts) (left costs) (left shares) ≡ machine_end (mk c (was w)) (was facts) (was costs) (was shares) }
+    ensures { leaves result facts.new costs.new shares.new ≡ machine_end (mk c (was w)) facts.old costs.old shares.old }
 {
     let mut cut = [0u8; AREA_ROOM];
     fill_bytes(w, AREA_ROOM, &mut cut);

@@ -1,6 +1,6 @@
 // The fields of the text: keywords, ranges, what a number is to the control, and where it is kept.
 ghost use Rattle.std.specs.Prelude.{◌≡◌, get_or};
-ghost use Rattle.tables.specs.Task.{was, left};
+ghost use Rattle.tables.specs.Task.{was};
 ghost use Rattle.text.specs.Inside.Fields.{
   key_byte,
   leasts,
@@ -254,7 +254,7 @@ pub fn fault_of(c: Ctrl, w: &[u8]) -> Halt
 
 // The number goes to its place in the area; a fact as value and one, counts not at all.
 pub fn store(c: Ctrl, w: &mut [u8])
-    ensures { left w ≡ stored c (was w) }
+    ensures { w.new ≡ stored c w.old }
 {
     let f = c.spot.field;
     match f {

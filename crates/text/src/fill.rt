@@ -4,14 +4,14 @@ ghost use Rattle.grammar.specs.Fields.{filled};
 ghost use Rattle.tables.specs.Layout.{shares_room};
 ghost use Rattle.text.specs.Inside.Area.{threes, shares_byte};
 ghost use Rattle.text.specs.Inside.End.{FilledTo};
-ghost use Rattle.tables.specs.Task.{was, left};
+ghost use Rattle.tables.specs.Task.{was};
 
 use crate::area::word_at;
 
 // The first n bytes, in a loop of their own: nothing is asked at each.
 pub fn copy_bytes(w: &[u8], n: usize, out: &mut [u8])
     requires { (n ≤ length w.now) × (n ≤ length out.old) }
-    ensures { FilledTo (take n (was w)) (was out) (left out) n }
+    ensures { FilledTo (take n (was w)) out.old out.new n }
 {
     let mut i = 0;
     while i < n {
@@ -23,7 +23,7 @@ pub fn copy_bytes(w: &[u8], n: usize, out: &mut [u8])
 // The bytes beyond them.
 pub fn clear_bytes(n: usize, out: &mut [u8])
     requires { n ≤ length out.old }
-    ensures { (xs lent : List ℕ) → length xs ≤ n → FilledTo xs lent (was out) n → FilledTo xs lent (left out) (length lent) }
+    ensures { (xs lent : List ℕ) → length xs ≤ n → FilledTo xs lent out.old n → FilledTo xs lent out.new (length lent) }
 {
     let mut i = n;
     while i < out.len() {
@@ -34,7 +34,7 @@ pub fn clear_bytes(n: usize, out: &mut [u8])
 
 pub fn fill_bytes(w: &[u8], n: usize, out: &mut [u8])
     requires { (n ≤ length w.now) × (n ≤ length out.old) }
-    ensures { left out ≡ filled n (take n (was w)) (was out) }
+    ensures { out.new ≡ filled n (take n (was w)) out.old }
 {
     copy_bytes(w, n, out);
     clear_bytes(n, out);
@@ -49,7 +49,7 @@ pub fn nth_word(w: &[u8], n: usize, at: usize, i: usize) -> u32
 
 pub fn fill_words(w: &[u8], n: usize, at: usize, out: &mut [u32])
     requires { (n ≤ shares_room) × (at ≤ shares_byte) × (n ≤ length out.old) }
-    ensures { left out ≡ filled n (threes n at (was w)) (was out) }
+    ensures { out.new ≡ filled n (threes n at (was w)) out.old }
 {
     let mut i = 0;
     while i < out.len() {

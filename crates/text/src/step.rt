@@ -1,7 +1,7 @@
 // One byte of the text.
 ghost use Rattle.std.specs.Prelude.{false, ◌≡◌, ◌-◌};
 ghost use Rattle.text.specs.Inside.Control.{mk};
-ghost use Rattle.tables.specs.Task.{was, left};
+ghost use Rattle.tables.specs.Task.{was};
 ghost use Rattle.text.specs.Inside.Steps.{in_key, more, run_with, digit_read, run_fault, run_kept, part_closed, nothing_read, dash_here, in_value, live, byte_read, feed, ended};
 
 use crate::after::{after_part, expect};
@@ -72,7 +72,7 @@ pub fn run_fault(c: Ctrl, w: &[u8]) -> Halt
 
 // The number of that run is kept.
 pub fn keep_run(c: Ctrl, w: &mut [u8]) -> Ctrl
-    ensures { mk result (left w) ≡ run_kept c (was w) }
+    ensures { mk result w.new ≡ run_kept c w.old }
 {
     if c.spot.part == PART_NUMBER {
         store(c, w);
@@ -84,7 +84,7 @@ pub fn keep_run(c: Ctrl, w: &mut [u8]) -> Ctrl
 
 // A byte that is no digit ends the run, or what follows a dash.
 pub fn close_part(c: Ctrl, b: u32, w: &mut [u8]) -> Ctrl
-    ensures { mk result (left w) ≡ part_closed c (was w) b }
+    ensures { mk result w.new ≡ part_closed c w.old b }
 {
     let k = run_fault(c, w);
     if goes_on(k) {
@@ -120,7 +120,7 @@ pub fn dash_here(c: Ctrl, b: u32) -> bool
 
 // At a number or after a dash.
 pub fn in_value(c: Ctrl, b: u32, w: &mut [u8]) -> Ctrl
-    ensures { mk result (left w) ≡ in_value c (was w) b }
+    ensures { mk result w.new ≡ in_value c w.old b }
 {
     if c.spot.part == PART_NUMBER {
         if is_digit(b) {
@@ -134,7 +134,7 @@ pub fn in_value(c: Ctrl, b: u32, w: &mut [u8]) -> Ctrl
 }
 
 pub fn live_step(c: Ctrl, b: u32, w: &mut [u8]) -> Ctrl
-    ensures { mk result (left w) ≡ live c (was w) b }
+    ensures { mk result w.new ≡ live c w.old b }
 {
     if c.spot.part == PART_KEY {
         return in_key(c, b);
@@ -147,7 +147,7 @@ pub fn live_step(c: Ctrl, b: u32, w: &mut [u8]) -> Ctrl
 
 // One byte; a reading that has stopped stays as it is.
 pub fn step_byte(c: Ctrl, b: u32, w: &mut [u8]) -> Ctrl
-    ensures { mk result (left w) ≡ byte_read (mk c (was w)) b }
+    ensures { mk result w.new ≡ byte_read (mk c w.old) b }
 {
     let k = c.halt;
     if goes_on(k) { live_step(c, b, w) } else { c }
@@ -155,7 +155,7 @@ pub fn step_byte(c: Ctrl, b: u32, w: &mut [u8]) -> Ctrl
 
 // A piece of the text: a byte at a time, after what can be read ahead.
 pub fn feed_piece(c: Ctrl, s: &[u8], w: &mut [u8]) -> Ctrl
-    ensures { mk result (left w) ≡ feed (mk c (was w)) (was s) }
+    ensures { mk result w.new ≡ feed (mk c w.old) (was s) }
 {
     let mut k = c;
     let mut i = 0;
@@ -175,7 +175,7 @@ pub fn feed_piece(c: Ctrl, s: &[u8], w: &mut [u8]) -> Ctrl
 
 // The end of the text: where not all lines were read it is as a byte that fits nowhere. It goes by a piece of one byte, so that `step_byte` is called from one place.
 pub fn end_text(c: Ctrl, w: &mut [u8]) -> Ctrl
-    ensures { mk result (left w) ≡ ended (mk c (was w)) }
+    ensures { mk result w.new ≡ ended (mk c w.old) }
 {
     if c.spot.field == FIELD_END {
         return c;

@@ -2,7 +2,7 @@
 // the effects' values, with the preconditions' values there, and with what the values can be where an effect has no precondition: the operator's offsets, listed once.
 ghost use Rattle.std.specs.Prelude.{◌≡◌, ℕ, ◌+◌, ◌*◌, ◌≤◌, ◌<◌, length, get_or};
 ghost use Rattle.meaning.specs.Limits.{most_values, most_states};
-ghost use Rattle.tables.specs.Task.{was, left};
+ghost use Rattle.tables.specs.Task.{was};
 ghost use Rattle.maps.specs.Inside.Walks.{Walkable, states_of};
 ghost use Rattle.turned.specs.Inside.Backs.{Backs};
 ghost use Rattle.turned.specs.Inside.Turns.{lift_of, ways_of, Spread, Listed, TurnedAt, TurnedTo};
@@ -48,7 +48,7 @@ fn ways_of(pre: u8, eff: u8, k: u32) -> u32
 fn spread(t: &mut [u16], at: usize, len: u32, ways: u32, stride: u32)
     requires le_len { (1 ≤ len) × (1 ≤ ways) × (ways ≤ most_values) × (len * ways ≤ most_states) × (at + len * ways ≤ length t.old) × (stride ≤ most_states) }
     requires by_index { (i : ℕ) → i < len → get_or t.old (at + i) 0 < most_states }
-    ensures { Spread at len (len * ways) stride (was t) (left t) }
+    ensures { Spread at len (len * ways) stride t.old t.new }
 {
     let end = len * ways;
     let mut j = len;
@@ -63,7 +63,7 @@ fn spread(t: &mut [u16], at: usize, len: u32, ways: u32, stride: u32)
 fn turn_lists(c: Counts, facts: &[u8], o: OpNo, at: usize, t: &mut [u16]) -> Turned
     requires { Walkable c facts.now × (o.0 < c.ops) × (at + states_of c facts.now ≤ length t.old) }
     ensures turned_to { TurnedTo c (was facts) o.0 result }
-    ensures listed { Listed (was facts) o.0 at c.vars result.count (was t) (left t) }
+    ensures listed { Listed (was facts) o.0 at c.vars result.count t.old t.new }
 {
     let vars = c.vars;
     let mut stride = 1u32;
@@ -91,8 +91,8 @@ fn turn_lists(c: Counts, facts: &[u8], o: OpNo, at: usize, t: &mut [u16]) -> Tur
 fn turn_op(c: Counts, facts: &[u8], n: u32, o: OpNo, turns: &mut [u32], back: &mut [u16])
     requires walkable { Walkable c facts.now × (n ≡ states_of c facts.now) × (o.0 < c.ops) × (length turns.old ≡ 192) × (c.ops * n ≤ length back.old) }
     requires by_index { (p : ℕ) → p < o.0 → TurnedAt c facts.now n turns.old back.old p }
-    ensures by_index_2 { (p : ℕ) → p < o.0 + 1 → TurnedAt c (was facts) n (left turns) (left back) p }
-    ensures turns_len { (length (left turns) ≡ 192) × (length (left back) ≡ length (was back)) }
+    ensures by_index_2 { (p : ℕ) → p < o.0 + 1 → TurnedAt c (was facts) n turns.new back.new p }
+    ensures turns_len { (length turns.new ≡ 192) × (length back.new ≡ length back.old) }
 {
     let i = o.0 as usize;
     let r = turn_lists(c, facts, o, i * n as usize, back);
@@ -104,8 +104,8 @@ fn turn_op(c: Counts, facts: &[u8], n: u32, o: OpNo, turns: &mut [u32], back: &m
 // Turns every operator round; of the n states' numbers each has n places in `back`.
 pub fn turn_all(c: Counts, facts: &[u8], n: u32, turns: &mut [u32], back: &mut [u16])
     requires { Walkable c facts.now × (n ≡ states_of c facts.now) × (length turns.old ≡ 192) × (c.ops * n ≤ length back.old) }
-    ensures backs { Backs c (was facts) n (left turns) (left back) }
-    ensures turns_len { (length (left turns) ≡ 192) × (length (left back) ≡ length (was back)) }
+    ensures backs { Backs c (was facts) n turns.new back.new }
+    ensures turns_len { (length turns.new ≡ 192) × (length back.new ≡ length back.old) }
 {
     let ops = c.ops;
     let mut o = 0u32;

@@ -2,7 +2,7 @@
 // operators may have led there.
 ghost use Rattle.std.specs.Prelude.{◌≡◌, ◌*◌, ◌≤◌, ◌<◌, length};
 ghost use Rattle.meaning.specs.Limits.{most_ops};
-ghost use Rattle.tables.specs.Task.{was, left};
+ghost use Rattle.tables.specs.Task.{was};
 ghost use Rattle.maps.specs.Inside.Walks.{Walkable, states_of};
 ghost use Rattle.maps.specs.Inside.Rows.{lanes};
 ghost use Rattle.turned.specs.Inside.Wants.{want_of, want_at, Wants, Fits};
@@ -53,8 +53,8 @@ fn wants(c: Counts, facts: &[u8]) -> [u8; SEEN]
 // Lays a row for each state: 0 stands for each operator that may have led there, and for the goal where it is met.
 pub fn lay_fits(c: Counts, facts: &[u8], t: &mut [u16])
     requires { Walkable c facts.now × (states_of c facts.now * lanes ≤ length t.old) }
-    ensures fits { Fits c (was facts) (left t) }
-    ensures t_len { length (left t) ≡ length (was t) }
+    ensures fits { Fits c (was facts) t.new }
+    ensures t_len { length t.new ≡ length t.old }
 {
     let w = wants(c, facts);
     lay_steps(c, &w, 0, t);

@@ -4,7 +4,7 @@
 pub mod sums;
 
 ghost use Rattle.std.specs.Prelude.{◌≡◌};
-ghost use Rattle.tables.specs.Task.{lent, was, left};
+ghost use Rattle.tables.specs.Task.{lent, was};
 ghost use Rattle.sweep.specs.Said.{said, advised};
 ghost use Rattle.views.specs.Inside.Sums.{sum_said};
 ghost use Rattle.views.specs.Entries.{asked_fault, distance_fault, distance_said, best_said, bound_said, DistancesGiven, DistanceGiven, BestGiven, BoundGiven};
@@ -124,7 +124,7 @@ pub fn distances(
     out: &mut [u32],
     best: &mut [u8],
 ) -> DistancesAnswer
-    ensures { DistancesGiven (lent c facts costs shares) map (was out) (was best) result (left out) (left best) }
+    ensures { DistancesGiven (lent c facts costs shares) map out.old best.old result out.new best.new }
 {
     if out.len() < STATES_ROOM {
         return DistancesAnswer::Refused(Refusal::TableTooShort);

@@ -3,7 +3,7 @@
 
 ghost use Rattle.std.specs.Prelude.{◌≡◌, ◌≤◌};
 ghost use Rattle.meaning.specs.Limits.{most_vars, most_ops, most_maps};
-ghost use Rattle.tables.specs.Task.{task_of, lent, was, left};
+ghost use Rattle.tables.specs.Task.{task_of, lent};
 ghost use Rattle.grammar.specs.Spelling.{spelled};
 ghost use Rattle.grammar.specs.Writing.{page, write_text};
 ghost use Rattle.writer.specs.Inside.Pen.{Puts};
@@ -40,7 +40,7 @@ fn put_task(out: &mut [u8], c: Counts, facts: &[u8], costs: &[u32], shares: &[u3
 
 // Writes the text of a task's tables into the lent buffer: its length, or why not. What is left behind is what the spelling says.
 pub fn write(c: Counts, facts: &[u8], costs: &[u32], shares: &[u32], out: &mut [u8]) -> Written
-    ensures { page result (left out) ≡ write_text (lent c facts costs shares) (was out) }
+    ensures { page result out.new ≡ write_text (lent c facts costs shares) out.old }
 {
     if out.len() < BYTES_MOST {
         return Written::Refused(Refusal::TableTooShort);

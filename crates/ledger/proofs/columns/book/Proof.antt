@@ -15,8 +15,8 @@ use Rattle.tables.proofs.Laws.{filled_end, filled_still}
 use Rattle.scan.proofs.Validity.{clean_valid, clean_room}
 use Rattle.ledger.specs.Ledger.{booked_at}
 use Rattle.ledger.proofs.Gains.{booked_turn, booked_rest, booked_end, column_still}
-use Rattle.ledger.proofs.columns-1.book.Statement.{statement}
-use Rattle.ledger.proofs.columns-1.book.Tie as tie
+use Rattle.ledger.proofs.columns.book.Statement.{statement}
+use Rattle.ledger.proofs.columns.book.Tie as tie
 
 abbrev invariant-loop : tie.invariant-loop-m
 invariant-loop c facts costs shares columns₀ op o shared₀ m₀ columns shared m =

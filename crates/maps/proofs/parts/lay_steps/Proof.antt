@@ -1,8 +1,8 @@
 -- `parts::lay_steps` meets its contract: a row that is laid of all parts says where each operator leads and whether the goal is met. Assumes nothing.
 use borrow.Author.Rules.{rules}
 use Rattle.maps.proofs.Parting.{parts_blank, parted_laid}
-use Rattle.maps.proofs.parts-1.lay_steps.Statement.{statement}
-use Rattle.maps.proofs.parts-1.lay_steps.Tie as tie
+use Rattle.maps.proofs.parts.lay_steps.Statement.{statement}
+use Rattle.maps.proofs.parts.lay_steps.Tie as tie
 
 parts-of-requires : tie.Need-parts_of-requires
 parts-of-requires c κs =

@@ -10,8 +10,8 @@ use Rattle.meaning.specs.Numbering.{size}
 use Rattle.tables.specs.Layout.{dom_at}
 use Rattle.maps.specs.Inside.Parts.{Parted}
 use Rattle.maps.proofs.Parting.{strides_small, parted_none, parted_more, parted_end}
-use Rattle.maps.proofs.parts-1.parts_of.Statement.{statement}
-use Rattle.maps.proofs.parts-1.parts_of.Tie as tie
+use Rattle.maps.proofs.parts.parts_of.Statement.{statement}
+use Rattle.maps.proofs.parts.parts_of.Tie as tie
 
 abbrev invariant-loop : tie.invariant-loop-v
 invariant-loop c facts unit parts₀ vars stride₀ v₀ parts stride v =

@@ -6,8 +6,8 @@ use native.Mathlib.Omega.{arith}
 use Rattle.meaning.specs.Limits.{most_vars, most_values}
 use Rattle.maps.specs.Inside.Parts.{part_of}
 use Rattle.maps.proofs.Parting.{value_set}
-use Rattle.maps.proofs.parts-1.value_parts.Statement.{statement}
-use Rattle.maps.proofs.parts-1.value_parts.Tie as tie
+use Rattle.maps.proofs.parts.value_parts.Statement.{statement}
+use Rattle.maps.proofs.parts.value_parts.Tie as tie
 
 -- the variable and the value are such as there may be
 few : (c : tie.Start) → (c.args.v < most_vars) × (c.args.x < most_values)

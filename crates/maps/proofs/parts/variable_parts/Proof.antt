@@ -5,8 +5,8 @@ use mathlib.Core.Path.{sym, ◌∙◌}
 use native.Mathlib.Omega.{arith}
 use Rattle.maps.specs.Inside.Parts.{VariableParts}
 use Rattle.maps.proofs.Parting.{values_none, values_more, values_end}
-use Rattle.maps.proofs.parts-1.variable_parts.Statement.{statement}
-use Rattle.maps.proofs.parts-1.variable_parts.Tie as tie
+use Rattle.maps.proofs.parts.variable_parts.Statement.{statement}
+use Rattle.maps.proofs.parts.variable_parts.Tie as tie
 
 abbrev invariant-loop : tie.invariant-loop-x
 invariant-loop c facts v k stride parts₀ x₀ parts x = (x ≤ k) × VariableParts c facts v x stride parts₀ parts

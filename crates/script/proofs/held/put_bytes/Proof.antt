@@ -1,7 +1,7 @@
 -- `script::held::put_bytes` is safe and ends: the row keeps its length, and the measure is the bytes that are left. Assumes nothing.
 use Rattle.std.proofs.Common.{◌≡◌, ◌-◌, length, rules}
-use Rattle.script.proofs.held-1.put_bytes.Statement.{statement}
-use Rattle.script.proofs.held-1.put_bytes.Tie as tie
+use Rattle.script.proofs.held.put_bytes.Statement.{statement}
+use Rattle.script.proofs.held.put_bytes.Tie as tie
 
 abbrev invariant-loop : tie.invariant-loop-i
 invariant-loop held₀ k from i₀ held i = length held ≡ length held₀

@@ -15,11 +15,11 @@ q x = x.in-After-b.q
 
 returns : tie.Need-returns-then-p-q
 returns c =
-    rw (c.in-After.is, c.in-After-b.is, le-leb (p c.before.before{-?-}) (q c.before.before{-?-}) (omega (arith, c.if-p-q.true)))
+    rw (c.in-After.is, c.in-After-b.is, le-leb (p c.before.before {-?-}) (q c.before.before {-?-}) (omega (arith, c.if-p-q.true)))
 
 returns-2 : tie.Need-returns-else-p-q
 returns-2 c =
-    rw (c.in-After.is, c.in-After-b.is, lt-leb (p c.before.before{-?-}) (q c.before.before{-?-}) (omega (arith, c.if-p-q.false)))
+    rw (c.in-After.is, c.in-After-b.is, lt-leb (p c.before.before {-?-}) (q c.before.before {-?-}) (omega (arith, c.if-p-q.false)))
 
 pub choose_spec : {M : Type 1} → statement M
 choose_spec =

@@ -4,10 +4,10 @@ use Prim.Native.Nat.{◌≤◌, ◌-◌}
 use native.Mathlib.Omega.{arith}
 use borrow.Author.Tests.{not-true, not-false}
 use lib.ListN.{length}
-use Rattle.sweep-changed.specs.Inside.Walks.{space_of}
-use Rattle.sweep-changed.proofs.Rounding.{Turn, Good, walkable_good, turn_within, turn_none, ends, goes_on}
-use Rattle.sweep-changed.proofs.rounds.count_rounds.Statement.{statement}
-use Rattle.sweep-changed.proofs.rounds.count_rounds.Tie as tie
+use Rattle.sweep.specs.Inside.Walks.{space_of}
+use Rattle.sweep.proofs.Rounding.{Turn, Good, walkable_good, turn_within, turn_none, ends, goes_on}
+use Rattle.sweep.proofs.rounds.count_rounds.Statement.{statement}
+use Rattle.sweep.proofs.rounds.count_rounds.Tie as tie
 
 abbrev invariant-loop : tie.invariant-loop-c
 invariant-loop c facts prices n t₀ best₀ w₀ rounds₀ t best w rounds = Turn (space_of c facts prices) t₀ best₀ w₀ t best w rounds

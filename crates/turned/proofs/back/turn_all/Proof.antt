@@ -7,8 +7,8 @@ use native.Mathlib.Omega.{arith}
 use lib.ListN.{length}
 use Rattle.turned.specs.Inside.Turns.{TurnedAt}
 use Rattle.turned.proofs.Backing.{turned_back}
-use Rattle.turned.proofs.back-1.turn_all.Statement.{statement}
-use Rattle.turned.proofs.back-1.turn_all.Tie as tie
+use Rattle.turned.proofs.back.turn_all.Statement.{statement}
+use Rattle.turned.proofs.back.turn_all.Tie as tie
 
 abbrev invariant-loop : tie.invariant-loop-o
 invariant-loop c facts n turns₀ back₀ ops o₀ turns back o =

@@ -5,10 +5,10 @@ use mathlib.Core.Path.{◌≡◌, sym, ◌∙◌}
 use native.Mathlib.Nat.{mul-le-mul_right}
 use native.Mathlib.Omega.{arith}
 use lib.ListN.{length}
-use Rattle.turned.specs.declared.back-1.Turned.{Turned}
+use Rattle.turned.specs.declared.back.Turned.{Turned}
 use Rattle.turned.proofs.Turning.{noted, drops_size, lifts_size, noted_size, turned_more}
-use Rattle.turned.proofs.back-1.turn_op.Statement.{statement}
-use Rattle.turned.proofs.back-1.turn_op.Tie as tie
+use Rattle.turned.proofs.back.turn_op.Statement.{statement}
+use Rattle.turned.proofs.back.turn_op.Tie as tie
 
 abbrev start : tie.After-slice_known-3-1 → tie.Start
 start c = c.before.before.before.before.before.before.before.before

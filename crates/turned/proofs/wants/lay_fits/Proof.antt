@@ -2,8 +2,8 @@
 use borrow.Author.Rules.{rules}
 use native.Mathlib.Omega.{arith}
 use Rattle.turned.proofs.Wanting.{states_kept, wants_walkable, wants_fit}
-use Rattle.turned.proofs.wants-w.lay_fits.Statement.{statement}
-use Rattle.turned.proofs.wants-w.lay_fits.Tie as tie
+use Rattle.turned.proofs.wants.lay_fits.Statement.{statement}
+use Rattle.turned.proofs.wants.lay_fits.Tie as tie
 
 lay-steps-requires : tie.Need-lay_steps-requires
 lay-steps-requires c κs =
