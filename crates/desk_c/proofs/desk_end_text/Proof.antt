@@ -8,7 +8,7 @@ use Rattle.desk_c.proofs.desk_end_text.Statement.{statement}
 use Rattle.desk_c.proofs.desk_end_text.Tie as tie
 
 -- the words are long enough
-long : (c : tie.Else-text_short) → text_short c.before.before.before.before.before.before.before.before.before.args.text-1.now ≡ false
+long : (c : tie.Else-text_short) → text_short c.before.before.before.before.before.before.before.before.before.args.text.now ≡ false
 long c = sym c.before.text_short_lem.ensures ∙ c.if-text_short.false
 
 returns-3 : tie.Need-returns

@@ -11,7 +11,7 @@ use Rattle.desk_c.proofs.desk_take_piece.Statement.{statement}
 use Rattle.desk_c.proofs.desk_take_piece.Tie as tie
 
 -- the words are long enough
-long : (c : tie.Else-text_short) → text_short c.before.before.before.before.before.before.args.text-1.now ≡ false
+long : (c : tie.Else-text_short) → text_short c.before.before.before.before.before.before.args.text.now ≡ false
 long c = sym c.text_short_lem.ensures ∙ c.if-text_short.false
 
 returns-2 : tie.Need-returns

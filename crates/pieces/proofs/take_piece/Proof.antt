@@ -24,7 +24,7 @@ ready : (c : tie.Joined-bytes-eq0) → let a = c.before.before.before.before.bef
 unfolding Ready
 ready c =
     let s = c.before.before.before.before.before.before.args.s in
-    let w = c.before.before.before.before.before.before.args.area-1.now in
+    let w = c.before.before.before.before.before.before.args.area.now in
     let long = c.before.before.before.if-area-lt-AREA_LENT.false in
     ⊎_elim
     (λ a. let p = part_cleared w _ _ (omega arith) a.5 a.2.ensures in (p.0 ∙ sym (used-blank s w (omega (arith, a.0.taken))), p.1, p.2))
@@ -57,7 +57,7 @@ take_piece_spec =
     (λ c. sym (short-area _ _ _ c.if-area-lt-AREA_LENT.true))
     (λ c. sym (piece_after_end _ _ _ c.before.if-area-lt-AREA_LENT.false c.if-s.true))
     (λ c. search rules)
-    (λ c. let h = c.before.before.before.before.if-area-lt-AREA_LENT.false in sym (length-take-le area_room c.before.before.before.before.before.before.before.args.area-1.now (omega arith)))
+    (λ c. let h = c.before.before.before.before.if-area-lt-AREA_LENT.false in sym (length-take-le area_room c.before.before.before.before.before.before.before.args.area.now (omega arith)))
     (λ c κs. search rules)
     room
     (λ c. sym (length-take-le area_room c.before.if-bytes-eq0.area-1 (room c.before)))

@@ -25,11 +25,11 @@ clean c = sym c.asked_fault-found.ensures ∙ c.in-Clean.is
 
 returns : tie.Need-returns-then-out-lt-STATES_ROOM
 returns c =
-    given_short (t c.before.before.before.before.before.before) c.args.map c.args.out-1.now c.args.best-1.now (inl c.if-out-lt-STATES_ROOM.true)
+    given_short (t c.before.before.before.before.before.before) c.args.map c.args.out.now c.args.best.now (inl c.if-out-lt-STATES_ROOM.true)
 
 returns-2 : tie.Need-returns-then-best-lt-STATES_ROOM
 returns-2 c =
-    given_short (t c.before.before.before.before.before.before.before) c.args.map c.args.out-1.now c.args.best-1.now (inr c.if-best-lt-STATES_ROOM.true)
+    given_short (t c.before.before.before.before.before.before.before) c.args.map c.args.out.now c.args.best.now (inr c.if-best-lt-STATES_ROOM.true)
 
 view-rounds-requires : tie.Need-view_rounds-requires
 view-rounds-requires c κs =
@@ -43,7 +43,7 @@ view-rounds-requires c κs =
 returns-3 : tie.Need-returns-in-Fault
 returns-3 c =
     let s = start c.before.before in
-    given_refused (t s) s.args.map s.args.out-1.now s.args.best-1.now c.in-Fault.f c.if-out-lt-STATES_ROOM.false c.if-best-lt-STATES_ROOM.false
+    given_refused (t s) s.args.map s.args.out.now s.args.best.now c.in-Fault.f c.if-out-lt-STATES_ROOM.false c.if-best-lt-STATES_ROOM.false
     (sym c.asked_fault-found.ensures ∙ c.in-Fault.is)
 
 returns-4 : tie.Need-returns-in-Clean

@@ -61,7 +61,7 @@ module _ (x : Loop) (turn : x.loop-m.m < (first x).args.c.maps) where
   abbrev share : ℕ
   share = share_at (first x).args.shares.now x.loop-m.m (first x).args.op.0
 
-  column_fits : get_or x.loop-m.columns-1 x.loop-m.m 0 + share < 4294967296
+  column_fits : get_or x.loop-m.columns x.loop-m.m 0 + share < 4294967296
   column_fits =
       omega (
         arith,
@@ -84,7 +84,7 @@ loop-again c =
     let x = c.before.before.before.before in
     let o = (first x).args.op.0 in (
       omega arith,
-      booked_turn (task x) (first x).args.columns-1.now x.loop-m.columns-1 o x.loop-m.m _ x.loop-m.invariant.1 (sym (gain_map (task x) x.loop-m.m o (omega arith))),
+      booked_turn (task x) (first x).args.columns.now x.loop-m.columns o x.loop-m.m _ x.loop-m.invariant.1 (sym (gain_map (task x) x.loop-m.m o (omega arith))),
       sum_more _ x.loop-m.m _ _ x.loop-m.invariant.2 refl,
     )
 
@@ -103,23 +103,23 @@ module _ (x : Loop) (done : (first x).args.c.maps ≤ x.loop-m.m) where
   shares-within : x.loop-m.shared ≤ cost_at (first x).args.costs.now o
   shares-within = omega (arith, all_shares, (valid x).split o (first x).requires.1)
 
-  unshared-fits : get_or x.loop-m.columns-1 unshared 0 + (cost_at (first x).args.costs.now o - x.loop-m.shared) < 4294967296
+  unshared-fits : get_or x.loop-m.columns unshared 0 + (cost_at (first x).args.costs.now o - x.loop-m.shared) < 4294967296
   unshared-fits =
       let few : x.loop-m.m ≤ unshared = omega (arith, x.loop-m.invariant.0, (valid x).maps.1) in
       omega (
         arith,
-        column_still (task x) (first x).args.columns-1.now x.loop-m.columns-1 o x.loop-m.m unshared few x.loop-m.invariant.1,
+        column_still (task x) (first x).args.columns.now x.loop-m.columns o x.loop-m.m unshared few x.loop-m.invariant.1,
         (valid x).costs o (first x).requires.1,
         (first x).requires.2 unshared (omega arith),
       )
 
   -- with the rest booked only the stored tests are left
   abbrev with_rest : List ℕ
-  with_rest = set x.loop-m.columns-1 unshared (get_or x.loop-m.columns-1 unshared 0 + (cost_at (first x).args.costs.now o - x.loop-m.shared))
+  with_rest = set x.loop-m.columns unshared (get_or x.loop-m.columns unshared 0 + (cost_at (first x).args.costs.now o - x.loop-m.shared))
 
-  rest-booked : with_rest ≡ overwritten (booked_at (task x) (first x).args.columns-1.now o) (first x).args.columns-1.now stored_tests
+  rest-booked : with_rest ≡ overwritten (booked_at (task x) (first x).args.columns.now o) (first x).args.columns.now stored_tests
   rest-booked =
-      booked_rest (task x) (first x).args.columns-1.now x.loop-m.columns-1 o _ (valid x).maps.1
+      booked_rest (task x) (first x).args.columns.now x.loop-m.columns o _ (valid x).maps.1
       (filled_end _ _ _ (first x).args.c.maps x.loop-m.m x.loop-m.invariant.1 x.loop-m.invariant.0 done)
       (rest_is (task x) o _ _ refl all_shares)
 
@@ -127,7 +127,7 @@ module _ (x : Loop) (done : (first x).args.c.maps ≤ x.loop-m.m) where
   stored-fits =
       omega (
         arith,
-        column_still (task x) (first x).args.columns-1.now with_rest o stored_tests stored_tests (omega arith) rest-booked,
+        column_still (task x) (first x).args.columns.now with_rest o stored_tests stored_tests (omega arith) rest-booked,
         (valid x).marks o (first x).requires.1,
         (first x).requires.2 stored_tests (omega arith),
       )
@@ -138,7 +138,7 @@ marked c = c.before.before.before.before.before.before
 returns : tie.Need-returns invariant-loop decreases-loop
 returns c =
     let x = marked c in
-    booked_end (task x) (first x).args.columns-1.now _ (first x).args.op.0 _ (valid x).maps.1 (rest-booked x c.before.before.before.before.loop-m-test.false)
+    booked_end (task x) (first x).args.columns.now _ (first x).args.op.0 _ (valid x).maps.1 (rest-booked x c.before.before.before.before.loop-m-test.false)
     c.mark_of.ensures
 
 pub book_spec : {M : Type 1} → statement M

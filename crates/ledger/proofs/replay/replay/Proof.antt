@@ -41,7 +41,7 @@ abbrev T : Loop → Tables
 T x = let a = (first x).args in tables a.c a.facts.now a.costs.now a.shares.now
 
 abbrev stands : Loop → Standing
-stands x = record { now = x.loop-i.state-1; columns = x.loop-i.columns-1 }
+stands x = record { now = x.loop-i.state; columns = x.loop-i.columns }
 
 abbrev next : Loop → ℕ
 next x = get_or (first x).args.log.now x.loop-i.i 0
@@ -79,7 +79,7 @@ book-requires : tie.Need-book-requires invariant-loop decreases-loop
 book-requires c κs =
     let z = c.before.before.before in
     let x = asked z.before in
-    let room = column_room x.loop-i.i x.loop-i.columns-1 (omega (arith, (first x).requires.1, z.before.before.before.before.before.loop-i-test.true)) in
+    let room = column_room x.loop-i.i x.loop-i.columns (omega (arith, (first x).requires.1, z.before.before.before.before.before.loop-i-test.true)) in
     ((first x).requires.0, exists z, room x.loop-i.invariant.2)
 
 returns : tie.Need-returns-then-not-can_follow invariant-loop decreases-loop

@@ -34,7 +34,7 @@ few s = omega (arith, s.requires.0.0.few, s.requires.0.1)
 
 -- the task's graph is one of them
 task : (c : tie.At-loop-a invariant-loop decreases-loop) (prices : List ℕ)
-    → Run (scaled_of (start c).args.c (start c).args.facts.now prices) c.loop-a.a 0 Nothing c.loop-a.labels-1 c.loop-a.t-1 c.loop-a.best-1
+    → Run (scaled_of (start c).args.c (start c).args.facts.now prices) c.loop-a.a 0 Nothing c.loop-a.labels c.loop-a.t c.loop-a.best
 task c prices =
     let s = start c in
     let pre = s.requires.0 in

@@ -41,8 +41,8 @@ T x = let a = (first x).args in tables a.c a.facts.now a.costs.now []
 abbrev inside : tie.Else-meets_goal invariant-loop decreases-loop → tie.In-loop-i invariant-loop decreases-loop
 inside z = z.before.before.before
 
-no-goal : (z : tie.Else-meets_goal invariant-loop decreases-loop) → let x = (inside z).before in complies (sas_of (T x)) (sas_of (T x)).goal (state_of x.loop-i.s-1) ≡ false
-no-goal z = let x = (inside z).before in goal_said (T x) x.loop-i.s-1 z.meets_goal.ensures z.if-meets_goal.false
+no-goal : (z : tie.Else-meets_goal invariant-loop decreases-loop) → let x = (inside z).before in complies (sas_of (T x)) (sas_of (T x)).goal (state_of x.loop-i.s) ≡ false
+no-goal z = let x = (inside z).before in goal_said (T x) x.loop-i.s z.meets_goal.ensures z.if-meets_goal.false
 
 -- the turn of a step that was taken, and where in it the goal was tested
 abbrev asked : tie.After-mark_of-stored invariant-loop decreases-loop → tie.After-step-m invariant-loop decreases-loop
@@ -52,7 +52,7 @@ abbrev tested : tie.After-mark_of-stored invariant-loop decreases-loop → tie.E
 tested c = (asked c).before.before.before
 
 took : (c : tie.After-mark_of-stored invariant-loop decreases-loop)
-    → let x = (inside (tested c)).before in Turn (task_of (T x)) x.loop-i.stored x.loop-i.s-1 c.before.state_after-s.result (next x) c.before.before.before.m-1.given.0.0 c.mark_of-stored.result
+    → let x = (inside (tested c)).before in Turn (task_of (T x)) x.loop-i.stored x.loop-i.s c.before.state_after-s.result (next x) c.before.before.before.m-1.given.0.0 c.mark_of-stored.result
 took c =
     let x = (inside (tested c)).before in
     turn (T x) (first x).requires.0 x.loop-i.invariant.size (asked c).step-m.ensures c.in-Ran.is c.state_after-s.ensures c.mark_of-stored.ensures
@@ -67,7 +67,7 @@ returns-2 c =
 state-after-requires : tie.Need-state_after-s-requires invariant-loop decreases-loop
 state-after-requires c κs =
     let x = (inside c.before.before.before.before).before in
-    (search rules, taken_exists (T x) (first x).requires.0 x.loop-i.stored (state_of x.loop-i.s-1) (next x) c.step-m.ensures c.in-Ran.is)
+    (search rules, taken_exists (T x) (first x).requires.0 x.loop-i.stored (state_of x.loop-i.s) (next x) c.step-m.ensures c.in-Ran.is)
 
 pub reach_spec : {M : Type 1} → statement M
 reach_spec =
@@ -78,7 +78,7 @@ reach_spec =
     (λ c. record { inside = omega arith; size = search rules; paid = omega arith; rest = refl })
     (λ c. sym c.loop-i.invariant.size)
     (λ c κs. search rules)
-    (λ c. reached_first (task_of (T c.before.before.before.before)) c.loop-i.invariant (goal_said (T c.before.before.before.before) c.loop-i.s-1 c.meets_goal.ensures c.if-meets_goal.true))
+    (λ c. reached_first (task_of (T c.before.before.before.before)) c.loop-i.invariant (goal_said (T c.before.before.before.before) c.loop-i.s c.meets_goal.ensures c.if-meets_goal.true))
     (λ c. search rules)
     (λ c. search rules)
     (λ c. sym (inside c.before.before).before.loop-i.invariant.size)
@@ -94,5 +94,5 @@ reach_spec =
     (λ c. let z = inside (tested c) in reached_on (task_of (T z.before)) z.before.loop-i.invariant (no-goal (tested c)) z.loop-i-test.taken (took c))
     (λ c. sym c.loop-i.invariant.size)
     (λ c κs. search rules)
-    (λ c. reached_first (task_of (T c.before.before.before.before)) c.loop-i.invariant (goal_said (T c.before.before.before.before) c.loop-i.s-1 c.meets_goal-2.ensures c.if-meets_goal-2.true))
-    (λ c. reached_end (task_of (T c.before.before.before.before)) c.loop-i.invariant (goal_said (T c.before.before.before.before) c.loop-i.s-1 c.meets_goal-2.ensures c.if-meets_goal-2.false) (omega arith)))
+    (λ c. reached_first (task_of (T c.before.before.before.before)) c.loop-i.invariant (goal_said (T c.before.before.before.before) c.loop-i.s c.meets_goal-2.ensures c.if-meets_goal-2.true))
+    (λ c. reached_end (task_of (T c.before.before.before.before)) c.loop-i.invariant (goal_said (T c.before.before.before.before) c.loop-i.s c.meets_goal-2.ensures c.if-meets_goal-2.false) (omega arith)))

@@ -47,7 +47,7 @@ abbrev asked : tie.After-mark_of-stored invariant-loop decreases-loop → tie.Af
 asked c = c.before.before.before
 
 took : (c : tie.After-mark_of-stored invariant-loop decreases-loop)
-    → let x = (inside (asked c)).before in Turn (task_of (T x)) x.loop-i.stored x.loop-i.s-1 c.before.state_after-s.result (next x) c.before.before.before.m-1.given.0.0 c.mark_of-stored.result
+    → let x = (inside (asked c)).before in Turn (task_of (T x)) x.loop-i.stored x.loop-i.s c.before.state_after-s.result (next x) c.before.before.before.m-1.given.0.0 c.mark_of-stored.result
 took c =
     let y = asked c in
     let x = (inside y).before in
@@ -64,11 +64,11 @@ returns c =
 state-after-requires : tie.Need-state_after-s-requires invariant-loop decreases-loop
 state-after-requires c κs =
     let x = (inside c.before).before in
-    (search rules, taken_exists (T x) (first x).requires.0 x.loop-i.stored (state_of x.loop-i.s-1) (next x) c.step-m.ensures c.in-Ran.is)
+    (search rules, taken_exists (T x) (first x).requires.0 x.loop-i.stored (state_of x.loop-i.s) (next x) c.step-m.ensures c.in-Ran.is)
 
 ended : (y : tie.After-meets_goal invariant-loop decreases-loop) {b : Bool} → y.meets_goal.result ≡ b
     → let x = y.before.before.before in cond b (Passed x.loop-i.paid) (Refused (NoGoal x.loop-i.i)) ≡ walked (task_of (T x)) 0 0 0 (state_of (first x).args.start) (first x).args.ops.now
-ended y e = walked_end (task_of (T y.before.before.before)) y.loop-i.invariant (omega arith) (goal_said (T y.before.before.before) y.loop-i.s-1 y.meets_goal.ensures e)
+ended y e = walked_end (task_of (T y.before.before.before)) y.loop-i.invariant (omega arith) (goal_said (T y.before.before.before) y.loop-i.s y.meets_goal.ensures e)
 
 pub walk_spec : {M : Type 1} → statement M
 walk_spec =

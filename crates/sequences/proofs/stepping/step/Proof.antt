@@ -36,13 +36,13 @@ o x = x.args.o.0
 abbrev first : tie.After-may_run → tie.Start
 first y = y.before.before.before.before.before.before.before
 
-runs : (y : tie.After-may_run) {b : Bool} → y.may_run.result ≡ b → let x = first y in complies (T x).sas ((T x).sas.requires (o x)) (s x) ≡ b
+runs : (y : tie.After-may_run) {b : Bool} → y.may_run.result ≡ b → let x = first y in complies (T x).sas ((T x).sas.pre (o x)) (s x) ≡ b
 runs y e =
     let a = (first y).args in
     sym (y.may_run.ensures ∙ may_run_is (tables a.c a.facts.now a.costs.now []) a.s.now a.o.0) ∙ e
 
 may-run : (y : tie.After-may_run) → y.may_run.result ≡ true → let x = first y in MayRun (T x).sas (o x) (s x)
-may-run y e = let x = first y in complies_true (T x).sas ((T x).sas.requires (o x)) (s x) (runs y e)
+may-run y e = let x = first y in complies_true (T x).sas ((T x).sas.pre (o x)) (s x) (runs y e)
 
 stores : (z : tie.After-can_store) {b : Bool} → z.can_store.result ≡ b → let x = first z.before.before in may_store (T x) (n x) (o x) ≡ b
 stores z e =

@@ -31,13 +31,13 @@ good c =
     let x = (start c).args in
     walkable_good x.c x.facts.now x.prices.now (start c).requires.0.0 (start c).requires.0.1
 
-old-room : (c : tie.At-loop-c invariant-loop decreases-loop) → (start (filled c)).args.n ≤ length c.loop-c.t-1
+old-room : (c : tie.At-loop-c invariant-loop decreases-loop) → (start (filled c)).args.n ≤ length c.loop-c.t
 old-room c = omega (arith, c.loop-c.invariant.table.size, (filled c).fill.ensures.size, (start (filled c)).requires.1.0)
 
-best-room : (c : tie.At-loop-c invariant-loop decreases-loop) → (start (filled c)).args.n ≤ length c.loop-c.best-1
+best-room : (c : tie.At-loop-c invariant-loop decreases-loop) → (start (filled c)).args.n ≤ length c.loop-c.best
 best-room c = omega (arith, c.loop-c.invariant.notes.size, (cleared c).clear.ensures.size, (start (filled c)).requires.1.1)
 
-new-room : (c : tie.At-loop-c invariant-loop decreases-loop) → (start (filled c)).args.n ≤ length c.loop-c.w-1
+new-room : (c : tie.At-loop-c invariant-loop decreases-loop) → (start (filled c)).args.n ≤ length c.loop-c.w
 new-room c = omega (arith, c.loop-c.invariant.work, (start (filled c)).requires.1.2)
 
 -- ---- the needs

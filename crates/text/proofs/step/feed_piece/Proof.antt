@@ -20,7 +20,7 @@ decreases-loop s w₀ k₀ i₀ w k i = length s - i
 
 -- what was read ahead, if anything
 ahead : (c : tie.Joined-number_due invariant-loop decreases-loop)
-    → Onward c.before.before.before.before.before.before.args.s.now (mk c.before.before.before.loop-i.k c.before.before.before.loop-i.w-1) c.before.before.before.loop-i.i
+    → Onward c.before.before.before.before.before.before.args.s.now (mk c.before.before.before.loop-i.k c.before.before.before.loop-i.w) c.before.before.before.loop-i.i
     (mk c.if-number_due.k c.if-number_due.w-1) c.if-number_due.i
 ahead c =
     ⊎_elim
@@ -28,7 +28,7 @@ ahead c =
     (λ a. rw (a.1, a.2, a.3) (record { on = omega arith; within = c.before.before.loop-i-test.true; same = refl }))
     c.if-number_due.branch
 
-as_long : (c : tie.Joined-number_due invariant-loop decreases-loop) → length c.if-number_due.w-1 ≡ length c.before.before.before.loop-i.w-1
+as_long : (c : tie.Joined-number_due invariant-loop decreases-loop) → length c.if-number_due.w-1 ≡ length c.before.before.before.loop-i.w
 as_long c = ⊎_elim (λ a. ap length a.8 ∙ a.2.kept.1.1.1.0) (λ a. ap length a.1) c.if-number_due.branch
 
 loop-again : tie.Need-loop-i-preserved invariant-loop decreases-loop

@@ -25,7 +25,7 @@ abbrev decreases-loop : tie.decreases-loop-v
 decreases-loop facts o at t₀ vars stride₀ count₀ drop₀ lift₀ v₀ t stride count drop lift v = vars - v
 
 -- the first place is there
-first : (c : tie.Start invariant-loop decreases-loop) → c.args.at < length c.args.t-1.now
+first : (c : tie.Start invariant-loop decreases-loop) → c.args.at < length c.args.t.now
 first c = omega (arith, c.requires.2, size_pos (dom_at c.args.facts.now) c.args.c.vars c.requires.0.values)
 
 -- ---- a turn: where it starts, its facts, its operator, its variable
@@ -121,7 +121,7 @@ ready c =
     let i = at-ways c in
     let s = start i in
     let l = i.before.loop-v in
-    spread_ready s.requires.0 s.requires.1 i.loop-v-test.taken (omega (arith, s.requires.2, length-set s.args.t-1.now s.args.at 0)) l.invariant.2 (ways-is c)
+    spread_ready s.requires.0 s.requires.1 i.loop-v-test.taken (omega (arith, s.requires.2, length-set s.args.t.now s.args.at 0)) l.invariant.2 (ways-is c)
     l.invariant.0.stride_is
 
 loop-again : tie.Need-loop-v-preserved invariant-loop decreases-loop
@@ -158,7 +158,7 @@ turn_lists_spec =
     (λ c. omega (arith, first c.before.before))
     (λ c.
     let s = c.before.before in
-    (numbered_none, numbered_none, listed_none s.args.facts.now s.args.o.0 s.args.at s.args.t-1.now (first s)))
+    (numbered_none, numbered_none, listed_none s.args.facts.now s.args.o.0 s.args.at s.args.t.now (first s)))
     (λ c κs. search rules)
     (λ c κs. search rules)
     (λ c κs. few c.before.before)

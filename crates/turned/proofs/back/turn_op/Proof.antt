@@ -17,7 +17,7 @@ few : (c : tie.Start) → c.args.o.0 < 64
 few c = omega (arith, c.requires.0.2, c.requires.0.0.ops)
 
 -- the operator's places are there, and their numbers small
-room : (c : tie.Start) → (c.args.o.0 * c.args.n + c.args.n ≤ length c.args.back-1.now) × (c.args.o.0 * c.args.n ≤ 64 * 4096)
+room : (c : tie.Start) → (c.args.o.0 * c.args.n + c.args.n ≤ length c.args.back.now) × (c.args.o.0 * c.args.n ≤ 64 * 4096)
 room c =
     let pre = c.requires.0 in
     let n = c.args.n in (

@@ -16,8 +16,8 @@ abbrev first : tie.After-sink-2 → tie.After-sink
 first c = c.before.before.before.before
 
 -- no write changes the length
-size₁ : (c : tie.Start) → length (set c.args.t-1.now (272 + c.args.a) c.args.key) ≡ 4368
-size₁ c = omega (arith, length-set c.args.t-1.now (272 + c.args.a) c.args.key, c.requires.0)
+size₁ : (c : tie.Start) → length (set c.args.t.now (272 + c.args.a) c.args.key) ≡ 4368
+size₁ c = omega (arith, length-set c.args.t.now (272 + c.args.a) c.args.key, c.requires.0)
 
 size₂ : (c : tie.After-sink) → length c.sink.new.0 ≡ 4368
 size₂ c = omega (arith, c.sink.ensures.1, size₁ (start c))

@@ -17,8 +17,8 @@ abbrev first : tie.After-mend-2 → tie.After-mend
 first c = c.before.before.before.before
 
 -- no write changes the length
-size₁ : (c : tie.Start) → length (set c.args.t-1.now (272 + c.args.a) NOKEY) ≡ 4368
-size₁ c = omega (arith, length-set c.args.t-1.now (272 + c.args.a) NOKEY, c.requires.0)
+size₁ : (c : tie.Start) → length (set c.args.t.now (272 + c.args.a) NOKEY) ≡ 4368
+size₁ c = omega (arith, length-set c.args.t.now (272 + c.args.a) NOKEY, c.requires.0)
 
 size₂ : (c : tie.After-mend) → length c.mend.new.0 ≡ 4368
 size₂ c = omega (arith, c.mend.ensures.1, size₁ (start c))
