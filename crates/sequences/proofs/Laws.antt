@@ -3,7 +3,7 @@ use Prim.Native.Nat.{ℕ, ◌+◌, ◌≤◌, ◌<◌}
 use mathlib.Core.Path.{◌≡◌, refl, ap, sym, ◌∙◌, subst}
 use mathlib.Core.List.{List, [], ◌∷◌}
 use mathlib.Core.Bool.{Bool, true, false, cond, false≢true}
-use mathlib.Core.Logic.{◌↔◌, ⊎_elim}
+use mathlib.Core.Logic.{◌↔◌, ⊎_elim, inl, inr}
 use denote.Enum.Declared.{tag_of}
 use types.Run.{OneOf}
 use borrow.Author.Tests.{eqb-false, lt-ltb, le-ltb}
@@ -96,6 +96,13 @@ NotRan m = OneOf (1 ∷ 2 ∷ 3 ∷ []) (tag_of A.the_type m)
 
 pub ran_not_refused : (x : ℕ) → NotRan (Ran x) → ⊥
 ran_not_refused x o = ⊎_elim (λ e. eqb-false 0 1 refl e) (⊎_elim (λ e. eqb-false 0 2 refl e) (λ e. eqb-false 0 3 refl e)) o
+
+-- an answer that is no `Ran` is a refusal
+pub not_ran : (m : Stepped) → ((x : ℕ) → m ≡ Ran x → ⊥) → NotRan m
+not_ran (Ran c) h = absurd (h c refl)
+not_ran NoSuch h = inl refl
+not_ran MayNot h = inr (inl refl)
+not_ran Beyond h = inr (inr refl)
 
 -- a refusal is the same whatever would come after it
 pub refused_same : {A : Type 0} (m : Stepped) (x y z : A) (f g : ℕ → A) → NotRan m → taken_apart m x y z f ≡ taken_apart m x y z g

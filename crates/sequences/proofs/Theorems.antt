@@ -107,7 +107,7 @@ pub record PassingPart (T : Task) (s : State) (r os : Bor (List ℕ)) (p : ℕ) 
 
 -- by the number of the named list and the named cost; where none is named, the empty part at the start of the first list
 abbrev pub OpeningPromised : Task → State → Bor (List ℕ) → Bor (List ℕ) → Bor (List ℕ) → ℕ → ℕ → Type 0
-OpeningPromised T s a b r zero p = (r.ptr ≡ a.ptr) × (r.now ≡ [])
+OpeningPromised T s a b r zero p = (r.ref_ptr ≡ a.ref_ptr) × (r.now ≡ [])
 OpeningPromised T s a b r (suc zero) p = PassingPart T s r a p
 OpeningPromised T s a b r (suc (suc k)) p = PassingPart T s r b p
 
