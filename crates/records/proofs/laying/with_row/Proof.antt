@@ -23,13 +23,13 @@ loop-again : tie.Need-loop-v-preserved invariant-loop decreases-loop
 loop-again c =
     let a = c.before.before.args in
     let l = c.before.loop-v in
-    (omega arith, row_next a.facts a.t3 l.laid a.row l.v l.invariant.1)
+    (omega arith, row_next a.facts a.values l.laid a.row l.v l.invariant.1)
 
 returns : tie.Need-returns invariant-loop decreases-loop
 returns c =
     let a = c.before.before.args in
     let l = c.before.loop-v in
-    row_end a.facts a.t3 l.laid a.row most_vars l.v l.invariant.1 (omega arith) (omega arith)
+    row_end a.facts a.values l.laid a.row most_vars l.v l.invariant.1 (omega arith) (omega arith)
 
 pub with_row_spec : {M : Type 1} → statement M
 with_row_spec =
