@@ -1,7 +1,8 @@
 -- A text written byte by byte into a buffer. Past the buffer's end nothing is written.
 use Rattle.std.specs.Prelude.{ℕ, zero, suc, ◌+◌, Bool, true, false, cond, ◌≡◌, List, [], ◌∷◌, ◌++◌, ltb, length, set}
 use Rattle.meaning.specs.Sas.{Facts}
-use Rattle.tables.specs.Task.{Slice, was, left}
+use Rattle.std.specs.Borrow.{MutBor}
+use denote.Triple.Both.{Both}
 use Rattle.grammar.specs.Fields.{comma}
 use Rattle.grammar.specs.Spelling.{fact, more_facts, some_facts}
 
@@ -27,8 +28,8 @@ pub record Writes (p : Pen) (text : List ℕ) (q : Pen) : Type 0 where
   pub leaves : q ≡ inked p text
 
 -- a function that is lent the buffer writes the text there from place n on, and answers the place after it
-abbrev pub Puts : Slice → ℕ → List ℕ → ℕ → Type 0
-Puts out n text r = Writes (pen n (was out)) text (pen r (left out))
+abbrev pub Puts : Both (MutBor (List ℕ)) (MutBor (List ℕ)) → ℕ → List ℕ → ℕ → Type 0
+Puts out n text r = Writes (pen n out.entry.now) text (pen r out.exit.now)
 
 -- a list of facts once some were written, or none: what is left of it from variable v on, with n variables to come
 unfoldable pub facts_left : Bool → Facts → ℕ → ℕ → List ℕ

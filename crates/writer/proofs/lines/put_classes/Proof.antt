@@ -34,7 +34,7 @@ loop-again c =
     let facts = put.before.before.before.before.before.before.before.before.args.facts.now in
     let row = ap₂ (λ (row n : ℕ). numbers (row_at facts row) n) put.before.before.class_row.ensures put.before.word_of.ensures in (
       omega arith,
-      gap.put_gap-next.auto.0 ∙ put.put_row-next.auto.0 ∙ run.invariant.1,
+      gap.put_gap-next.auto.out ∙ put.put_row-next.auto.out ∙ run.invariant.1,
       row_turn slash _ _ run.v test.true (so put.put_row-next.ensures row) gap.put_gap-next.ensures run.invariant.2,
     )
 

@@ -20,7 +20,7 @@ loop-again : tie.Need-loop-m-preserved invariant-loop decreases-loop
 loop-again c =
     let put = c.before.before in
     let run = put.before.before.before.loop-m in
-    lines_go_on _ _ run.m put.before.before.loop-m-test.true put.put_map-next.ensures put.put_map-next.auto.0 run.invariant
+    lines_go_on _ _ run.m put.before.before.loop-m-test.true put.put_map-next.ensures put.put_map-next.auto.out run.invariant
 
 pub put_maps_spec : {M : Type 1} → statement M
 put_maps_spec =

@@ -20,7 +20,7 @@ loop-again : tie.Need-loop-o-preserved invariant-loop decreases-loop
 loop-again c =
     let put = c.before.before in
     let run = put.before.before.before.loop-o in
-    lines_go_on _ _ run.o put.before.before.loop-o-test.true put.put_op-next.ensures put.put_op-next.auto.0 run.invariant
+    lines_go_on _ _ run.o put.before.before.loop-o-test.true put.put_op-next.ensures put.put_op-next.auto.out run.invariant
 
 pub put_ops_spec : {M : Type 1} → statement M
 put_ops_spec =

@@ -19,7 +19,7 @@ loop-again : tie.Need-loop-m-preserved invariant-loop decreases-loop
 loop-again c =
     let put = c.before.before in
     let run = put.before.before.before.loop-m in
-    lines_go_on _ _ run.m put.before.before.loop-m-test.true put.put_share-next.ensures put.put_share-next.auto.0 run.invariant
+    lines_go_on _ _ run.m put.before.before.loop-m-test.true put.put_share-next.ensures put.put_share-next.auto.out run.invariant
 
 pub put_split_spec : {M : Type 1} → statement M
 put_split_spec =

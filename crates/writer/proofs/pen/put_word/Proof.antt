@@ -21,7 +21,7 @@ loop-again c =
     let put = c.before.before in
     let test = put.before.before.before.loop-i-test in
     let run = put.before.before.before.before.loop-i in
-    (omega arith, put.put-next.auto.0 ∙ run.invariant.1, turn put.put-next.ensures (word_turn _ run.i test.true) run.invariant.2)
+    (omega arith, put.put-next.auto.out ∙ run.invariant.1, turn put.put-next.ensures (word_turn _ run.i test.true) run.invariant.2)
 
 returns : tie.Need-returns invariant-loop decreases-loop
 returns c =

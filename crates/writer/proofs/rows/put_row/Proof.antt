@@ -21,7 +21,7 @@ loop-again c =
     let put = gap.before.before.before.before in
     let test = put.before.before.before.loop-i-test in
     let run = put.before.before.before.before.loop-i in
-    row_goes_on _ _ run.i _ test.true put.before.word_of.ensures put.put_number-next.ensures gap.put_gap-next.ensures (gap.put_gap-next.auto.0 ∙ put.put_number-next.auto.0) run.invariant
+    row_goes_on _ _ run.i _ test.true put.before.word_of.ensures put.put_number-next.ensures gap.put_gap-next.ensures (gap.put_gap-next.auto.out ∙ put.put_number-next.auto.out) run.invariant
 
 pub put_row_spec : {M : Type 1} → statement M
 put_row_spec =

@@ -21,7 +21,7 @@ loop-again c =
     let put = gap.before.before.before.before in
     let test = put.before.before.before.loop-o-test in
     let run = put.before.before.before.before.loop-o in
-    row_goes_on _ _ run.o _ test.true put.before.share_at.ensures put.put_number-next.ensures gap.put_gap-next.ensures (gap.put_gap-next.auto.0 ∙ put.put_number-next.auto.0) run.invariant
+    row_goes_on _ _ run.o _ test.true put.before.share_at.ensures put.put_number-next.ensures gap.put_gap-next.ensures (gap.put_gap-next.auto.out ∙ put.put_number-next.auto.out) run.invariant
 
 pub put_shares_spec : {M : Type 1} → statement M
 put_shares_spec =
