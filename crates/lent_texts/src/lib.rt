@@ -3,7 +3,6 @@
 
 ghost use Rattle.std.specs.Prelude.{◌≡◌, ◌≤◌, length};
 ghost use Rattle.lent_texts.specs.Lent.{text_words, text_short, halt_word, halt_of, ended_word, so_far_in, words_with, words_ended};
-ghost use Rattle.tables.specs.Task.{was};
 
 use pieces::SoFar;
 use tables::Counts;
@@ -14,7 +13,7 @@ pub const TEXT_WORDS: usize = 20;
 
 // The lent words are too few.
 pub fn text_short(words: &[u32]) -> bool
-    ensures { result ≡ text_short (was words) }
+    ensures { result ≡ text_short words.now }
 {
     words.len() < TEXT_WORDS
 }
@@ -52,7 +51,7 @@ fn halt_of(n: u32) -> Halt
 // The text so far that stands in lent words.
 pub fn text_in(words: &[u32]) -> SoFar
     requires { text_words ≤ length words.now }
-    ensures { result ≡ so_far_in (was words) }
+    ensures { result ≡ so_far_in words.now }
 {
     SoFar {
         at: Ctrl {

@@ -4,7 +4,6 @@
 
 ghost use Rattle.std.specs.Prelude.{◌≡◌, ◌≤◌, length, replicate};
 ghost use Rattle.pieces.specs.Pieces.{begun_text, bytes_with, lent_short, piece_left, piece_taken, end_left, text_ended};
-ghost use Rattle.tables.specs.Task.{was};
 
 use grammar::Reading;
 use meaning::limits::BYTES_MOST;
@@ -77,7 +76,7 @@ pub fn begin_text() -> SoFar
 
 // TAKES A PIECE: its bytes are read one after the other in the lent area, which is cleared as long as no byte was read.
 pub fn take_piece(s: SoFar, area: &mut [u8], piece: &[u8]) -> Taken
-    ensures { piece_left result.text result.found area.new ≡ piece_taken s area.old (was piece) }
+    ensures { piece_left result.text result.found area.new ≡ piece_taken s area.old piece.now }
 {
     if area.len() < AREA_LENT {
         return Taken {
@@ -109,7 +108,7 @@ pub fn take_piece(s: SoFar, area: &mut [u8], piece: &[u8]) -> Taken
 
 // The area or a table is too short for the end.
 fn lent_short(area: &[u8], facts: &[u8], costs: &[u32], shares: &[u32]) -> bool
-    ensures { result ≡ lent_short (was area) (was facts) (was costs) (was shares) }
+    ensures { result ≡ lent_short area.now facts.now costs.now shares.now }
 {
     if area.len() < AREA_LENT {
         return true;
@@ -131,7 +130,7 @@ pub fn end_text(
     costs: &mut [u32],
     shares: &mut [u32],
 ) -> Ended
-    ensures { end_left result.text result.reading facts.new costs.new shares.new ≡ text_ended s (was area) facts.old costs.old shares.old }
+    ensures { end_left result.text result.reading facts.new costs.new shares.new ≡ text_ended s area.now facts.old costs.old shares.old }
 {
     if lent_short(area, facts, costs, shares) {
         return Ended {

@@ -2,7 +2,6 @@
 ghost use Rattle.std.specs.Prelude.{false, ◌≡◌, ◌-◌};
 ghost use Rattle.grammar.specs.Fields.{line_end};
 ghost use Rattle.text.specs.Inside.Control.{next_line};
-ghost use Rattle.tables.specs.Task.{was};
 ghost use Rattle.text.specs.Inside.Steps.{sign, mark_due, idle_here, list_end, after_class, after_var, next_fact, after_share, after_number, list_over, after_part};
 
 use crate::control::{
@@ -51,7 +50,7 @@ pub fn mark_due(c: Ctrl) -> bool
 
 // An operator's last field is over, and it is idle.
 pub fn idle_here(c: Ctrl, w: &[u8]) -> bool
-    ensures { result ≡ idle_here c (was w) }
+    ensures { result ≡ idle_here c w.now }
 {
     if ends_operator(c.spot.field) {
         is_idle(c.counts.vars, w, OpNo(c.spot.row))
@@ -63,7 +62,7 @@ pub fn idle_here(c: Ctrl, w: &[u8]) -> bool
 // The end of a list of facts, or of a mark: an operator's preconditions end in a semicolon, in edition 2 its effects too, all others with their line; an idle
 // operator is told before that.
 pub fn list_end(c: Ctrl, w: &[u8], b: u32) -> Ctrl
-    ensures { result ≡ list_end c (was w) b }
+    ensures { result ≡ list_end c w.now b }
 {
     if list_of(c.spot.field) == PRE_LIST {
         expect(
@@ -87,7 +86,7 @@ pub fn list_end(c: Ctrl, w: &[u8], b: u32) -> Ctrl
 }
 
 pub fn after_class(c: Ctrl, w: &[u8], b: u32) -> Ctrl
-    ensures { result ≡ after_class c (was w) b }
+    ensures { result ≡ after_class c w.now b }
 {
     if last_class(c, w) {
         if last_var(c) {
@@ -211,7 +210,7 @@ pub fn list_over(c: Ctrl, b: u32) -> bool
 // The byte after a number, which is kept in the area, where neither a list of facts nor a mark is over.
 pub fn after_number(c: Ctrl, w: &[u8], b: u32) -> Ctrl
     requires { list_over c b ≡ false }
-    ensures { result ≡ after_number c (was w) b }
+    ensures { result ≡ after_number c w.now b }
 {
     let k = kind_of(c.spot.field);
     match k {
@@ -246,7 +245,7 @@ pub fn after_number(c: Ctrl, w: &[u8], b: u32) -> Ctrl
 
 // The byte after a number or a dash. The end of a list is asked for here alone: called from one place, it is inlined, and the control stays in registers.
 pub fn after_part(c: Ctrl, w: &[u8], b: u32) -> Ctrl
-    ensures { result ≡ after_part c (was w) b }
+    ensures { result ≡ after_part c w.now b }
 {
     if list_over(c, b) {
         list_end(c, w, b)

@@ -1,7 +1,6 @@
 // Numbers read ahead: those that stand whole in the piece, without a fault, each with the comma after it and a byte more. They are read in loops over a few
 // words; what is in doubt, a fault or the last of a list, is left to the step of one byte.
 ghost use Rattle.std.specs.Prelude.{true, ◌≡◌, ◌<◌, length};
-ghost use Rattle.tables.specs.Task.{was};
 ghost use Rattle.text.specs.Inside.Ahead.{Onward, Due, NoneSeen, facts_place, FactsRead, FactHere, ClassesRead, ClassHere, SharesRead, Numbered, ShareHere};
 ghost use Rattle.text.specs.Inside.Control.{mk, due, field_class, field_share};
 
@@ -94,7 +93,7 @@ pub fn facts_place(f: u32, o: u32) -> usize
 // A fact of one digit each, in range and order, its comma, and a byte more.
 pub fn fact_here(s: &[u8], i: usize, w: &[u8], vars: u32, least: u32) -> bool
     requires { i < length s.now }
-    ensures { result ≡ true → FactHere (was s) i (was w) vars least }
+    ensures { result ≡ true → FactHere s.now i w.now vars least }
 {
     if s.len() - i < 5 {
         return false;
@@ -126,7 +125,7 @@ pub fn fact_here(s: &[u8], i: usize, w: &[u8], vars: u32, least: u32) -> bool
 // stay in registers.
 pub fn facts_ahead(s: &[u8], i: usize, w: &mut [u8], place: usize, vars: u32, least: u32) -> Items
     requires { (i < length s.now) × (place < 1099511627776) }
-    ensures { FactsRead (was s) place vars i least w.old result.at result.next w.new }
+    ensures { FactsRead s.now place vars i least w.old result.at result.next w.new }
 {
     let mut at = i;
     let mut next = least;
@@ -145,7 +144,7 @@ pub fn facts_ahead(s: &[u8], i: usize, w: &mut [u8], place: usize, vars: u32, le
 
 pub fn facts_due(c: Ctrl, s: &[u8], i: usize, w: &mut [u8]) -> Ahead
     requires { Due c × NoneSeen c × (i < length s.now) }
-    ensures { Onward (was s) (mk c w.old) i (mk (due c c.spot.field result.turn result.seen) w.new) result.at }
+    ensures { Onward s.now (mk c w.old) i (mk (due c c.spot.field result.turn result.seen) w.new) result.at }
 {
     let place = facts_place(c.spot.field, c.spot.row);
     if place == 0 {
@@ -169,7 +168,7 @@ pub fn facts_due(c: Ctrl, s: &[u8], i: usize, w: &mut [u8]) -> Ahead
 // A class of one digit, in range and not its variable's last, its comma, and a byte more.
 pub fn class_here(s: &[u8], i: usize, values: u32, item: u32) -> bool
     requires { i < length s.now }
-    ensures { result ≡ true → ClassHere (was s) i values item }
+    ensures { result ≡ true → ClassHere s.now i values item }
 {
     if s.len() - i < 3 {
         return false;
@@ -198,7 +197,7 @@ pub fn classes_ahead(
     seen: u32,
 ) -> Items
     requires { i < length s.now }
-    ensures { ClassesRead (was s) row var i item seen w.old result.at result.next result.mask w.new }
+    ensures { ClassesRead s.now row var i item seen w.old result.at result.next result.mask w.new }
 {
     let mut at = i;
     let mut next = item;
@@ -219,7 +218,7 @@ pub fn classes_ahead(
 
 pub fn classes_due(c: Ctrl, s: &[u8], i: usize, w: &mut [u8]) -> Ahead
     requires { Due c × (c.spot.field ≡ field_class) × (i < length s.now) }
-    ensures { Onward (was s) (mk c w.old) i (mk (due c c.spot.field result.turn result.seen) w.new) result.at }
+    ensures { Onward s.now (mk c w.old) i (mk (due c c.spot.field result.turn result.seen) w.new) result.at }
 {
     if c.turn.least != 0 {
         return stay(c, i);
@@ -242,7 +241,7 @@ pub fn classes_due(c: Ctrl, s: &[u8], i: usize, w: &mut [u8]) -> Ahead
 // The number from i on is a share and not its row's last, with its comma and a byte more.
 pub fn share_here(s: &[u8], i: usize, r: Run, item: u32, ops: u32) -> bool
     requires { Numbered s.now i r.at r.val }
-    ensures { result ≡ true → ShareHere (was s) i r.at r.val item ops }
+    ensures { result ≡ true → ShareHere s.now i r.at r.val item ops }
 {
     let j = r.at;
     if j == i {
@@ -263,7 +262,7 @@ pub fn share_here(s: &[u8], i: usize, r: Run, item: u32, ops: u32) -> bool
 // The shares of a row from that of operator `item` on.
 pub fn shares_ahead(s: &[u8], i: usize, w: &mut [u8], row: u32, ops: u32, item: u32) -> Items
     requires { i < length s.now }
-    ensures { SharesRead (was s) row ops i item w.old result.at result.next w.new }
+    ensures { SharesRead s.now row ops i item w.old result.at result.next w.new }
 {
     let mut at = i;
     let mut next = item;
@@ -283,7 +282,7 @@ pub fn shares_ahead(s: &[u8], i: usize, w: &mut [u8], row: u32, ops: u32, item: 
 
 pub fn shares_due(c: Ctrl, s: &[u8], i: usize, w: &mut [u8]) -> Ahead
     requires { Due c × NoneSeen c × (c.spot.field ≡ field_share) × (i < length s.now) }
-    ensures { Onward (was s) (mk c w.old) i (mk (due c c.spot.field result.turn result.seen) w.new) result.at }
+    ensures { Onward s.now (mk c w.old) i (mk (due c c.spot.field result.turn result.seen) w.new) result.at }
 {
     if c.turn.least != 0 {
         return stay(c, i);
@@ -303,7 +302,7 @@ pub fn shares_due(c: Ctrl, s: &[u8], i: usize, w: &mut [u8]) -> Ahead
 // What can be read ahead where a number is due.
 pub fn items_ahead(c: Ctrl, s: &[u8], i: usize, w: &mut [u8]) -> Ahead
     requires { Due c × (i < length s.now) }
-    ensures { Onward (was s) (mk c w.old) i (mk (due c c.spot.field result.turn result.seen) w.new) result.at }
+    ensures { Onward s.now (mk c w.old) i (mk (due c c.spot.field result.turn result.seen) w.new) result.at }
 {
     if c.spot.field == FIELD_CLASS {
         return classes_due(c, s, i, w);

@@ -7,7 +7,6 @@ ghost use Rattle.grammar.specs.Fields.{leaves};
 ghost use Rattle.text.specs.Inside.Area.{area_room, share_in};
 ghost use Rattle.text.specs.Inside.Control.{mk};
 ghost use Rattle.text.specs.Inside.End.{over, refusal_of, last_fault, settled_as, machine_end};
-ghost use Rattle.tables.specs.Task.{was};
 
 use crate::area::word_at;
 use crate::fill::{fill_bytes, fill_words};
@@ -47,7 +46,7 @@ pub fn at_most(x: u32, n: u32) -> u32
 // An operator's shares in all maps together.
 pub fn share_total(w: &[u8], maps: u32, o: u32) -> u32
     requires { maps ≤ most_maps }
-    ensures { result ≡ sum (λ m. share_in (was w) m o) maps }
+    ensures { result ≡ sum (λ m. share_in w.now m o) maps }
 {
     let mut total = 0;
     let mut m = 0;
@@ -60,7 +59,7 @@ pub fn share_total(w: &[u8], maps: u32, o: u32) -> u32
 
 // The lowest operator whose shares total above its cost.
 pub fn over_fault(c: Ctrl, w: &[u8]) -> Found
-    ensures { result ≡ over (mk c (was w)) }
+    ensures { result ≡ over (mk c w.now) }
 {
     let maps = at_most(c.counts.maps, MAPS_MOST);
     let ops = at_most(c.counts.ops, OPS_MOST);
@@ -76,7 +75,7 @@ pub fn over_fault(c: Ctrl, w: &[u8]) -> Found
 
 // What the text is refused with at its end, if anything.
 pub fn last_fault(c: Ctrl, w: &[u8]) -> Found
-    ensures { result ≡ last_fault (mk c (was w)) }
+    ensures { result ≡ last_fault (mk c w.now) }
 {
     let k = c.halt;
     let found = refusal_of(k, c.line);
@@ -89,7 +88,7 @@ pub fn last_fault(c: Ctrl, w: &[u8]) -> Found
 // What a reading that is over leaves behind: the answer, and the lent tables on acceptance only.
 pub fn settle(e: Ctrl, w: &[u8], facts: &mut [u8], costs: &mut [u32], shares: &mut [u32]) -> Reading
     requires { (facts_room ≤ length w.now) × (facts_room ≤ length facts.old) × (costs_room ≤ length costs.old) × (shares_room ≤ length shares.old) }
-    ensures { leaves result facts.new costs.new shares.new ≡ settled_as (mk e (was w)) facts.old costs.old shares.old }
+    ensures { leaves result facts.new costs.new shares.new ≡ settled_as (mk e w.now) facts.old costs.old shares.old }
 {
     let found = last_fault(e, w);
     if let Found::Fault(r) = found {
@@ -106,7 +105,7 @@ pub fn settle(e: Ctrl, w: &[u8], facts: &mut [u8], costs: &mut [u32], shares: &m
 // known, so that it is inlined.
 pub fn finish(c: Ctrl, w: &[u8], facts: &mut [u8], costs: &mut [u32], shares: &mut [u32]) -> Reading
     requires { (length w.now ≡ area_room) × (facts_room ≤ length facts.old) × (costs_room ≤ length costs.old) × (shares_room ≤ length shares.old) }
-    ensures { leaves result facts.new costs.new shares.new ≡ machine_end (mk c (was w)) facts.old costs.old shares.old }
+    ensures { leaves result facts.new costs.new shares.new ≡ machine_end (mk c w.now) facts.old costs.old shares.old }
 {
     let mut cut = [0u8; AREA_ROOM];
     fill_bytes(w, AREA_ROOM, &mut cut);

@@ -1,6 +1,5 @@
 // The fields of the text: keywords, ranges, what a number is to the control, and where it is kept.
 ghost use Rattle.std.specs.Prelude.{◌≡◌, get_or};
-ghost use Rattle.tables.specs.Task.{was};
 ghost use Rattle.text.specs.Inside.Fields.{
   key_byte,
   leasts,
@@ -110,7 +109,7 @@ pub fn kind_of(f: u32) -> u32
 }
 
 pub fn limit_of(c: Ctrl, w: &[u8]) -> u32
-    ensures { result ≡ limit c (was w) }
+    ensures { result ≡ limit c w.now }
 {
     let n = bound_of(c.spot.field);
     if n == BY_VALUES {
@@ -120,7 +119,7 @@ pub fn limit_of(c: Ctrl, w: &[u8]) -> u32
 }
 
 pub fn in_range(c: Ctrl, w: &[u8]) -> bool
-    ensures { result ≡ in_range c (was w) }
+    ensures { result ≡ in_range c w.now }
 {
     if least_of(c.spot.field) <= c.digits.val {
         c.digits.val < limit_of(c, w)
@@ -131,7 +130,7 @@ pub fn in_range(c: Ctrl, w: &[u8]) -> bool
 
 // A finished number's own fault: range, then order.
 pub fn judge(c: Ctrl, w: &[u8]) -> Halt
-    ensures { result ≡ number_fault c (was w) }
+    ensures { result ≡ number_fault c w.now }
 {
     if in_range(c, w) {
         if c.turn.least <= c.digits.val {
@@ -192,7 +191,7 @@ pub fn note(c: Ctrl) -> Ctrl
 }
 
 pub fn last_class(c: Ctrl, w: &[u8]) -> bool
-    ensures { result ≡ last_class c (was w) }
+    ensures { result ≡ last_class c w.now }
 {
     if c.spot.field == FIELD_CLASS {
         one_more(c.turn.item) == values_of(w, c.turn.var)
@@ -228,7 +227,7 @@ pub fn class_fault(c: Ctrl) -> Halt
 }
 
 pub fn before_byte(c: Ctrl, w: &[u8]) -> Halt
-    ensures { result ≡ before c (was w) }
+    ensures { result ≡ before c w.now }
 {
     if last_class(c, w) {
         class_fault(c)
@@ -239,7 +238,7 @@ pub fn before_byte(c: Ctrl, w: &[u8]) -> Halt
 
 // The fault of the digit run that ends here.
 pub fn fault_of(c: Ctrl, w: &[u8]) -> Halt
-    ensures { result ≡ fault c (was w) }
+    ensures { result ≡ fault c w.now }
 {
     if c.digits.run == RUN_NONE {
         return Halt::Form;

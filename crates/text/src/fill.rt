@@ -4,14 +4,13 @@ ghost use Rattle.grammar.specs.Fields.{filled};
 ghost use Rattle.tables.specs.Layout.{shares_room};
 ghost use Rattle.text.specs.Inside.Area.{threes, shares_byte};
 ghost use Rattle.text.specs.Inside.End.{FilledTo};
-ghost use Rattle.tables.specs.Task.{was};
 
 use crate::area::word_at;
 
 // The first n bytes, in a loop of their own: nothing is asked at each.
 pub fn copy_bytes(w: &[u8], n: usize, out: &mut [u8])
     requires { (n ≤ length w.now) × (n ≤ length out.old) }
-    ensures { FilledTo (take n (was w)) out.old out.new n }
+    ensures { FilledTo (take n w.now) out.old out.new n }
 {
     let mut i = 0;
     while i < n {
@@ -34,7 +33,7 @@ pub fn clear_bytes(n: usize, out: &mut [u8])
 
 pub fn fill_bytes(w: &[u8], n: usize, out: &mut [u8])
     requires { (n ≤ length w.now) × (n ≤ length out.old) }
-    ensures { out.new ≡ filled n (take n (was w)) out.old }
+    ensures { out.new ≡ filled n (take n w.now) out.old }
 {
     copy_bytes(w, n, out);
     clear_bytes(n, out);
@@ -42,14 +41,14 @@ pub fn fill_bytes(w: &[u8], n: usize, out: &mut [u8])
 
 pub fn nth_word(w: &[u8], n: usize, at: usize, i: usize) -> u32
     requires { (n ≤ shares_room) × (at ≤ shares_byte) }
-    ensures { result ≡ get_or (threes n at (was w)) i 0 }
+    ensures { result ≡ get_or (threes n at w.now) i 0 }
 {
     if i < n { word_at(w, at + 3 * i) } else { 0 }
 }
 
 pub fn fill_words(w: &[u8], n: usize, at: usize, out: &mut [u32])
     requires { (n ≤ shares_room) × (at ≤ shares_byte) × (n ≤ length out.old) }
-    ensures { out.new ≡ filled n (threes n at (was w)) out.old }
+    ensures { out.new ≡ filled n (threes n at w.now) out.old }
 {
     let mut i = 0;
     while i < out.len() {

@@ -4,7 +4,6 @@
 ghost use Rattle.std.specs.Prelude.{◌≡◌};
 ghost use Rattle.grammar.specs.Fields.{leaves};
 ghost use Rattle.grammar.specs.Grammar.{read_text};
-ghost use Rattle.tables.specs.Task.{was};
 
 mod after;
 mod ahead;
@@ -81,7 +80,7 @@ pub struct Ctrl {
 
 // Reads a task text into the lent tables: the task's counts, or why not. What is left behind is what the grammar says.
 pub fn read(text: &[u8], facts: &mut [u8], costs: &mut [u32], shares: &mut [u32]) -> Reading
-    ensures { leaves result facts.new costs.new shares.new ≡ read_text (was text) facts.old costs.old shares.old }
+    ensures { leaves result facts.new costs.new shares.new ≡ read_text text.now facts.old costs.old shares.old }
 {
     read_by_machine(text, facts, costs, shares)
 }

@@ -1,6 +1,5 @@
 // Digits and whole numbers of a piece.
 ghost use Rattle.std.specs.Prelude.{true, ◌≡◌, ◌≤◌, ◌<◌, length};
-ghost use Rattle.tables.specs.Task.{was};
 ghost use Rattle.text.specs.Inside.Ahead.{digit_at, DigitHere, Longer, Numbered};
 
 use crate::area::word;
@@ -20,7 +19,7 @@ pub struct Run {
 // The digit at a place, or NO_DIGIT.
 pub fn digit_at(s: &[u8], i: usize) -> u32
     requires { i < length s.now }
-    ensures { result ≡ digit_at (was s) i }
+    ensures { result ≡ digit_at s.now i }
 {
     let b = word(s[i]);
     if is_digit(b) { digit_of(b) } else { NO_DIGIT }
@@ -28,7 +27,7 @@ pub fn digit_at(s: &[u8], i: usize) -> u32
 
 // A digit stands at i, and the value v leaves room for it.
 pub fn digit_here(s: &[u8], i: usize, v: u32) -> bool
-    ensures { result ≡ true → DigitHere (was s) i v }
+    ensures { result ≡ true → DigitHere s.now i v }
 {
     if s.len() <= i {
         return false;
@@ -42,7 +41,7 @@ pub fn digit_here(s: &[u8], i: usize, v: u32) -> bool
 // The digits from i on, after one that is no 0 and whose value is v; past every range they need not be read to their end.
 pub fn longer_from(s: &[u8], i: usize, v: u32) -> Run
     requires { i ≤ length s.now }
-    ensures { Longer (was s) i v result.at result.val }
+    ensures { Longer s.now i v result.at result.val }
 {
     let mut at = i;
     let mut val = v;
@@ -56,7 +55,7 @@ pub fn longer_from(s: &[u8], i: usize, v: u32) -> Run
 // The number from i on; it ends at i if none stands there.
 pub fn number_from(s: &[u8], i: usize) -> Run
     requires { i < length s.now }
-    ensures { Numbered (was s) i result.at result.val }
+    ensures { Numbered s.now i result.at result.val }
 {
     let d = digit_at(s, i);
     if NO_DIGIT <= d {

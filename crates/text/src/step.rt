@@ -1,7 +1,6 @@
 // One byte of the text.
 ghost use Rattle.std.specs.Prelude.{false, ◌≡◌, ◌-◌};
 ghost use Rattle.text.specs.Inside.Control.{mk};
-ghost use Rattle.tables.specs.Task.{was};
 ghost use Rattle.text.specs.Inside.Steps.{in_key, more, run_with, digit_read, run_fault, run_kept, part_closed, nothing_read, dash_here, in_value, live, byte_read, feed, ended};
 
 use crate::after::{after_part, expect};
@@ -61,7 +60,7 @@ pub fn add_digit(c: Ctrl, d: u32) -> Ctrl
 
 // The fault of the digit run that ends here, if one does.
 pub fn run_fault(c: Ctrl, w: &[u8]) -> Halt
-    ensures { result ≡ run_fault c (was w) }
+    ensures { result ≡ run_fault c w.now }
 {
     if c.spot.part == PART_NUMBER {
         fault_of(c, w)
@@ -155,7 +154,7 @@ pub fn step_byte(c: Ctrl, b: u32, w: &mut [u8]) -> Ctrl
 
 // A piece of the text: a byte at a time, after what can be read ahead.
 pub fn feed_piece(c: Ctrl, s: &[u8], w: &mut [u8]) -> Ctrl
-    ensures { mk result w.new ≡ feed (mk c w.old) (was s) }
+    ensures { mk result w.new ≡ feed (mk c w.old) s.now }
 {
     let mut k = c;
     let mut i = 0;

@@ -3,7 +3,6 @@ ghost use Rattle.std.specs.Prelude.{◌≡◌, ◌≤◌, length};
 ghost use Rattle.tables.specs.Layout.{facts_room, costs_room, shares_room};
 ghost use Rattle.grammar.specs.Fields.{leaves};
 ghost use Rattle.text.specs.Inside.End.{machine_read, read_all};
-ghost use Rattle.tables.specs.Task.{was};
 
 use crate::control::start_of_text;
 use crate::end::finish;
@@ -17,7 +16,7 @@ use tables::readers::{COSTS_ROOM, FACTS_ROOM, SHARES_ROOM};
 // What the machine answers to a text, where there is room for every task.
 pub fn run_machine(text: &[u8], facts: &mut [u8], costs: &mut [u32], shares: &mut [u32]) -> Reading
     requires { (facts_room ≤ length facts.old) × (costs_room ≤ length costs.old) × (shares_room ≤ length shares.old) }
-    ensures { leaves result facts.new costs.new shares.new ≡ machine_read (was text) facts.old costs.old shares.old }
+    ensures { leaves result facts.new costs.new shares.new ≡ machine_read text.now facts.old costs.old shares.old }
 {
     let mut w = [0u8; AREA_ROOM];
     let c = feed_piece(start_of_text(), text, &mut w);
@@ -31,7 +30,7 @@ pub fn read_by_machine(
     costs: &mut [u32],
     shares: &mut [u32],
 ) -> Reading
-    ensures { leaves result facts.new costs.new shares.new ≡ read_all (was text) facts.old costs.old shares.old }
+    ensures { leaves result facts.new costs.new shares.new ≡ read_all text.now facts.old costs.old shares.old }
 {
     if facts.len() < FACTS_ROOM {
         return Reading::Refused(Refusal::TableTooShort);

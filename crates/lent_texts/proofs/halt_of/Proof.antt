@@ -7,7 +7,7 @@ use Rattle.lent_texts.proofs.halt_of.Tie as tie
 returns-7 : tie.Need-returns-in_default
 unfolding halt_of
 returns-7 c =
-    let late = c.in-0.rest in
+    let late = c.in_default.in_default-own.rest in
     let early = late.0.0.0 in
     simp (ne_eqb _ _ early.0.0.1, ne_eqb _ _ early.0.1, ne_eqb _ _ early.1, ne_eqb _ _ late.0.0.1, ne_eqb _ _ late.0.1, ne_eqb _ _ late.1)
 
@@ -16,10 +16,10 @@ unfolding halt_of
 halt_of_spec =
     tie.close
     (tie.spec
-    (λ c. simp c.in-0.keys1)
-    (λ c. simp c.in-0.keys2)
-    (λ c. simp c.in-0.keys3)
-    (λ c. simp c.in-0.keys4)
-    (λ c. simp c.in-0.keys5)
-    (λ c. simp c.in-0.keys6)
+    (λ c. simp c.in-0.is)
+    (λ c. simp c.in-2.is)
+    (λ c. simp c.in-3.is)
+    (λ c. simp c.in-4.is)
+    (λ c. simp c.in-5.is)
+    (λ c. simp c.in-6.is)
     returns-7)

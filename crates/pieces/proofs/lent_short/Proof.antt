@@ -1,5 +1,4 @@
 -- `pieces::lent_short` meets its contract: one length after the other. Assumes nothing.
-use borrow.Author.Rules.{rules}
 use borrow.Author.Tests.{le-ltb, lt-ltb}
 use mathlib.Core.Path.{sym}
 use Rattle.pieces.specs.Pieces.{lent_short}

@@ -11,7 +11,7 @@ returns-2 c =
     let row = put.before.before in
     let list = row.before.before in
     simp (← list.before.last_class.ensures, list.if-last_class.true, ← row.before.last_var.ensures, row.if-last_var.false)
-    (simp (← put.before.width_of_lem.ensures, ← put.multiply-p.ensures, ← c.before.before.one_more.ensures, ← c.before.await_number-n.ensures) c.expect.ensures)
+    (simp (← put.before.width_of.ensures, ← put.multiply-p.ensures, ← c.before.before.one_more.ensures, ← c.before.await_number-n.ensures) c.expect.ensures)
 
 returns-3 : tie.Need-returns-else-last_class
 unfolding after_class

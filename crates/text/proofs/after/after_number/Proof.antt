@@ -10,7 +10,7 @@ use Rattle.text.proofs.after.after_number.Tie as tie
 returns-7 : tie.Need-returns-in_default
 unfolding after_number
 returns-7 c =
-    let late = c.in-1.rest in
+    let late = c.in_default.in_default-own.rest in
     let early = late.0.0.0 in
     let k = c.kind_of-k in
     simp (no_mark _ _ c.requires (λ e. early.1 (k.ensures ∙ e)))
@@ -21,7 +21,7 @@ returns-3 : tie.Need-returns-in-3
 unfolding after_number after_value
 returns-3 c =
     let k = c.kind_of-k in
-    simp (← k.ensures, c.in-1.keys3) (simp (comma_next _ _ c.requires (sym k.ensures ∙ c.in-1.keys3), c.next_fact.ensures))
+    simp (← k.ensures, c.in-3.is) (simp (comma_next _ _ c.requires (sym k.ensures ∙ c.in-3.is), c.next_fact.ensures))
 
 pub after_number_spec : {M : Type 1} → statement M
 unfolding after_number
@@ -39,10 +39,10 @@ after_number_spec =
     (λ c κs. search rules)
     (λ c κs. search rules)
     (λ c κs. search rules)
-    (λ c. simp (← c.kind_of-k.ensures, c.in-1.keys1) c.after_var.ensures)
-    (λ c. simp (← c.kind_of-k.ensures, c.in-1.keys2, ← c.one_more.ensures, ← c.await_number.ensures) c.expect.ensures)
+    (λ c. simp (← c.kind_of-k.ensures, c.in-1.is) c.after_var.ensures)
+    (λ c. simp (← c.kind_of-k.ensures, c.in-2.is, ← c.one_more.ensures, ← c.await_number.ensures) c.expect.ensures)
     returns-3
-    (λ c. simp (← c.kind_of-k.ensures, c.in-1.keys4, ← c.await_number-in-4.ensures) c.expect-in-4.ensures)
-    (λ c. simp (← c.kind_of-k.ensures, c.in-1.keys5) c.after_class.ensures)
-    (λ c. simp (← c.kind_of-k.ensures, c.in-1.keys6) c.after_share.ensures)
+    (λ c. simp (← c.kind_of-k.ensures, c.in-4.is, ← c.await_number-in-4.ensures) c.expect-in-4.ensures)
+    (λ c. simp (← c.kind_of-k.ensures, c.in-5.is) c.after_class.ensures)
+    (λ c. simp (← c.kind_of-k.ensures, c.in-6.is) c.after_share.ensures)
     returns-7)

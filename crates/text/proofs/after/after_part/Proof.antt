@@ -11,6 +11,6 @@ after_part_spec =
     (tie.spec
     (λ c κs. search rules)
     (λ c κs. search rules)
-    (λ c κs. sym c.before.List-over.ensures ∙ c.if-list_over.false)
-    (λ c. c.list_end.ensures ∙ sym (over_list _ _ _ (sym c.before.before.List-over.ensures ∙ c.before.if-list_over.true)))
-    (λ c. c.after_number.ensures ∙ sym (more_number _ _ _ (sym c.before.before.List-over.ensures ∙ c.before.if-list_over.false))))
+    (λ c κs. sym c.before.list_over.ensures ∙ c.if-list_over.false)
+    (λ c. c.list_end.ensures ∙ sym (over_list _ _ _ (sym c.before.before.list_over.ensures ∙ c.before.if-list_over.true)))
+    (λ c. c.after_number.ensures ∙ sym (more_number _ _ _ (sym c.before.before.list_over.ensures ∙ c.before.if-list_over.false))))

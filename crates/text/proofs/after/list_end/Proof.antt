@@ -27,12 +27,12 @@ list_end_spec =
     (λ c κs. search rules)
     (λ c κs. search rules)
     (λ c. simp (← c.before.before.before.list_of.ensures, eq-eqb _ _ c.before.before.if-list_of-eq-PRE_LIST.true, ← c.before.await_number.ensures) c.expect.ensures)
-    (λ c. let x = c.before.before.before in simp (no-pre x, ← x.mark_due_lem.ensures, c.before.before.if-mark_due.true, ← c.before.await_number-then-mark_due.ensures) c.expect-then-mark_due.ensures)
+    (λ c. let x = c.before.before.before in simp (no-pre x, ← x.mark_due.ensures, c.before.before.if-mark_due.true, ← c.before.await_number-then-mark_due.ensures) c.expect-then-mark_due.ensures)
     (λ c.
     let y = c.before.before in
     let x = y.before.before in
-    simp (no-pre x, ← x.mark_due_lem.ensures, y.before.if-mark_due.false, ← y.idle_here.ensures, c.before.if-idle_here.true) c.stop.ensures)
+    simp (no-pre x, ← x.mark_due.ensures, y.before.if-mark_due.false, ← y.idle_here.ensures, c.before.if-idle_here.true) c.stop.ensures)
     (λ c.
     let y = c.before.before in
     let x = y.before.before in
-    simp (no-pre x, ← x.mark_due_lem.ensures, y.before.if-mark_due.false, ← y.idle_here.ensures, c.before.if-idle_here.false) c.end_line.ensures))
+    simp (no-pre x, ← x.mark_due.ensures, y.before.if-mark_due.false, ← y.idle_here.ensures, c.before.if-idle_here.false) c.end_line.ensures))

@@ -22,18 +22,15 @@ decreases-loop s i w₀ row var item seen at₀ next₀ mask₀ w at next mask =
 
 loop-again : tie.Need-loop-x-preserved invariant-loop decreases-loop
 loop-again c =
-    let put = c.before.before.before.before in
-    let read = put.before.before.before in
-    let asked = read.before.before in
-    let run = asked.before.before.before.loop-x in
-    let here = asked.class_here.ensures read.before.loop-x-test.true in
+    let run = c.loop-x in
+    let here = c.class_here.ensures c.loop-x-test.true in
     let room = here.room in (
       omega arith,
       omega arith,
-      put.put_byte.auto.0 ∙ run.invariant.2,
+      c.put_byte.auto.w ∙ run.invariant.2,
       λ k o v.
-          simp (c.one_more-next.ensures, c.before.add_class-mask.ensures, put.put_byte.ensures, put.before.class_place.ensures, read.digit_at-x.ensures, ← o, ← v)
-          (class_ahead k run.at run.next run.mask _ _ (rw (v, ← asked.before.values_of.ensures) here) ∙ run.invariant.3 k o v),
+          simp (c.one_more-next.ensures, c.add_class-mask.ensures, c.put_byte.ensures, c.class_place.ensures, c.digit_at-x.ensures, ← o, ← v)
+          (class_ahead k run.at run.next run.mask _ _ (rw (v, ← c.values_of.ensures) here) ∙ run.invariant.3 k o v),
     )
 
 pub classes_ahead_spec : {M : Type 1} → statement M
@@ -50,8 +47,8 @@ classes_ahead_spec =
     (λ c κs. search rules)
     (λ c κs. search rules)
     (λ c κs. search rules)
-    (λ c. let read = c.before.before.before.before.before.before.before in omega (arith, (read.before.before.class_here.ensures read.before.loop-x-test.true).room))
-    (λ c. let read = c.before.before.before.before.before.before.before in omega (arith, (read.before.before.class_here.ensures read.before.loop-x-test.true).room))
+    (λ c. omega (arith, (c.class_here.ensures c.loop-x-test.true).room))
+    (λ c. omega (arith, (c.class_here.ensures c.loop-x-test.true).room))
     loop-again
-    (λ c. c.before.before.before.before.loop-x.invariant.2)
-    (λ c. let run = c.before.before.before.before.loop-x in λ k o v. record { on = run.invariant.0; within = run.invariant.1; same = run.invariant.3 k o v }))
+    (λ c. c.loop-x.invariant.2)
+    (λ c. let run = c.loop-x in λ k o v. record { on = run.invariant.0; within = run.invariant.1; same = run.invariant.3 k o v }))

@@ -7,7 +7,7 @@ use Rattle.text.specs.Inside.Control.{mk}
 use Rattle.text.specs.Inside.Steps.{feed}
 use borrow.Author.Rules.{rules}
 use lib.ListN.{drop, length}
-use mathlib.Core.Path.{◌∙◌, ◌≡◌, ap, refl, sym}
+use mathlib.Core.Path.{◌∙◌, ◌≡◌, refl}
 use native.Mathlib.Omega.{arith}
 use Rattle.text.proofs.ahead.facts_ahead.Statement.{statement}
 use Rattle.text.proofs.ahead.facts_ahead.Tie as tie
@@ -23,22 +23,19 @@ decreases-loop s i w₀ place vars least at₀ next₀ w at next = length s - at
 
 loop-again : tie.Need-loop-next-preserved invariant-loop decreases-loop
 loop-again c =
-    let put = c.before.before.before in
-    let value = put.before.before in
-    let read = value.before.before.before in
-    let run = read.before.before.before.before.loop-next in
-    let here = read.before.before.fact_here.ensures read.before.loop-next-test.true in
+    let run = c.loop-next in
+    let here = c.fact_here.ensures c.loop-next-test.true in
     let room = here.room in (
       omega arith,
       omega arith,
-      put.put_byte.auto.0 ∙ run.invariant.2,
+      c.put_byte.auto.w ∙ run.invariant.2,
       λ k z e v.
-          simp (c.one_more-next.ensures, put.put_byte.ensures, put.before.one_more.ensures, value.digit_at.ensures, value.before.wide.ensures, read.digit_at-v.ensures)
+          simp (c.one_more-next.ensures, c.put_byte.ensures, c.one_more.ensures, c.digit_at.ensures, c.wide.ensures, c.digit_at-v.ensures)
           (fact_ahead k _ run.next run.at _ _ z e (rw v here) ∙ run.invariant.3 k z e v),
     )
 
 returns : tie.Need-returns invariant-loop decreases-loop
-returns c = let run = c.before.before.before.loop-next in λ k z e v. record { on = run.invariant.0; within = run.invariant.1; same = run.invariant.3 k z e v }
+returns c = let run = c.loop-next in λ k z e v. record { on = run.invariant.0; within = run.invariant.1; same = run.invariant.3 k z e v }
 
 pub facts_ahead_spec : {M : Type 1} → statement M
 facts_ahead_spec =
@@ -50,14 +47,14 @@ facts_ahead_spec =
     (λ c κs. search rules)
     (λ c κs. search rules)
     (λ c κs. search rules)
-    (λ c. let here = c.before.before.before.before.fact_here.ensures c.before.before.before.loop-next-test.true in omega (arith, here.var))
-    (λ c. let here = c.before.before.before.before.fact_here.ensures c.before.before.before.loop-next-test.true in omega (arith, here.room))
-    (λ c κs. let here = c.before.before.before.before.fact_here.ensures c.before.before.before.loop-next-test.true in omega (arith, here.room))
+    (λ c. let here = c.fact_here.ensures c.loop-next-test.true in omega (arith, here.var))
+    (λ c. let here = c.fact_here.ensures c.loop-next-test.true in omega (arith, here.room))
+    (λ c κs. let here = c.fact_here.ensures c.loop-next-test.true in omega (arith, here.room))
     (λ c κs. search rules)
     (λ c κs. search rules)
     (λ c κs. search rules)
-    (λ c. let read = c.before.before.before.before.before.before.before.before in omega (arith, (read.before.before.fact_here.ensures read.before.loop-next-test.true).room))
-    (λ c. let read = c.before.before.before.before.before.before.before.before in omega (arith, (read.before.before.fact_here.ensures read.before.loop-next-test.true).room))
+    (λ c. omega (arith, (c.fact_here.ensures c.loop-next-test.true).room))
+    (λ c. omega (arith, (c.fact_here.ensures c.loop-next-test.true).room))
     loop-again
-    (λ c. c.before.before.before.loop-next.invariant.2)
+    (λ c. c.loop-next.invariant.2)
     returns)

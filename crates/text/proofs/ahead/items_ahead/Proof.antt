@@ -1,7 +1,6 @@
 -- `text::ahead::items_ahead` meets its contract: by the field. Assumes nothing.
 use Rattle.text.proofs.Onward.{stays}
 use borrow.Author.Rules.{rules}
-use borrow.Author.Tests.{not-false}
 use Rattle.text.proofs.ahead.items_ahead.Statement.{statement}
 use Rattle.text.proofs.ahead.items_ahead.Tie as tie
 

@@ -2,7 +2,7 @@
 use Rattle.grammar.proofs.Runs.{clash}
 use Rattle.text.proofs.Onward.{going_on}
 use borrow.Author.Rules.{rules}
-use borrow.Author.Tests.{eqb-true, not-false}
+use borrow.Author.Tests.{eqb-true}
 use mathlib.Core.Path.{◌∙◌, refl, sym}
 use Rattle.text.proofs.ahead.number_due.Statement.{statement}
 use Rattle.text.proofs.ahead.number_due.Tie as tie

@@ -22,18 +22,16 @@ decreases-loop s i w₀ row ops item at₀ next₀ r₀ w at next r = length s -
 
 loop-again : tie.Need-loop-at-preserved invariant-loop decreases-loop
 loop-again c =
-    let put = c.before.before.before.before.before in
-    let asked = put.before.before.before.before in
-    let run = asked.before.loop-at in
-    let here = asked.share_here.ensures put.before.before.before.loop-at-test.true in
+    let run = c.loop-at in
+    let here = c.share_here.ensures c.loop-at-test.true in
     let some = here.some in
     let room = here.room in (
       omega arith,
       omega arith,
-      put.put_word.auto.0 ∙ run.invariant.2,
+      c.put_word.auto.w ∙ run.invariant.2,
       c.number_from-r-in-loop-at.ensures,
       λ k o n.
-          simp (c.before.before.one_more-next.ensures, put.put_word.ensures, put.before.share_byte.ensures.0, ← o)
+          simp (c.one_more-next.ensures, c.put_word.ensures, c.share_byte.ensures.0, ← o)
           (share_ahead k run.at run.r.at run.r.val run.next _ _ run.invariant.3 (rw n here) ∙ run.invariant.4 k o n),
     )
 
@@ -49,12 +47,11 @@ shares_ahead_spec =
     (λ c κs. search rules)
     (λ c κs. search rules)
     (λ c κs. search rules)
-    (λ c. let if = c.before.before.before.before.before.before.before in omega (arith, (if.before.share_here.ensures if.loop-at-test.true).room))
-    (λ c κs. let if = c.before.before.before.before.before.before.before in omega (arith, (if.before.share_here.ensures if.loop-at-test.true).room))
+    (λ c. omega (arith, (c.share_here.ensures c.loop-at-test.true).room))
+    (λ c κs. omega (arith, (c.share_here.ensures c.loop-at-test.true).room))
     (λ c.
-    let test = c.before.before.before.before.before.before.before.before in
-    let here = test.before.share_here.ensures test.loop-at-test.true in
+    let here = c.share_here.ensures c.loop-at-test.true in
     omega (arith, here.some, here.room))
     loop-again
-    (λ c. c.before.before.loop-at.invariant.2)
-    (λ c. let run = c.before.before.loop-at in λ k o n. record { on = run.invariant.0; within = run.invariant.1; same = run.invariant.4 k o n }))
+    (λ c. c.loop-at.invariant.2)
+    (λ c. let run = c.loop-at in λ k o n. record { on = run.invariant.0; within = run.invariant.1; same = run.invariant.4 k o n }))

@@ -20,7 +20,7 @@ returns c =
     let lent = copied.before.before.before.before.before.before in
     let a = lent.args in
     x.settle.ensures
-    ∙ ap (λ (s : St). settled_as s a.facts-1.now a.costs-1.now a.shares-1.now)
+    ∙ ap (λ (s : St). settled_as s a.facts.now a.costs.now a.shares.now)
     (read.end_text-e.ensures ∙ ap (λ (w : List ℕ). ended (mk a.c w)) (copied.fill_bytes.ensures ∙ filled_whole _ _ _ lent.requires.0 refl))
 
 pub finish_spec : {M : Type 1} → statement M

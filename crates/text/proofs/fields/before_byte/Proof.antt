@@ -9,5 +9,5 @@ unfolding before
 before_byte_spec = tie.close (tie.spec
     (λ c κs. search rules)
     (λ c κs. search rules)
-    (λ c. simp (← c.before.before.last_class.ensures, c.before.if-last_class.true) c.class_fault_lem.ensures)
+    (λ c. simp (← c.before.before.last_class.ensures, c.before.if-last_class.true) c.class_fault.ensures)
     (λ c. simp (← c.before.last_class.ensures, c.if-last_class.false)))

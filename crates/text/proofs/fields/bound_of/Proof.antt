@@ -32,4 +32,4 @@ bound_of_spec =
     (λ c. search rules)
     (λ c. search rules)
     (λ c. search rules)
-    (λ c. sym (table_else (16 ∷ 15 ∷ 14 ∷ 12 ∷ 10 ∷ 8 ∷ 7 ∷ 6 ∷ 4 ∷ 2 ∷ 1 ∷ 0 ∷ []) limits refl c.args.f c.in-0.rest)))
+    (λ c. sym (table_else (16 ∷ 15 ∷ 14 ∷ 12 ∷ 10 ∷ 8 ∷ 7 ∷ 6 ∷ 4 ∷ 2 ∷ 1 ∷ 0 ∷ []) limits refl c.args.f c.in_default.in_default-own.rest)))

@@ -11,7 +11,7 @@ returns c =
     let last = c.before.before.before in
     let full = last.before.before in
     simp (← full.before.none_missing.ensures, full.if-none_missing.true, ← last.before.last_var.ensures, last.if-last_var.true)
-    (simp (← c.before.before.width_of_lem.ensures, ← c.before.multiply-p.ensures, lt-ltb _ _ c.if-p-gt-STATES_MOST.true))
+    (simp (← c.before.before.width_of.ensures, ← c.before.multiply-p.ensures, lt-ltb _ _ c.if-p-gt-STATES_MOST.true))
 
 returns-2 : tie.Need-returns-else-p-gt-STATES_MOST
 unfolding class_fault
@@ -19,7 +19,7 @@ returns-2 c =
     let last = c.before.before.before in
     let full = last.before.before in
     simp (← full.before.none_missing.ensures, full.if-none_missing.true, ← last.before.last_var.ensures, last.if-last_var.true)
-    (simp (← c.before.before.width_of_lem.ensures, ← c.before.multiply-p.ensures, le-ltb _ _ c.if-p-gt-STATES_MOST.false))
+    (simp (← c.before.before.width_of.ensures, ← c.before.multiply-p.ensures, le-ltb _ _ c.if-p-gt-STATES_MOST.false))
 
 pub class_fault_spec : {M : Type 1} → statement M
 unfolding class_fault

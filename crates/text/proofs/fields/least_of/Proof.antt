@@ -15,4 +15,4 @@ least_of_spec =
     (λ c. search rules)
     (λ c. search rules)
     (λ c. search rules)
-    (λ c. sym (table_else (12 ∷ 2 ∷ 1 ∷ 0 ∷ []) leasts refl c.args.f c.in-0.rest)))
+    (λ c. sym (table_else (12 ∷ 2 ∷ 1 ∷ 0 ∷ []) leasts refl c.args.f c.in_default.in_default-own.rest)))

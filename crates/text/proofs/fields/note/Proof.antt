@@ -9,4 +9,4 @@ unfolding noted
 note_spec = tie.close (tie.spec
     (λ c κs. search rules)
     (λ c κs. search rules)
-    (λ c. simp (c.before.seen_with-n.ensures, c.Counts-with.ensures)))
+    (λ c. simp (c.before.seen_with-n.ensures, c.counts_with-n.ensures)))

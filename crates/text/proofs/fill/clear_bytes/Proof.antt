@@ -2,7 +2,6 @@
 use Prim.Native.Nat.{ℕ, ◌-◌, ◌≤◌, ◌<◌}
 use Rattle.text.proofs.Filling.{filled_as_far, fill_turn}
 use Rattle.text.specs.Inside.End.{FilledTo}
-use borrow.Author.Rules.{rules}
 use lib.ListN.{length, length-set, get_or-eq_default}
 use mathlib.Core.List.{List}
 use mathlib.Core.Path.{◌≡◌, refl, sym}

@@ -2,7 +2,6 @@
 use Prim.Native.Nat.{◌-◌, ◌≤◌, ◌<◌}
 use Rattle.text.proofs.Filling.{filled_none, filled_as_far, fill_turn}
 use Rattle.text.specs.Inside.End.{FilledTo}
-use borrow.Author.Rules.{rules}
 use lib.ListN.{length, take}
 use lib.Seq.{get_or-take}
 use mathlib.Core.Path.{sym}

@@ -6,7 +6,7 @@ use Rattle.text.proofs.mask.none_missing.Tie as tie
 
 returns : tie.Need-returns
 unfolding gapless
-returns c = simp (← c.width_of_lem.ensures)
+returns c = simp (← c.width_of.ensures)
 
 pub none_missing_spec : {M : Type 1} → statement M
 none_missing_spec = tie.close (tie.spec

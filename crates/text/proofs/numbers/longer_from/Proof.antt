@@ -1,5 +1,5 @@
 -- `text::numbers::longer_from` meets its contract: the invariant is the contract for the digits so far. Assumes nothing.
-use Prim.Native.Nat.{◌+◌, ◌*◌, ◌-◌}
+use Prim.Native.Nat.{◌-◌}
 use Rattle.text.proofs.Onward.{digit_more}
 use Rattle.text.specs.Inside.Ahead.{Longer}
 use borrow.Author.Rules.{rules}

@@ -1,7 +1,7 @@
 -- `text::numbers::number_from` meets its contract: no digit, a lone 0, or the digits after the first. Assumes nothing.
 use Rattle.text.proofs.Onward.{zero_number, longer_number}
 use borrow.Author.Rules.{rules}
-use mathlib.Core.Path.{◌∙◌, refl, sym}
+use mathlib.Core.Path.{◌∙◌, sym}
 use native.Mathlib.Omega.{arith}
 use Rattle.text.proofs.numbers.number_from.Statement.{statement}
 use Rattle.text.proofs.numbers.number_from.Tie as tie

@@ -8,16 +8,13 @@ use Rattle.text.proofs.step.close_part.Tie as tie
 
 returns : tie.Need-returns-then-goes_on
 returns c =
-    let kept = c.before.before.before.before in
-    let sound = kept.before.before in
-    let goes = ap going (sym sound.before.before.run_fault-k.ensures) ∙ sym sound.before.goes_on.ensures ∙ sound.if-goes_on.true in
-    simp c.after_part.ensures (closed_goes _ _ _ _ _ goes kept.keep_run.ensures)
+    let goes = ap going (sym c.run_fault-k.ensures) ∙ sym c.goes_on.ensures ∙ c.if-goes_on.true in
+    simp c.after_part.ensures (closed_goes _ _ _ _ _ goes c.keep_run.ensures)
 
 returns-2 : tie.Need-returns-else-goes_on
 returns-2 c =
-    let found = c.before.before.before in
-    let stops = ap going (sym found.run_fault-k.ensures) ∙ sym c.before.before.goes_on.ensures ∙ c.before.if-goes_on.false in
-    simp (c.stop.ensures, found.run_fault-k.ensures) (closed_stops _ _ _ stops)
+    let stops = ap going (sym c.run_fault-k.ensures) ∙ sym c.goes_on.ensures ∙ c.if-goes_on.false in
+    simp (c.stop.ensures, c.run_fault-k.ensures) (closed_stops _ _ _ stops)
 
 pub close_part_spec : {M : Type 1} → statement M
 close_part_spec =

@@ -15,7 +15,6 @@ end_text_spec =
     tie.close
     (tie.spec
     (λ c. simp (eq-eqb _ _ c.if-c-eq-FIELD_END.true))
-    (λ c. search rules)
     (λ c κs. search rules)
     (λ c. search rules)
     returns-2)

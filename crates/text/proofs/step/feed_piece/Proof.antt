@@ -6,10 +6,10 @@ use Rattle.text.specs.Inside.Control.{mk, St}
 use Rattle.text.specs.Inside.Steps.{byte_read, feed}
 use borrow.Author.Rules.{rules}
 use lib.ListN.{drop, drop_of_length-le, length}
-use mathlib.Core.Logic.{⊎_elim}
 use mathlib.Core.Path.{◌∙◌, ◌≡◌, ap, refl, sym}
 use native.Mathlib.Omega.{arith}
 use Rattle.text.proofs.step.feed_piece.Statement.{statement}
+use Rattle.text.proofs.step.feed_piece.Lts.{then-number_due, else-number_due}
 use Rattle.text.proofs.step.feed_piece.Tie as tie
 
 abbrev invariant-loop : tie.invariant-loop-i
@@ -20,16 +20,15 @@ decreases-loop s w₀ k₀ i₀ w k i = length s - i
 
 -- what was read ahead, if anything
 ahead : (c : tie.Joined-number_due invariant-loop decreases-loop)
-    → Onward c.before.before.before.before.before.before.args.s.now (mk c.before.before.before.loop-i.k c.before.before.before.loop-i.w) c.before.before.before.loop-i.i
-    (mk c.if-number_due.k c.if-number_due.w-1) c.if-number_due.i
+    → Onward c.args.s.now (mk c.loop-i.k c.loop-i.w) c.loop-i.i (mk c.if-number_due.k c.if-number_due.w) c.if-number_due.i
 ahead c =
-    ⊎_elim
-    (λ a. rw (a.8, a.9, a.10) (rw a.7.ensures a.2.ensures))
-    (λ a. rw (a.1, a.2, a.3) (record { on = omega arith; within = c.before.before.loop-i-test.true; same = refl }))
-    c.if-number_due.branch
+    elim c.if-number_due.branch [
+      | then-number_due w ↦ rw (w.w-is, w.k-is, w.i-is) (rw w.await_number-k.ensures w.items_ahead-n.ensures)
+      | else-number_due w ↦ rw (w.w-is, w.k-is, w.i-is) (record { on = omega arith; within = c.loop-i-test.true; same = refl })
+    ]
 
-as_long : (c : tie.Joined-number_due invariant-loop decreases-loop) → length c.if-number_due.w-1 ≡ length c.before.before.before.loop-i.w
-as_long c = ⊎_elim (λ a. ap length a.8 ∙ a.2.kept.1.1.1.0) (λ a. ap length a.1) c.if-number_due.branch
+as_long : (c : tie.Joined-number_due invariant-loop decreases-loop) → length c.if-number_due.w ≡ length c.loop-i.w
+as_long c = elim c.if-number_due.branch [ then-number_due w ↦ ap length w.w-is ∙ w.items_ahead-n.auto.w | else-number_due w ↦ ap length w.w-is ]
 
 loop-again : tie.Need-loop-i-preserved invariant-loop decreases-loop
 loop-again c =
@@ -40,7 +39,7 @@ loop-again c =
     let s = join.before.before.before.before.before.before.args.s.now in
     let on = ahead join in
     let fed = ap (λ (x : St). feed x (drop (join.if-number_due.i + 1) s)) (read.step_byte-k.ensures ∙ ap (byte_read _) byte.word.ensures.0) in
-    (omega arith, read.step_byte-k.auto.1.1.0 ∙ as_long join ∙ run.invariant.1, fed ∙ feed_next _ s join.if-number_due.i on.within ∙ on.same ∙ run.invariant.2)
+    (omega arith, read.step_byte-k.auto.w ∙ as_long join ∙ run.invariant.1, fed ∙ feed_next _ s join.if-number_due.i on.within ∙ on.same ∙ run.invariant.2)
 
 returns : tie.Need-returns invariant-loop decreases-loop
 unfolding feed
@@ -48,7 +47,7 @@ returns c =
     let run = c.before.loop-i in
     let s = c.before.before.before.before.args.s.now in
     let h : length s ≤ run.i = omega arith in
-    ap (feed (mk run.k run.w-1)) (sym (drop_of_length-le s h)) ∙ run.invariant.2
+    ap (feed (mk run.k run.w)) (sym (drop_of_length-le s h)) ∙ run.invariant.2
 
 pub feed_piece_spec : {M : Type 1} → statement M
 feed_piece_spec =

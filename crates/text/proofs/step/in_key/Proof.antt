@@ -12,8 +12,8 @@ in_key_spec =
     (tie.spec
     (λ c κs. search rules)
     (λ c κs. search rules)
-    (λ c. simp (← c.before.before.key_byte_lem.ensures, ne_eqb _ _ c.before.if-b-key_byte.true) c.stop.ensures)
+    (λ c. simp (← c.before.before.key_byte.ensures, ne_eqb _ _ c.before.if-b-key_byte.true) c.stop.ensures)
     (λ c κs. search rules)
     (λ c κs. search rules)
-    (λ c. simp (← c.before.before.before.key_byte_lem.ensures, eq-eqb _ _ c.before.before.if-b-key_byte.false, eq-eqb _ _ c.before.if-b-eq-EQUALS.true) c.open_line.ensures)
-    (λ c. simp (← c.before.before.before.key_byte_lem.ensures, eq-eqb _ _ c.before.before.if-b-key_byte.false, ne_eqb _ _ c.before.if-b-eq-EQUALS.false) c.next_key.ensures))
+    (λ c. simp (← c.before.before.before.key_byte.ensures, eq-eqb _ _ c.before.before.if-b-key_byte.false, eq-eqb _ _ c.before.if-b-eq-EQUALS.true) c.open_line.ensures)
+    (λ c. simp (← c.before.before.before.key_byte.ensures, eq-eqb _ _ c.before.before.if-b-key_byte.false, ne_eqb _ _ c.before.if-b-eq-EQUALS.false) c.next_key.ensures))

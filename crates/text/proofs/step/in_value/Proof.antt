@@ -3,9 +3,9 @@ use Rattle.text.proofs.Parts.{value_closed, value_past}
 use Rattle.text.specs.Inside.Steps.{at_number, in_value}
 use borrow.Author.Rules.{rules}
 use borrow.Author.Tests.{eq-eqb}
-use mathlib.Core.Logic.{⊎_elim}
 use mathlib.Core.Path.{◌∙◌, sym}
 use Rattle.text.proofs.step.in_value.Statement.{statement}
+use Rattle.text.proofs.step.in_value.Lts.{then-c-eq-PART_NUMBER+else-is_digit+else-dash_here, else-c-eq-PART_NUMBER}
 use Rattle.text.proofs.step.in_value.Tie as tie
 
 returns : tie.Need-returns-then-is_digit
@@ -23,11 +23,12 @@ returns-2 c =
 
 returns-3 : tie.Need-returns
 returns-3 c =
-    c.before.before.close_part.ensures
-    ∙ ⊎_elim
-    (λ w. value_closed _ _ _ w.0.taken (sym w.1.ensures ∙ w.2.left) (sym w.3.ensures ∙ w.4.left))
-    (λ w. value_past _ _ _ w.left)
-    c.before.before.before.before.if-c-eq-PART_NUMBER.branch
+    c.close_part.ensures
+    ∙ elim c.if-c-eq-PART_NUMBER.branch [
+      | then-c-eq-PART_NUMBER+else-is_digit+else-dash_here w ↦
+          value_closed _ _ _ w.if-c-eq-PART_NUMBER.true (sym w.is_digit.ensures ∙ w.if-is_digit.false) (sym w.dash_here.ensures ∙ w.if-dash_here.false)
+      | else-c-eq-PART_NUMBER w ↦ value_past _ _ _ w.if-c-eq-PART_NUMBER.false
+    ]
 
 pub in_value_spec : {M : Type 1} → statement M
 in_value_spec =

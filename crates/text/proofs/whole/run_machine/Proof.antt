@@ -17,7 +17,7 @@ returns c =
     let y = x.before.before.before.before.before.before in
     let a = y.before.before.before.before.before.before.before.args in
     x.finish.ensures
-    ∙ ap (λ (s : St). machine_end s a.facts-1.now a.costs-1.now a.shares-1.now)
+    ∙ ap (λ (s : St). machine_end s a.facts.now a.costs.now a.shares.now)
     (y.feed_piece-c.ensures ∙ ap (λ (k : Ctrl). feed (mk k (replicate area_room 0)) a.text.now) y.before.before.start_of_text.ensures)
 
 pub run_machine_spec : {M : Type 1} → statement M
