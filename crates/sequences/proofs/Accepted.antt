@@ -17,7 +17,6 @@ use Rattle.sequences.specs.Choosing.{chosen_from, chosen_unless, chosen_of, list
 use Rattle.sequences.specs.Opening.{Opening, OpeningOf}
 use Rattle.sequences.proofs.Alike.{SameSteps, sas_self, limited_alike, chosen_from_alike}
 use Rattle.sequences.proofs.Passing.{input_clean}
-use Rattle.scan.specs.contracts.Found as F
 
 module _ (t : Tables) (s : List ℕ) where
   -- the task as the steps see it: without its split

@@ -19,7 +19,7 @@ book-requires : tie.Need-book-requires
 book-requires c κs =
     let x = c.before.before.before.before.before.before.before.before in
     let pre = x.requires in
-    (pre.0, pre.1, column_room x.args.t1.len x.args.t1.columns-1 pre.2 pre.3)
+    (pre.0, pre.1, column_room x.args.self.len x.args.self.columns pre.2 pre.3)
 
 element-write-self : tie.Need-bounds-self-at
 unfolding most_steps

@@ -3,7 +3,6 @@ use Rattle.ledger.proofs.Accepted.{answered_fault, answered_judged, answered_not
 use Rattle.ledger.proofs.Runs.{run_tested}
 use Rattle.scan.proofs.Validity.{clean_valid, clean_room}
 use borrow.Author.Rules.{rules}
-use borrow.Author.Tests.{not-false, not-true}
 use mathlib.Core.Path.{◌∙◌, sym}
 use Rattle.ledger.proofs.Run.answer.Statement.{statement}
 use Rattle.ledger.proofs.Run.answer.Tie as tie
@@ -14,7 +13,7 @@ is-run-requires c κs = sym c.tables_fault-found.ensures ∙ c.in-Clean.is
 returns : tie.Need-returns-then-not-is_run
 returns c =
     answered_not_a_run _ _ _ _ (sym c.tables_fault-found.ensures ∙ c.in-Clean.is)
-    (sym c.is_run_lem.ensures ∙ c.if-not-is_run.true)
+    (sym c.is_run.ensures ∙ c.if-not-is_run.true)
 
 judge-requires : tie.Need-judge-requires
 judge-requires c κs =
@@ -23,14 +22,14 @@ judge-requires c κs =
       valid.vars.1,
       valid.ops,
       (clean_room _ clean).0,
-      (run_tested _ _ (sym c.is_run_lem.ensures ∙ c.if-not-is_run.false)).len,
+      (run_tested _ _ (sym c.is_run.ensures ∙ c.if-not-is_run.false)).len,
     )
 
 returns-2 : tie.Need-returns-else-not-is_run
 returns-2 c =
     c.judge.ensures
     ∙ answered_judged _ _ _ _ (sym c.tables_fault-found.ensures ∙ c.in-Clean.is)
-    (sym c.is_run_lem.ensures ∙ c.if-not-is_run.false)
+    (sym c.is_run.ensures ∙ c.if-not-is_run.false)
 
 returns-3 : tie.Need-returns-in-Fault
 returns-3 c = answered_fault _ _ _ _ _ (sym c.tables_fault-found.ensures ∙ c.in-Fault.is)

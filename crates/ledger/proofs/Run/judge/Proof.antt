@@ -12,9 +12,9 @@ returns c = judged-none _ _ _ _ _ c.if-c-op.true
 returns-2 : tie.Need-returns-then-number-eq0
 returns-2 c = judged-zero _ _ _ _ _ c.before.if-c-op.false c.if-number-eq0.true
 
-add-if3 : tie.Need-overflow-add-if3
+add-self : tie.Need-overflow_add-self
 unfolding most_steps
-add-if3 c = omega (arith, c.before.before.before.before.before.before.requires.1)
+add-self c = omega (arith, c.before.before.before.before.before.before.requires.1)
 
 returns-3 : tie.Need-returns-then-self-number
 returns-3 c = judged-beyond _ _ _ _ _ c.before.before.before.if-c-op.false c.before.before.if-number-eq0.false c.if-self-number.true
@@ -36,7 +36,7 @@ judge_spec =
     (tie.spec
     returns
     returns-2
-    add-if3
+    add-self
     returns-3
     (λ c κs. search rules)
     returns-4

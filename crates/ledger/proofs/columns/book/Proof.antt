@@ -81,7 +81,7 @@ module _ (x : Loop) (turn : x.loop-m.m < (first x).args.c.maps) where
 
 loop-again : tie.Need-loop-m-preserved invariant-loop decreases-loop
 loop-again c =
-    let x = c.before.before.before.before in
+    let x = c.before.before.before.before.before in
     let o = (first x).args.op.0 in (
       omega arith,
       booked_turn (task x) (first x).args.columns.now x.loop-m.columns o x.loop-m.m _ x.loop-m.invariant.1 (sym (gain_map (task x) x.loop-m.m o (omega arith))),
@@ -133,12 +133,12 @@ module _ (x : Loop) (done : (first x).args.c.maps ≤ x.loop-m.m) where
       )
 
 abbrev marked : tie.After-mark_of invariant-loop decreases-loop → Loop
-marked c = c.before.before.before.before.before.before
+marked c = c.before.before.before.before.before.before.before
 
 returns : tie.Need-returns invariant-loop decreases-loop
 returns c =
     let x = marked c in
-    booked_end (task x) (first x).args.columns.now _ (first x).args.op.0 _ (valid x).maps.1 (rest-booked x c.before.before.before.before.loop-m-test.false)
+    booked_end (task x) (first x).args.columns.now _ (first x).args.op.0 _ (valid x).maps.1 (rest-booked x c.loop-m-test.false)
     c.mark_of.ensures
 
 pub book_spec : {M : Type 1} → statement M
@@ -153,24 +153,24 @@ book_spec =
     (λ c. omega (arith, within c.before.before c.loop-m-test.true, a-map c.before.before c.loop-m-test.true))
     (λ c. omega (arith, within c.before.before c.loop-m-test.true, a-map c.before.before c.loop-m-test.true, (first c.before.before).requires.1, (valid c.before.before).ops))
     (λ c. omega (arith, a-map c.before.before c.loop-m-test.true, (first c.before.before).requires.1, (valid c.before.before).ops))
-    (λ c. within c.before.before.before c.before.loop-m-test.true)
-    (λ c. omega (arith, a-map c.before.before.before c.before.loop-m-test.true))
-    (λ c. omega (arith, a-map c.before.before.before c.before.loop-m-test.true))
-    (λ c. omega (arith, column_fits c.before.before.before.before c.before.before.loop-m-test.true))
-    (λ c. omega (arith, a-map c.before.before.before.before c.before.before.loop-m-test.true))
-    (λ c. omega (arith, a-map c.before.before.before.before c.before.before.loop-m-test.true))
-    (λ c. omega (arith, shared-fits c.before.before.before.before c.before.before.loop-m-test.true))
-    (λ c. omega (arith, a-map c.before.before.before.before c.before.before.loop-m-test.true))
+    (λ c. within c.before.before.before c.loop-m-test.true)
+    (λ c. omega (arith, a-map c.before.before.before c.loop-m-test.true))
+    (λ c. omega (arith, a-map c.before.before.before.before c.loop-m-test.true))
+    (λ c. omega (arith, column_fits c.before.before.before.before.before c.loop-m-test.true))
+    (λ c. omega (arith, a-map c.before.before.before.before.before c.loop-m-test.true))
+    (λ c. omega (arith, a-map c.before.before.before.before.before c.loop-m-test.true))
+    (λ c. omega (arith, shared-fits c.before.before.before.before.before c.loop-m-test.true))
+    (λ c. omega (arith, a-map c.before.before.before.before.before c.loop-m-test.true))
     (λ c. search rules)
     loop-again
     (λ c. search rules)
-    (λ c. omega (arith, (first c.before.before.before).requires.1, (valid c.before.before.before).ops))
-    (λ c. a-cost c.before.before.before.before c.before.before.loop-m-test.false)
-    (λ c. shares-within c.before.before.before.before c.before.before.loop-m-test.false)
-    (λ c. omega (arith, unshared-fits c.before.before.before.before c.before.before.loop-m-test.false))
+    (λ c. omega (arith, (first c.before.before.before.before).requires.1, (valid c.before.before.before.before).ops))
+    (λ c. a-cost c.before.before.before.before.before c.loop-m-test.false)
+    (λ c. shares-within c.before.before.before.before.before c.loop-m-test.false)
+    (λ c. omega (arith, unshared-fits c.before.before.before.before.before c.loop-m-test.false))
     (λ c. search rules)
     (λ c. search rules)
     (λ c κs. search rules)
-    (λ c. omega (arith, stored-fits (marked c) c.before.before.before.before.loop-m-test.false, c.mark_of.ensures))
+    (λ c. omega (arith, stored-fits (marked c) c.loop-m-test.false, c.mark_of.ensures))
     (λ c. search rules)
     returns)

@@ -5,8 +5,7 @@ use mathlib.Core.Bool.{Bool, true}
 use native.Mathlib.Omega.{arith}
 use lib.ListN.{length}
 use borrow.Author.Rules.{rules}
-use borrow.Author.Tests.{not-true, not-false}
-use Rattle.meaning.specs.Views.{holds, every}
+use Rattle.meaning.specs.Views.{every}
 use Rattle.tables.specs.Layout.{place}
 use Rattle.tables.specs.Steps.{says_of, row_holds, may_run}
 use Rattle.tables.proofs.Laws.{every_more, every_end, every_false}
@@ -38,7 +37,7 @@ within : (x : tie.At-loop-v invariant-loop decreases-loop) → x.loop-v.v < (fir
 within x h = omega (arith, (asked x).pre_row-row.ensures, (first x).requires.0, (first x).requires.1, (first x).requires.2, (asked x).before.before.if-c-op.false)
 
 -- what a turn is told of a variable
-told : (c : tie.After-fact_holds invariant-loop decreases-loop) → let x = c.before.before.before.before in says x x.loop-v.v ≡ c.fact_holds.result
+told : (c : tie.After-fact_holds invariant-loop decreases-loop) → let x = c.before.before.before.before.before in says x x.loop-v.v ≡ c.fact_holds.result
 told c = sym c.fact_holds.ensures
 
 -- the operator exists, so what it asks decides
@@ -54,12 +53,12 @@ decided x e =
 
 returns-2 : tie.Need-returns-then-not-fact_holds invariant-loop decreases-loop
 returns-2 c =
-    let x = c.before.before.before.before.before in
+    let x = c.before.before.before.before.before.before in
     decided x (every_false (says x) (first x).args.c.vars x.loop-v.v (omega arith) (told c.before ∙ c.if-not-fact_holds.true))
 
 loop-again : tie.Need-loop-v-preserved invariant-loop decreases-loop
 loop-again c =
-    let x = c.before.before.before.before.before in
+    let x = c.before.before.before.before.before.before in
     (omega arith, every_more (says x) x.loop-v.v x.loop-v.invariant.1 (told c.before ∙ c.if-not-fact_holds.false))
 
 returns-3 : tie.Need-returns invariant-loop decreases-loop
@@ -81,7 +80,7 @@ can_run_spec =
     (λ c. search rules)
     (λ c. omega (arith, within c.before c.loop-v-test.true))
     (λ c. within c.before.before c.before.loop-v-test.true)
-    (λ c. omega (arith, c.before.loop-v-test.true, (first c.before.before).requires.0))
+    (λ c. omega (arith, c.loop-v-test.true, c.requires.0))
     (λ c κs. search rules)
     returns-2
     (λ c. search rules)

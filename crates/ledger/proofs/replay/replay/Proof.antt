@@ -6,7 +6,6 @@ use mathlib.Core.Bool.{true}
 use native.Mathlib.Omega.{arith}
 use lib.ListN.{drop, get_or, take}
 use borrow.Author.Rules.{rules}
-use borrow.Author.Tests.{not-false, not-true}
 use Rattle.meaning.specs.Split.{Valid}
 use Rattle.tables.specs.Layout.{Tables}
 use Rattle.tables.specs.Task.{tables, task_of}

@@ -41,7 +41,7 @@ within x h = omega (arith, (asked x).eff_row-row.ensures, (first x).requires.0, 
 
 loop-again : tie.Need-loop-v-preserved invariant-loop decreases-loop
 loop-again c =
-    let x = c.before.before.before.before in
+    let x = c.before.before.before.before.before in
     let s = (first x).args.state.now in
     let now = x.loop-v.state in
     let still = filled_still (effect x) s now x.loop-v.v x.loop-v.invariant.1 in (
@@ -71,9 +71,9 @@ step_spec =
     (λ c. search rules)
     (λ c. omega (arith, within c.before c.loop-v-test.true))
     (λ c. within c.before.before c.before.loop-v-test.true)
-    (λ c. omega (arith, c.before.loop-v-test.true, (first c.before.before).requires.0))
+    (λ c. omega (arith, c.loop-v-test.true, c.requires.0))
     (λ c κs. search rules)
-    (λ c. omega (arith, c.before.before.before.loop-v-test.true, (first c.before.before.before.before).requires.0))
+    (λ c. omega (arith, c.loop-v-test.true, c.requires.0))
     (λ c. search rules)
     (λ c. search rules)
     loop-again

@@ -5,7 +5,6 @@ use Rattle.meaning.specs.Limits.{most_vars}
 use Rattle.meaning.specs.Views.{every}
 use Rattle.tables.proofs.Laws.{every_end, every_false, every_more}
 use borrow.Author.Rules.{rules}
-use borrow.Author.Tests.{not-false, not-true}
 use mathlib.Core.Bool.{true}
 use mathlib.Core.Path.{◌∙◌, ◌≡◌, refl, sym}
 use native.Mathlib.Omega.{arith}
@@ -27,7 +26,7 @@ returns c =
     let l = c.before.before.before in
     let a = l.before.before.args in
     sym
-    (every_false (starts_at a.c a.facts.now a.t3) most_vars l.loop-v.v (omega arith)
+    (every_false (starts_at a.c a.facts.now a.s) most_vars l.loop-v.v (omega arith)
     (sym c.before.start_at.ensures ∙ c.if-not-start_at.true))
 
 loop-again : tie.Need-loop-v-preserved invariant-loop decreases-loop
@@ -35,7 +34,7 @@ loop-again c =
     let l = c.before.before.before in
     let a = l.before.before.args in (
       omega arith,
-      every_more (starts_at a.c a.facts.now a.t3) l.loop-v.v l.loop-v.invariant.1
+      every_more (starts_at a.c a.facts.now a.s) l.loop-v.v l.loop-v.invariant.1
           (sym c.before.start_at.ensures ∙ c.if-not-start_at.false),
     )
 
@@ -44,7 +43,7 @@ unfolding start_in
 returns-2 c =
     let l = c.before in
     let a = l.before.before.args in
-    every_end (starts_at a.c a.facts.now a.t3) most_vars l.loop-v.v l.loop-v.invariant.1 (omega arith) (omega arith)
+    every_end (starts_at a.c a.facts.now a.s) most_vars l.loop-v.v l.loop-v.invariant.1 (omega arith) (omega arith)
 
 pub start_in_spec : {M : Type 1} → statement M
 start_in_spec =

@@ -1,5 +1,5 @@
 -- `choosing::reach` meets its contract: what is left of the list gives the rest of the answer. Assumes nothing.
-use Rattle.std.proofs.Common.{[], sym, arith, rules, slice_index_or}
+use Rattle.std.proofs.Common.{[], arith, rules, slice_index_or}
 use Rattle.tables.specs.Task.{task_of, state_of, tables}
 use Rattle.sequences.proofs.Laws.{not_ran}
 use Rattle.sequences.proofs.Walks.{goal_said, taken_exists, turn, payable, storable, reached_first, reached_on, reached_refused, reached_end}
