@@ -42,11 +42,11 @@ use Rattle.desk_c.specs.Watching.{NeverJumpsLent}
 module _ (t : Tables) (earlier later : RunLeft) (a b : List ℕ) (never : NeverJumpsLent t earlier later a b) where
   pub map_none_stays : (m : ℕ) → m < t.counts.maps → (x y : ℕ) → DistanceHanded t m a x → DistanceHanded t m b y → x ≡ word nowhere 0 → y ≡ word nowhere 0
   map_none_stays m l x y f g =
-      none_kept (λ v. distance_word (distance_said v)) (λ v w e. distance_said_lem v w (distance_told (distance_said v) (distance_said w) e)) (never.map m l x y f g)
+      none_kept (λ v. distance_word (distance_said v)) (λ v w e. distance_said_lem v w (distance_told (distance_said v) (distance_said w) e)) _ (never.map m l x y f g)
 
   pub none_stays : (x y : ℕ) → BoundHanded t a x → BoundHanded t b y → x ≡ word nowhere 0 → y ≡ word nowhere 0
   none_stays x y f g =
-      none_kept (λ v. bound_word (bound_said v)) (λ v w e. bound_said_lem v w (bound_told (bound_said v) (bound_said w) e)) (never.bound x y f g)
+      none_kept (λ v. bound_word (bound_said v)) (λ v w e. bound_said_lem v w (bound_told (bound_said v) (bound_said w) e)) _ (never.bound x y f g)
 
 -- ---- what C looks at in memory that carries a run is the run's own
 

@@ -48,9 +48,9 @@ sums_fall p d e n h = falls_at_most (sum p n) (summed d n) (summed e n) (summed_
 -- ---- two answers that keep pace
 
 -- where the earlier says none, the later does
-pub none_kept : {A : Type 0} (said : Cost → A) → ((v w : Cost) → said v ≡ said w → v ≡ w) → {k : ℕ} {x y : A} → KeepsPace said k x y → x ≡ said none
+pub none_kept : {A : Type 0} (said : Cost → A) → ((v w : Cost) → said v ≡ said w → v ≡ w) → (k : ℕ) {x y : A} → KeepsPace said k x y → x ≡ said none
     → y ≡ said none
-none_kept said told {k} pace e =
+none_kept said told k pace e =
     pace.3 ∙ ap said (none_falls k pace.0 pace.1 pace.4 (told pace.0 none (sym pace.2 ∙ e)))
 
 -- what is told by answers keeps pace as they do

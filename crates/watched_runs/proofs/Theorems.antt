@@ -33,10 +33,10 @@ use Rattle.watched_runs.proofs.Kept.{kept_now_shown, kept_never_jumps}
 module _ (t : Tables) (earlier later : Run) (a b : List ℕ) (never : NeverJumps t earlier later a b) where
   pub map_none_stays : (m : ℕ) → m < t.counts.maps → (x y : DistanceAnswer) → DistanceGiven t m a x → DistanceGiven t m b y → x ≡ distance.Nowhere
       → y ≡ distance.Nowhere
-  map_none_stays m l x y f g = none_kept distance_said distance_said_lem (never.map m l x y f g)
+  map_none_stays m l x y f g = none_kept distance_said distance_said_lem _ (never.map m l x y f g)
 
   pub none_stays : (x y : BoundAnswer) → BoundGiven t a x → BoundGiven t b y → x ≡ bounds.Nowhere → y ≡ bounds.Nowhere
-  none_stays x y f g = none_kept bound_said bound_said_lem (never.bound x y f g)
+  none_stays x y f g = none_kept bound_said bound_said_lem _ (never.bound x y f g)
 
 -- ---- of any accepted start and any offers
 
