@@ -4,7 +4,7 @@ use Prim.Native.Nat.{ℕ, ◌≤◌, ◌<◌}
 use mathlib.Core.Path.{◌≡◌, refl, ap, sym, ◌∙◌}
 use mathlib.Core.Bool.{Bool, true, false, ◌||◌, false≢true}
 use mathlib.Core.List.{List, [], ◌∷◌}
-use mathlib.Core.Logic.{⊎_elim}
+use mathlib.Core.Logic.{⊎_elim, inl, inr}
 use lib.Dec.{ltb}
 use lib.ListN.{length}
 use denote.Enum.Declared.{tag_of}
@@ -52,6 +52,11 @@ module _ (bytes words : List ℕ) where
 -- the answer is another than accepted
 abbrev pub NotAccepted : Answer → Type 0
 NotAccepted a = OneOf (1 ∷ 2 ∷ []) (tag_of A.the_type a)
+
+pub not_accepted : (a : Answer) → (a ≡ Accepted → ⊥) → NotAccepted a
+not_accepted Accepted h = absurd (h refl)
+not_accepted Repeated h = inl refl
+not_accepted (Refused f) h = inr refl
 
 -- then nothing moves
 kept : (a : Answer) (r : Run) (bytes words : List ℕ) → NotAccepted a → run_left (answer_word a) bytes words ≡ left_by a r bytes words
