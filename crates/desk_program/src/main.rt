@@ -1,10 +1,10 @@
 // The desk as a program: a task text on standard input; the bound of the initial state and each map's distance there on standard output, or the refusal.
 #![tactic(auto)]
 
-use console::{TASK_ROOM, say, say_none, say_refused};
+use console::{TASK_ROOM, read_full, say, say_none, say_refused};
 use desk::{bound, distance_at, read};
 use grammar::Reading;
-use io::read_full;
+use std::io;
 use tables::Counts;
 use tables::readers::{COSTS_ROOM, FACTS_ROOM, INIT_ROW, SHARES_ROOM, row_at};
 use views::{BoundAnswer, DistanceAnswer};
@@ -13,29 +13,29 @@ use views::{BoundAnswer, DistanceAnswer};
 const STATE_ROOM: usize = 8;
 
 // The line of the bound; whether there is more to say.
-fn say_bound(answer: BoundAnswer) -> bool {
+fn say_bound(rt: &impl Print, answer: BoundAnswer) -> io::Result<bool> {
     match answer {
         BoundAnswer::Of(b) => {
-            say(b"bound=", b);
-            true
+            say(rt, b"bound=", b)?;
+            Ok(true)
         }
         BoundAnswer::Nowhere => {
-            say_none(b"bound=");
-            true
+            say_none(rt, b"bound=")?;
+            Ok(true)
         }
         BoundAnswer::Refused(r) => {
-            say_refused(r);
-            false
+            say_refused(rt, r)?;
+            Ok(false)
         }
     }
 }
 
 // The line of a map's distance.
-fn say_map(answer: DistanceAnswer) {
+fn say_map(rt: &impl Print, answer: DistanceAnswer) -> io::Result<()> {
     match answer {
-        DistanceAnswer::Of(d) => say(b"map=", d as u64),
-        DistanceAnswer::Nowhere => say_none(b"map="),
-        DistanceAnswer::Refused(r) => say_refused(r),
+        DistanceAnswer::Of(d) => say(rt, b"map=", d as u64),
+        DistanceAnswer::Nowhere => say_none(rt, b"map="),
+        DistanceAnswer::Refused(r) => say_refused(rt, r),
     }
 }
 
@@ -51,28 +51,35 @@ fn init_of(facts: &[u8]) -> [u8; STATE_ROOM] {
 }
 
 // The bound of the initial state, then each map's distance there, in order.
-fn say_task(c: Counts, facts: &[u8], costs: &[u32], shares: &[u32]) {
+fn say_task(
+    rt: &impl Print,
+    c: Counts,
+    facts: &[u8],
+    costs: &[u32],
+    shares: &[u32],
+) -> io::Result<()> {
     let init = init_of(facts);
-    if !say_bound(bound(c, facts, costs, shares, &init)) {
-        return;
+    if !say_bound(rt, bound(c, facts, costs, shares, &init))? {
+        return Ok(());
     }
     let maps = c.maps;
     let mut m = 0;
     while m < maps {
-        say_map(distance_at(c, facts, costs, shares, m, &init));
+        say_map(rt, distance_at(c, facts, costs, shares, m, &init))?;
         m += 1;
     }
+    Ok(())
 }
 
-fn main() {
+fn main(rt: HostRuntime) -> io::Result<()> {
     let mut task = [0u8; TASK_ROOM];
-    let n = read_full(0, &mut task);
+    let n = read_full(&mut rt.stdin(), &mut task)?;
     let mut facts = [0u8; FACTS_ROOM];
     let mut costs = [0u32; COSTS_ROOM];
     let mut shares = [0u32; SHARES_ROOM];
     let answer = read(&task[..n], &mut facts, &mut costs, &mut shares);
     match answer {
-        Reading::Accepted(c) => say_task(c, &facts, &costs, &shares),
-        Reading::Refused(r) => say_refused(r),
+        Reading::Accepted(c) => say_task(&rt, c, &facts, &costs, &shares),
+        Reading::Refused(r) => say_refused(&rt, r),
     }
 }

@@ -2,28 +2,26 @@
 // at a quota that is too small, and at one that is just reached.
 #![tactic(auto)]
 
-use io::{print_decimal, write_all};
 use lent_rows::judge_first;
-use libc::STDOUT_FILENO;
 use records::OpRecord;
 use refusals::{number, place};
 use sequences::judging::Judged;
+use std::io;
 use tables::Counts;
 
 // A line: a name, '=' and a number.
-fn say(name: &[u8], x: u32) {
-    write_all(STDOUT_FILENO, name);
-    print_decimal(STDOUT_FILENO, x as u64);
-    write_all(STDOUT_FILENO, b"\n");
+fn say(rt: &impl Print, name: &[u8], x: u32) -> io::Result<()> {
+    rt.write_all(name)?;
+    rt.println(x)
 }
 
 // The lines of an answer.
-fn say_judged(answer: Judged) {
+fn say_judged(rt: &impl Print, answer: Judged) -> io::Result<()> {
     match answer {
-        Judged::Passed(cost) => say(b"passed=", cost),
+        Judged::Passed(cost) => say(rt, b"passed=", cost),
         Judged::Refused(r) => {
-            say(b"refused=", number(r));
-            say(b"place=", place(r));
+            say(rt, b"refused=", number(r))?;
+            say(rt, b"place=", place(r))
         }
     }
 }
@@ -86,7 +84,14 @@ fn row_of_a() -> [OpRecord; 80] {
 }
 
 // What is answered for a list of operators from the initial state, by the counts of case A in an edition, with a quota; the count of operators isn't read.
-fn say_in<'a>(edition: u32, quota: u32, facts: &'a [u8], shares: &'a [u32], ops: &'a [u32]) {
+fn say_in<'a>(
+    rt: &impl Print,
+    edition: u32,
+    quota: u32,
+    facts: &'a [u8],
+    shares: &'a [u32],
+    ops: &'a [u32],
+) -> io::Result<()> {
     let c = Counts {
         vars: 3,
         ops: 0,
@@ -95,37 +100,45 @@ fn say_in<'a>(edition: u32, quota: u32, facts: &'a [u8], shares: &'a [u32], ops:
         quota: quota,
     };
     let start = [0u8; 3];
-    say_judged(judge_first(c, facts, shares, row_of_a(), 4, &start, ops));
+    say_judged(
+        rt,
+        judge_first(c, facts, shares, row_of_a(), 4, &start, ops),
+    )
 }
 
 // The same in edition 1.
-fn say_list<'a>(facts: &'a [u8], shares: &'a [u32], ops: &'a [u32]) {
-    say_in(1, 0, facts, shares, ops);
+fn say_list<'a>(
+    rt: &impl Print,
+    facts: &'a [u8],
+    shares: &'a [u32],
+    ops: &'a [u32],
+) -> io::Result<()> {
+    say_in(rt, 1, 0, facts, shares, ops)
 }
 
 // A list with two storing steps in edition 2: beyond its quota, and at it.
-fn say_quotas() {
+fn say_quotas(rt: &impl Print) -> io::Result<()> {
     let facts = facts_of_a();
     let shares = shares_of_a();
     let whole = [0u32, 1, 2, 3];
-    say_in(2, 1, &facts, &shares, &whole);
-    say_in(2, 2, &facts, &shares, &whole);
+    say_in(rt, 2, 1, &facts, &shares, &whole)?;
+    say_in(rt, 2, 2, &facts, &shares, &whole)
 }
 
-fn main() {
+fn main(rt: HostRuntime) -> io::Result<()> {
     let facts = facts_of_a();
     let shares = shares_of_a();
     let whole = [0u32, 1, 2, 3];
-    say_list(&facts, &shares, &whole);
+    say_list(&rt, &facts, &shares, &whole)?;
     let early = [0u32, 2];
-    say_list(&facts, &shares, &early);
+    say_list(&rt, &facts, &shares, &early)?;
     let unknown = [0u32, 4];
-    say_list(&facts, &shares, &unknown);
+    say_list(&rt, &facts, &shares, &unknown)?;
     let one = [0u32];
-    say_list(&facts, &shares, &one);
-    say_list(&facts, &shares, &one[..0]);
+    say_list(&rt, &facts, &shares, &one)?;
+    say_list(&rt, &facts, &shares, &one[..0])?;
     // facts that lack a place
     let short = [0u8; 1623];
-    say_list(&short, &shares, &whole);
-    say_quotas();
+    say_list(&rt, &short, &shares, &whole)?;
+    say_quotas(&rt)
 }

@@ -5,6 +5,7 @@ use crate::held::{
     STATE, put, value, wide,
 };
 use crate::lines::Line;
+use std::io;
 
 // The name of an array.
 pub fn named(k: u32) -> Line {
@@ -39,8 +40,8 @@ fn placed(k: u32, i: usize) -> Line {
 }
 
 // A place with its value.
-pub fn say_place(k: u32, i: usize, x: u32) {
-    placed(k, i).number(x as u64).say()
+pub fn say_place(rt: &impl Print, k: u32, i: usize, x: u32) -> io::Result<()> {
+    placed(k, i).number(x as u64).say(rt)
 }
 
 // How many changed places are printed with their values.
@@ -76,77 +77,85 @@ impl Tally {
     }
 
     // A place of the copy: kept, and printed if it has changed.
-    fn kept(self, held: &mut [u32], k: u32, i: usize, x: u32) -> Tally {
+    fn kept(
+        self,
+        rt: &impl Print,
+        held: &mut [u32],
+        k: u32,
+        i: usize,
+        x: u32,
+    ) -> io::Result<Tally> {
         if value(held, k, i) == x {
-            return self.ended();
+            return self.ended(rt);
         }
         put(held, k, i, x);
-        self.changed(k, i, x)
+        self.changed(rt, k, i, x)
     }
 
     // One changed place more.
-    fn changed(mut self, k: u32, i: usize, x: u32) -> Tally {
+    fn changed(mut self, rt: &impl Print, k: u32, i: usize, x: u32) -> io::Result<Tally> {
         let seen = self.seen;
         self.seen = std::num::wrapping_add_u64(seen, 1);
         if seen < SHOWN {
-            return self.shown(k, i, x);
+            return self.shown(rt, k, i, x);
         }
         self.digest = digested(self.digest, i as u64, x);
-        self
+        Ok(self)
     }
 
     // A changed place that is printed: it begins a line or goes on with one, and ends it if the line is full or the place is the last of them.
-    fn shown(mut self, k: u32, i: usize, x: u32) -> Tally {
+    fn shown(mut self, rt: &impl Print, k: u32, i: usize, x: u32) -> io::Result<Tally> {
         let n = self.on_line;
         let line = if n == 0 { placed(k, i) } else { Line::empty() };
-        line.number(x as u64).write();
+        line.number(x as u64).write(rt)?;
         self.on_line = std::num::wrapping_add_u64(n, 1);
         if ON_A_LINE <= self.on_line {
-            return self.ended();
+            return self.ended(rt);
         }
         if SHOWN <= self.seen {
-            return self.ended();
+            return self.ended(rt);
         }
-        self
+        Ok(self)
     }
 
     // No line is left without its end.
-    fn ended(mut self) -> Tally {
+    fn ended(mut self, rt: &impl Print) -> io::Result<Tally> {
         if 0 < self.on_line {
-            Line::empty().say();
+            Line::empty().say(rt)?;
             self.on_line = 0;
         }
-        self
+        Ok(self)
     }
 
     // After the last place: the end of the line, and the line on the places that weren't printed, if there are any.
-    fn say_rest(self, k: u32) {
-        self.ended();
+    fn say_rest(self, rt: &impl Print, k: u32) -> io::Result<()> {
+        self.ended(rt)?;
         if SHOWN < self.seen {
             let line = named(k).word(b" more").number(self.seen - SHOWN);
-            line.number(self.digest).say()
+            line.number(self.digest).say(rt)?;
         }
+        Ok(())
     }
 }
 
 // Compares a copy of an array of bytes with what is held: prints what has changed, and keeps it.
-pub fn save_bytes(held: &mut [u32], k: u32, from: &[u8]) {
+pub fn save_bytes(rt: &impl Print, held: &mut [u32], k: u32, from: &[u8]) -> io::Result<()> {
     let mut tally = Tally::none();
     let mut i = 0;
     while i < from.len() {
-        tally = tally.kept(held, k, i, wide(from[i]));
+        tally = tally.kept(rt, held, k, i, wide(from[i]))?;
         i += 1;
     }
-    tally.say_rest(k)
+    tally.say_rest(rt, k)
 }
 
 // Compares a copy of an array of words with what is held: prints what has changed, and keeps it.
-pub fn save_words(held: &mut [u32], k: u32, from: &[u32]) {
+pub fn save_words(rt: &impl Print, held: &mut [u32], k: u32, from: &[u32]) -> io::Result<()> {
     let mut tally = Tally::none();
     let mut i = 0;
     while i < from.len() {
-        tally = tally.kept(held, k, i, from[i]);
+        tally = tally.kept(rt, held, k, i, from[i])?;
         i += 1;
     }
-    tally.say_rest(k)
+    tally.say_rest(rt, k)
 }

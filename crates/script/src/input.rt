@@ -1,8 +1,8 @@
 // Standard input by bytes, by lines and by raw texts, through a lent buffer that is filled again when it is used up.
 use crate::lines::Line;
 use crate::parts::put_byte;
-use io::count;
-use libc::STDIN_FILENO;
+use std::io;
+use std::io::Read;
 
 // Nothing says that an input ends, so whoever reads to the end takes at most so many turns.
 pub const TURNS: u64 = 4_000_000_000;
@@ -46,69 +46,74 @@ fn byte_at(buf: &[u8], at: usize, len: usize) -> Next {
 }
 
 // The next byte, for which the buffer is filled again if it is used up.
-pub fn next_byte(buf: &mut [u8], input: Input) -> Next {
+pub fn next_byte(from: &mut impl Read, buf: &mut [u8], input: Input) -> io::Result<Next> {
     let at = input.at;
     let len = input.len;
     if at < len {
-        return byte_at(buf, at, len);
+        return Ok(byte_at(buf, at, len));
     }
-    let got = libc::read(STDIN_FILENO, buf);
-    let n = count(got, buf);
+    let n = from.read(buf)?;
     if n == 0 {
-        return Next::End;
+        return Ok(Next::End);
     }
-    byte_at(buf, 0, n)
+    Ok(byte_at(buf, 0, n))
 }
 
 // The next line. A line that is too long is passed over to its end, and is known by its length.
-pub fn next_line(buf: &mut [u8], start: Input) -> Got {
+pub fn next_line(from: &mut impl Read, buf: &mut [u8], start: Input) -> io::Result<Got> {
     let mut input = start;
     let mut line = Line::empty();
     let mut turns = TURNS;
     while 0 < turns {
         turns -= 1;
-        let Next::Byte(b, after) = next_byte(buf, input) else {
+        let Next::Byte(b, after) = next_byte(from, buf, input)? else {
             break;
         };
         input = after;
         if b == b'\n' {
-            return Got {
+            return Ok(Got {
                 whole: true,
                 line,
                 input,
-            };
+            });
         }
         line = line.byte(b);
     }
-    Got {
+    Ok(Got {
         whole: false,
         line,
         input,
-    }
+    })
 }
 
 // The next n bytes into the lent text, as many of them as it has places for; then one byte is passed over.
-pub fn next_text(buf: &mut [u8], start: Input, text: &mut [u8], n: usize) -> Took {
+pub fn next_text(
+    from: &mut impl Read,
+    buf: &mut [u8],
+    start: Input,
+    text: &mut [u8],
+    n: usize,
+) -> io::Result<Took> {
     let mut input = start;
     let mut i = 0;
     while i < n {
-        let Next::Byte(b, after) = next_byte(buf, input) else {
-            return Took { len: i, input };
+        let Next::Byte(b, after) = next_byte(from, buf, input)? else {
+            return Ok(Took { len: i, input });
         };
         input = after;
         put_byte(text, i, b);
         i += 1;
     }
-    Took {
+    Ok(Took {
         len: i,
-        input: passed(buf, input),
-    }
+        input: passed(from, buf, input)?,
+    })
 }
 
 // Where the reading stands after one byte is passed over.
-fn passed(buf: &mut [u8], input: Input) -> Input {
-    match next_byte(buf, input) {
-        Next::Byte(_, after) => after,
-        Next::End => input,
+fn passed(from: &mut impl Read, buf: &mut [u8], input: Input) -> io::Result<Input> {
+    match next_byte(from, buf, input)? {
+        Next::Byte(_, after) => Ok(after),
+        Next::End => Ok(input),
     }
 }

@@ -1,7 +1,7 @@
 // A line of bytes, held by value: gathered from the script or from words and numbers, and written at once.
 use crate::parts::front_bytes;
-use io::{decimal, write_all};
-use libc::STDOUT_FILENO;
+use itoa::Buffer;
+use std::io;
 
 // The most bytes of a script's line, its line end not counted.
 pub const MOST: usize = 200;
@@ -52,30 +52,29 @@ impl Line {
 
     // A space and a number more.
     pub fn number(self, x: u64) -> Line {
-        let mut digits = [0u8; 20];
-        let n = decimal(x, &mut digits);
-        self.byte(b' ').word(&digits[..n])
+        let mut digits = Buffer::new();
+        self.byte(b' ').word(digits.format(x).as_bytes())
     }
 
     // Writes the line as it is.
-    pub fn write(self) {
+    pub fn write(self, rt: &impl Print) -> io::Result<()> {
         let bytes = self.bytes;
         let n = self.len;
-        write_all(STDOUT_FILENO, front_bytes(&bytes, n));
+        rt.write_all(front_bytes(&bytes, n))
     }
 
     // Writes the line with its line end.
-    pub fn say(self) {
-        self.byte(b'\n').write()
+    pub fn say(self, rt: &impl Print) -> io::Result<()> {
+        self.byte(b'\n').write(rt)
     }
 }
 
 // A line of one word.
-pub fn say(w: &[u8]) {
-    Line::empty().word(w).say()
+pub fn say(rt: &impl Print, w: &[u8]) -> io::Result<()> {
+    Line::empty().word(w).say(rt)
 }
 
 // A line of a word and a number.
-pub fn say_number(w: &[u8], x: u64) {
-    Line::empty().word(w).number(x).say()
+pub fn say_number(rt: &impl Print, w: &[u8], x: u64) -> io::Result<()> {
+    Line::empty().word(w).number(x).say(rt)
 }

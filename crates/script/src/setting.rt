@@ -6,6 +6,7 @@ use crate::held::{
     of_script, places, put, value,
 };
 use crate::lines::Line;
+use std::io;
 use tables::Counts;
 
 // What calls are lent before the first line: the room for the largest task, for the distances and best steps of a map, for a state, for a text, and for one in
@@ -158,13 +159,14 @@ pub fn counts_held(held: &[u32]) -> Counts {
 }
 
 // A place that is there is printed.
-fn show_place(held: &[u32], k: u32, i: usize) {
+fn show_place(rt: &impl Print, held: &[u32], k: u32, i: usize) -> io::Result<()> {
     if !of_script(k) {
-        return;
+        return Ok(());
     }
     if i < places(k) {
-        say_place(k, i, value(held, k, i))
+        say_place(rt, k, i, value(held, k, i))?;
     }
+    Ok(())
 }
 
 // The counts tell no more than variables, operators and maps: they are of edition 1, without a quota.
@@ -177,18 +179,18 @@ fn of_first(c: Counts) -> bool {
 }
 
 // A word and the counts; edition and quota only where there is something to tell.
-pub fn say_counts(held: &[u32], w: &[u8]) {
+pub fn say_counts(rt: &impl Print, held: &[u32], w: &[u8]) -> io::Result<()> {
     let c = counts_held(held);
     let line = Line::empty().word(w).number(c.vars as u64);
     let more = line.number(c.ops as u64).number(c.maps as u64);
     if of_first(c) {
-        return more.say();
+        return more.say(rt);
     }
-    more.number(c.edition as u64).number(c.quota as u64).say()
+    more.number(c.edition as u64).number(c.quota as u64).say(rt)
 }
 
 // One command that sets or shows.
-pub fn set_or_show(held: &mut [u32], command: Command) {
+pub fn set_or_show(rt: &impl Print, held: &mut [u32], command: Command) -> io::Result<()> {
     let a = command.value(0);
     let b = command.value(1);
     let letter = command.letter;
@@ -197,7 +199,8 @@ pub fn set_or_show(held: &mut [u32], command: Command) {
         b'l' => set_lent(held, a, b),
         b's' => set_some(held, command),
         b'e' => set_all(held, a, b),
-        b'p' => show_place(held, a, b as usize),
-        _ => say_counts(held, b"counts"),
+        b'p' => show_place(rt, held, a, b as usize)?,
+        _ => say_counts(rt, held, b"counts")?,
     }
+    Ok(())
 }

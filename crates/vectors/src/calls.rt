@@ -21,27 +21,34 @@ use script::held::{
 use script::lines::say;
 use script::parts::{front_bytes, front_words, least};
 use script::setting::{counts_held, say_counts, set_counts};
+use std::io;
 
 // The answer of a reading; the counts of an accepted text are kept.
-fn keep_reading(held: &mut [u32], answer: Reading) {
+fn keep_reading(rt: &impl Print, held: &mut [u32], answer: Reading) -> io::Result<()> {
     match answer {
         Reading::Accepted(c) => {
             set_counts(held, c);
-            say_counts(held, b"accepted")
+            say_counts(rt, held, b"accepted")
         }
-        Reading::Refused(r) => say_refused(r),
+        Reading::Refused(r) => say_refused(rt, r),
     }
 }
 
 // Something is said only where the text in pieces gets another answer.
-fn say_alike(alike: bool) {
+fn say_alike(rt: &impl Print, alike: bool) -> io::Result<()> {
     if !alike {
-        say(b"in pieces otherwise")
+        say(rt, b"in pieces otherwise")?;
     }
+    Ok(())
 }
 
 // `R`, `F` and `V`: reads a text into the tables.
-pub fn call_read(held: &mut [u32], text: &[u8], command: Command) {
+pub fn call_read(
+    rt: &impl Print,
+    held: &mut [u32],
+    text: &[u8],
+    command: Command,
+) -> io::Result<()> {
     let mut facts = [0u8; FACTS_PLACES];
     let mut costs = [0u32; COSTS_PLACES];
     let mut shares = [0u32; SHARES_PLACES];
@@ -61,36 +68,49 @@ pub fn call_read(held: &mut [u32], text: &[u8], command: Command) {
         &mut shares[..s],
     );
     let answer = told.reading;
-    keep_reading(held, answer);
-    say_alike(told.alike);
-    save_bytes(held, FACTS, &facts);
-    save_words(held, COSTS, &costs);
-    save_words(held, SHARES, &shares);
+    keep_reading(rt, held, answer)?;
+    say_alike(rt, told.alike)?;
+    save_bytes(rt, held, FACTS, &facts)?;
+    save_words(rt, held, COSTS, &costs)?;
+    save_words(rt, held, SHARES, &shares)
 }
 
 // `S`: begins a text that comes in pieces.
-pub fn call_begin_text(held: &mut [u32]) {
+pub fn call_begin_text(rt: &impl Print, held: &mut [u32]) -> io::Result<()> {
     begin_held(held);
-    say(b"begun")
+    say(rt, b"begun")
 }
 
 // `I`: takes a piece of it.
-pub fn call_take_piece(held: &mut [u32], text: &[u8], n: u32) {
-    say_taken(take_held(held, text, n))
+pub fn call_take_piece(rt: &impl Print, held: &mut [u32], text: &[u8], n: u32) -> io::Result<()> {
+    say_taken(rt, take_held(held, text, n))
 }
 
 // `T`: writes the text of the tables into the buffer.
-fn call_write(held: &mut [u32], facts: &[u8], costs: &[u32], shares: &[u32]) {
+fn call_write(
+    rt: &impl Print,
+    held: &mut [u32],
+    facts: &[u8],
+    costs: &[u32],
+    shares: &[u32],
+) -> io::Result<()> {
     let mut buffer = [0u8; BUFFER_PLACES];
     load_bytes(held, BUFFER, &mut buffer);
     let n = least(lent(held, BUFFER), BUFFER_PLACES);
     let c = counts_held(held);
-    say_written(write(c, facts, costs, shares, &mut buffer[..n]));
-    save_bytes(held, BUFFER, &buffer);
+    say_written(rt, write(c, facts, costs, shares, &mut buffer[..n]))?;
+    save_bytes(rt, held, BUFFER, &buffer)
 }
 
 // `D`: the distances and best steps of a map.
-fn call_distances(held: &mut [u32], facts: &[u8], costs: &[u32], shares: &[u32], map: u32) {
+fn call_distances(
+    rt: &impl Print,
+    held: &mut [u32],
+    facts: &[u8],
+    costs: &[u32],
+    shares: &[u32],
+    map: u32,
+) -> io::Result<()> {
     let mut out = [0u32; OUT_PLACES];
     let mut best = [0u8; BEST_PLACES];
     load_words(held, OUT, &mut out);
@@ -98,20 +118,37 @@ fn call_distances(held: &mut [u32], facts: &[u8], costs: &[u32], shares: &[u32],
     let n = least(lent(held, OUT), OUT_PLACES);
     let b = least(lent(held, BEST), BEST_PLACES);
     let c = counts_held(held);
-    say_distances(distances(c, facts, costs, shares, map, &mut out[..n], &mut best[..b]));
-    save_words(held, OUT, &out);
-    save_bytes(held, BEST, &best);
+    say_distances(
+        rt,
+        distances(c, facts, costs, shares, map, &mut out[..n], &mut best[..b]),
+    )?;
+    save_words(rt, held, OUT, &out)?;
+    save_bytes(rt, held, BEST, &best)
 }
 
 // `M`: the bound at the run's state now; the run isn't judged.
-fn call_bound_now(held: &[u32], facts: &[u8], costs: &[u32], shares: &[u32]) {
+fn call_bound_now(
+    rt: &impl Print,
+    held: &[u32],
+    facts: &[u8],
+    costs: &[u32],
+    shares: &[u32],
+) -> io::Result<()> {
     let mut now = [0u8; RUN_STATE];
     load_bytes(held, NOW, &mut now);
-    say_bound(bound(counts_held(held), facts, costs, shares, &now))
+    say_bound(rt, bound(counts_held(held), facts, costs, shares, &now))
 }
 
 // `J`, `C` and `P`: the lists of operators.
-fn call_lists(held: &[u32], facts: &[u8], costs: &[u32], shares: &[u32], state: &[u8], letter: u8) {
+fn call_lists(
+    rt: &impl Print,
+    held: &[u32],
+    facts: &[u8],
+    costs: &[u32],
+    shares: &[u32],
+    state: &[u8],
+    letter: u8,
+) -> io::Result<()> {
     let c = counts_held(held);
     let mut first = [0u32; LIST_PLACES];
     let mut second = [0u32; LIST_PLACES];
@@ -120,66 +157,83 @@ fn call_lists(held: &[u32], facts: &[u8], costs: &[u32], shares: &[u32], state: 
     let a = front_words(&first, lent(held, FIRST));
     let b = front_words(&second, lent(held, SECOND));
     if letter == b'J' {
-        return say_judged(judge(c, facts, costs, shares, state, a));
+        return say_judged(rt, judge(c, facts, costs, shares, state, a));
     }
     let answer = cheaper(c, facts, costs, shares, state, a, b);
     if letter == b'C' {
-        return say_cheaper(answer);
+        return say_cheaper(rt, answer);
     }
     say_opening(
+        rt,
         list_of(answer),
         opening(c, facts, costs, shares, state, a, b),
     )
 }
 
 // `G`: begins a run.
-fn call_begin(held: &mut [u32], facts: &[u8], costs: &[u32], shares: &[u32], state: &[u8]) {
+fn call_begin(
+    rt: &impl Print,
+    held: &mut [u32],
+    facts: &[u8],
+    costs: &[u32],
+    shares: &[u32],
+    state: &[u8],
+) -> io::Result<()> {
     let c = counts_held(held);
     let begun = begin(c, facts, costs, shares, state);
     let answer = begun.answer;
     let run = begun.run;
-    say_begun(answer);
-    keep_run(held, run)
+    say_begun(rt, answer)?;
+    keep_run(rt, held, run)
 }
 
 // `O`: offers a step to the run.
-fn call_offer(held: &mut [u32], facts: &[u8], costs: &[u32], shares: &[u32], number: u32, op: u32) {
+fn call_offer(
+    rt: &impl Print,
+    held: &mut [u32],
+    facts: &[u8],
+    costs: &[u32],
+    shares: &[u32],
+    number: u32,
+    op: u32,
+) -> io::Result<()> {
     let c = counts_held(held);
     let offered = offer(run_held(held), c, facts, costs, shares, number, OpNo(op));
     let answer = offered.answer;
     let run = offered.run;
-    say_offered(answer);
-    keep_run(held, run)
+    say_offered(rt, answer)?;
+    keep_run(rt, held, run)
 }
 
 // One call over tables and a state.
 fn call_over(
+    rt: &impl Print,
     held: &mut [u32],
     facts: &[u8],
     costs: &[u32],
     shares: &[u32],
     state: &[u8],
     command: Command,
-) {
+) -> io::Result<()> {
     let c = counts_held(held);
     let letter = command.letter;
     let a = command.value(0);
     match letter {
-        b'T' => call_write(held, facts, costs, shares),
-        b'K' => say_found(check(c, facts, costs, shares)),
-        b'D' => call_distances(held, facts, costs, shares, a),
-        b'A' => say_distance(distance_at(c, facts, costs, shares, a, state)),
-        b'N' => say_best(best_at(c, facts, costs, shares, a, state)),
-        b'B' => say_bound(bound(c, facts, costs, shares, state)),
-        b'M' => call_bound_now(held, facts, costs, shares),
-        b'G' => call_begin(held, facts, costs, shares, state),
-        b'O' => call_offer(held, facts, costs, shares, a, command.value(1)),
-        _ => call_lists(held, facts, costs, shares, state, letter),
+        b'T' => call_write(rt, held, facts, costs, shares),
+        b'K' => say_found(rt, check(c, facts, costs, shares)),
+        b'D' => call_distances(rt, held, facts, costs, shares, a),
+        b'A' => say_distance(rt, distance_at(c, facts, costs, shares, a, state)),
+        b'N' => say_best(rt, best_at(c, facts, costs, shares, a, state)),
+        b'B' => say_bound(rt, bound(c, facts, costs, shares, state)),
+        b'M' => call_bound_now(rt, held, facts, costs, shares),
+        b'G' => call_begin(rt, held, facts, costs, shares, state),
+        b'O' => call_offer(rt, held, facts, costs, shares, a, command.value(1)),
+        _ => call_lists(rt, held, facts, costs, shares, state, letter),
     }
 }
 
 // Every call but those that read a text: the tables and the state are lent as they are held.
-pub fn call(held: &mut [u32], command: Command) {
+pub fn call(rt: &impl Print, held: &mut [u32], command: Command) -> io::Result<()> {
     let mut facts = [0u8; FACTS_PLACES];
     let mut costs = [0u32; COSTS_PLACES];
     let mut shares = [0u32; SHARES_PLACES];
@@ -192,6 +246,7 @@ pub fn call(held: &mut [u32], command: Command) {
     let c = front_words(&costs, lent(held, COSTS));
     let s = front_words(&shares, lent(held, SHARES));
     call_over(
+        rt,
         held,
         f,
         c,

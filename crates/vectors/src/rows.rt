@@ -8,6 +8,7 @@ use script::held::{
 };
 use script::parts::{front_bytes, front_words, least};
 use script::setting::counts_held;
+use std::io;
 
 // The record of operator o, whose places begin at the given one.
 fn record_held(held: &[u32], o: usize, at: usize) -> OpRecord {
@@ -31,7 +32,7 @@ fn row_held(held: &[u32]) -> [OpRecord; ROW_RECORDS] {
 }
 
 // `W`: judges the first list by the row. Facts, shares and state are lent as they are held, the costs aren't.
-pub fn call_row(held: &[u32]) {
+pub fn call_row(rt: &impl Print, held: &[u32]) -> io::Result<()> {
     let mut facts = [0u8; FACTS_PLACES];
     let mut shares = [0u32; SHARES_PLACES];
     let mut state = [0u8; STATE_PLACES];
@@ -45,5 +46,8 @@ pub fn call_row(held: &[u32]) {
     let s = front_bytes(&state, lent(held, STATE));
     let ops = front_words(&first, lent(held, FIRST));
     let n = least(lent(held, RECORDS), ROW_RECORDS);
-    say_judged(judge_first(counts_held(held), f, h, row_held(held), n, s, ops))
+    say_judged(
+        rt,
+        judge_first(counts_held(held), f, h, row_held(held), n, s, ops),
+    )
 }

@@ -4,6 +4,7 @@ use script::changes::{save_bytes, save_words};
 use script::held::{
     COLUMN, COLUMNS, LEN, LOG, LOG_PLACES, NOW, RUN_STATE, START, load_bytes, load_words, value,
 };
+use std::io;
 
 // The run of the five arrays.
 pub fn run_held(held: &[u32]) -> Run {
@@ -25,15 +26,15 @@ pub fn run_held(held: &[u32]) -> Run {
 }
 
 // The run put back: what has changed is printed and kept.
-pub fn keep_run(held: &mut [u32], run: Run) {
+pub fn keep_run(rt: &impl Print, held: &mut [u32], run: Run) -> io::Result<()> {
     let start = run.start;
     let log = run.log;
     let len = [run.len];
     let now = run.now;
     let columns = run.columns;
-    save_bytes(held, START, &start);
-    save_words(held, LOG, &log);
-    save_words(held, LEN, &len);
-    save_bytes(held, NOW, &now);
-    save_words(held, COLUMN, &columns);
+    save_bytes(rt, held, START, &start)?;
+    save_words(rt, held, LOG, &log)?;
+    save_words(rt, held, LEN, &len)?;
+    save_bytes(rt, held, NOW, &now)?;
+    save_words(rt, held, COLUMN, &columns)
 }

@@ -2,6 +2,8 @@
 use script::held::{BUFFER, BUFFER_PLACES, TAKEN, TEXT, load_bytes, put, put_bytes, value};
 use script::input::{Input, next_text};
 use script::parts::{front_bytes, least};
+use std::io;
+use std::io::Read;
 
 // The most bytes of a text that are kept: as many as the buffer has places.
 pub const TEXT_BYTES: usize = BUFFER_PLACES;
@@ -14,10 +16,17 @@ fn set_length(held: &mut [u32], n: usize) {
 }
 
 // `t`: the bytes that follow are the text.
-pub fn take_text(held: &mut [u32], text: &mut [u8], buf: &mut [u8], input: Input, n: u32) -> Input {
-    let took = next_text(buf, input, text, n as usize);
+pub fn take_text(
+    from: &mut impl Read,
+    held: &mut [u32],
+    text: &mut [u8],
+    buf: &mut [u8],
+    input: Input,
+    n: u32,
+) -> io::Result<Input> {
+    let took = next_text(from, buf, input, text, n as usize)?;
     set_length(held, took.len);
-    took.input
+    Ok(took.input)
 }
 
 // `u`: the first bytes of the buffer are the text.
