@@ -7,7 +7,7 @@
  * desk_kind, desk_number and desk_is_refusal, which take an answer apart, and desk_run_steps, desk_run_op,
  * desk_run_paid, desk_run_unshared and desk_run_stored, which look into a run. bindings/test tries them.
  *
- * Link with libdesk_c.a, which `rt staticlib desk_c` writes to target/staticlib/; it is for x86-64 Linux. The
+ * Link with libdesk_c.a, which `rt lib` in crates/desk_c writes to crates/desk_c/out/; it is for x86-64 Linux. The
  * functions keep nothing between calls, allocate nothing and may be called from any thread.
  *
  * What is lent is a pointer and a length, counted in places (bytes or words) and not in bytes. The length is what is
