@@ -6,7 +6,7 @@ use Rattle.quick.specs.Inside.Runs.{scaled_of, Run, Nothing}
 use Rattle.quick.proofs.Running.{run_upto}
 use Rattle.quick.proofs.Working.{may_offer, Looked, looked_sizes, looked_run}
 use Rattle.quick.proofs.run.start.Goals as goal
-use Rattle.quick.proofs.run.start.Goals.{then-fits-a-eq0, else-fits-a-eq0}
+use Rattle.quick.proofs.run.start.Goals.{then-met, else-met}
 
 pub loop-a-init : goal.loop-a-init
 loop-a-init c = (omega arith, refl, refl, refl, λ G _ _ _ R. R)
@@ -26,12 +26,12 @@ offer-requires c =
 pub loop-a-preserved : goal.loop-a-preserved
 loop-a-preserved c =
     let l = c.loop-a in
-    let j = c.if-fits-a-eq0 in
+    let j = c.if-met in
     let test = c.loop-a-test.true in
     let looked : Looked (lane_at c.args.fits.now l.a goal_lane) l.a l.labels l.t l.best j.labels j.t j.best =
     elim j.branch [
-      | then-fits-a-eq0 w ↦ inl (w.if-fits-a-eq0.true, rw (w.labels-is, w.t-is, w.best-is) w.offer.ensures)
-      | else-fits-a-eq0 w ↦ inr (w.if-fits-a-eq0.false, w.labels-is, w.t-is, w.best-is)
+      | then-met w ↦ inl (w.if-met.true, rw (w.labels-is, w.t-is, w.best-is) w.offer.ensures)
+      | else-met w ↦ inr (w.if-met.false, w.labels-is, w.t-is, w.best-is)
     ] in
     let sizes = looked_sizes looked in (
       omega (arith, test),
