@@ -9,7 +9,7 @@ use native.Mathlib.Decide.{dec_lt}
 use native.Mathlib.Omega.{arith}
 use borrow.Author.Tests.{lt-ltb, le-ltb}
 use lib.ListN.{get_or}
-use Rattle.graph.specs.Cost.{Cost, none, fin}
+use Rattle.graph.specs.Cost.{Cost, fin}
 use Rattle.graph.specs.Graph.{to, Graph, Closed, Leads, total, IsDistance}
 use Rattle.graph.specs.Least.{least}
 use Rattle.graph.specs.Certificate.{scaled}

@@ -190,7 +190,8 @@ pub fn start(
 {
     let mut a = 0u32;
     while a < n {
-        if fits[a as usize * LANES + GOAL_LANE] == 0 {
+        let met = fits[a as usize * LANES + GOAL_LANE] == 0;
+        if met {
             offer(labels, t, best, a as usize, NO_OP, 0);
         }
         a += 1;

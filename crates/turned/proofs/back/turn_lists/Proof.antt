@@ -79,7 +79,7 @@ dropped : (c : tie.After-wide invariant-loop decreases-loop)
     (l.drop + c.wide.result * l.stride)
 dropped c =
     let i = at_drop c in
-    numbered_more i.before.loop-v.invariant.0 i.loop-v-test.taken
+    numbered_more i.before.loop-v.invariant.0 i.loop-v-test.true
     (c.wide.ensures.0 ∙ c.before.value_after.ensures ∙ ap (λ (e : ℕ). put e 0) (eff-is c.before.before))
     (dom-is c.before.before.before.before.before.before)
 
@@ -97,7 +97,7 @@ lifted : (c : tie.After-wide-in-loop-v invariant-loop decreases-loop)
 lifted c =
     let i = at-lift c in
     let eff = c.before.before.before.before in
-    numbered_more i.before.loop-v.invariant.1 i.loop-v-test.taken
+    numbered_more i.before.loop-v.invariant.1 i.loop-v-test.true
     (c.wide-in-loop-v.ensures.0 ∙ c.before.lift_of.ensures ∙ ap₂ lift_of (pre_is eff.before.before) (eff-is eff))
     (dom-is eff.before.before.before.before)
 
@@ -116,12 +116,12 @@ ways-is c =
 
 ready : (c : tie.After-ways_of-ways invariant-loop decreases-loop)
     → let l = (at-ways c).before.loop-v in
-    Ready (start (at-ways c)).args.at l.count c.ways_of-ways.result l.stride l.t-1
+    Ready (start (at-ways c)).args.at l.count c.ways_of-ways.result l.stride l.t
 ready c =
     let i = at-ways c in
     let s = start i in
     let l = i.before.loop-v in
-    spread_ready s.requires.0 s.requires.1 i.loop-v-test.taken (omega (arith, s.requires.2, length-set s.args.t.now s.args.at 0)) l.invariant.2 (ways-is c)
+    spread_ready s.requires.0 s.requires.1 i.loop-v-test.true (omega (arith, s.requires.2, length-set s.args.t.now s.args.at 0)) l.invariant.2 (ways-is c)
     l.invariant.0.stride_is
 
 loop-again : tie.Need-loop-v-preserved invariant-loop decreases-loop
@@ -132,7 +132,7 @@ loop-again c =
     let l = i.before.loop-v in (
       dropped w.before.before.before,
       lifted w.before,
-      listed_more (facts i) (op i) l.invariant.2 (λ u h. (start i).requires.0.values u (omega (arith, i.loop-v-test.taken))) (ways-is w) l.invariant.0.stride_is
+      listed_more (facts i) (op i) l.invariant.2 (λ u h. (start i).requires.0.values u (omega (arith, i.loop-v-test.true))) (ways-is w) l.invariant.0.stride_is
           s.spread.ensures,
     )
 
@@ -143,7 +143,7 @@ returns c =
     let l = c.before.loop-v in
     let e : l.v ≡ a.c.vars = omega (arith, l.invariant.0.low, c.loop-v-test.false) in (
       record { drop = numbered_all l.invariant.0 c.loop-v-test.false; lift = numbered_all l.invariant.1 c.loop-v-test.false },
-      subst (λ (n : ℕ). Listed a.facts.now a.o.0 a.at n l.count a.t-1.now l.t-1) e
+      subst (λ (n : ℕ). Listed a.facts.now a.o.0 a.at n l.count a.t.now l.t) e
           (listed_since a.facts.now a.o.0
           (listed_some a.facts.now a.o.0 l.invariant.2 (λ u h. s.requires.0.values u (omega (arith, l.invariant.0.low)))) l.invariant.2),
     )
@@ -178,7 +178,7 @@ turn_lists_spec =
     (λ c. omega (arith, (ready c.before.before.before.before).0.3))
     (λ c. omega (arith, (drop-small c.before.before.before.before.before.before.before).0))
     (λ c. search rules)
-    (λ c. omega (arith, (at-ways c.before.before.before.before).loop-v-test.taken))
+    (λ c. omega (arith, (at-ways c.before.before.before.before).loop-v-test.true))
     loop-again
-    (λ c. let a = c.before.before.before.before.args in c.before.loop-v.invariant.2.size ∙ length-set a.t-1.now a.at 0)
+    (λ c. let a = c.before.before.before.before.args in c.before.loop-v.invariant.2.size ∙ length-set a.t.now a.at 0)
     returns)

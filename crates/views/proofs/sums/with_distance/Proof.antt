@@ -6,16 +6,10 @@ use Rattle.views.proofs.Summing.{join_nothing, join_number}
 use Rattle.views.proofs.sums.with_distance.Statement.{statement}
 use Rattle.views.proofs.sums.with_distance.Tie as tie
 
-returns : tie.Need-returns-then-distance-eq-NO_COST
-returns c = (join_nothing (sum_said c.before.args.sum) c.before.args.distance c.if-distance-eq-NO_COST.true, omega arith)
-
-returns-2 : tie.Need-returns-else-distance-eq-NO_COST
-returns-2 c =
-    let a = c.before.before.args in
-    (join_number a.sum.all a.sum.total a.distance c.before.if-distance-eq-NO_COST.false, omega arith)
-
 pub with_distance_spec : {M : Type 1} → statement M
 with_distance_spec = tie.close (tie.spec
     (λ c. search rules)
-    returns
-    returns-2)
+    (λ c. (join_nothing (sum_said c.before.args.sum) c.before.args.distance (search rules), omega arith))
+    (λ c.
+    let a = c.before.before.args in
+    (join_number a.sum.all a.sum.total a.distance (search rules), omega arith)))
