@@ -9,7 +9,7 @@ use mathlib.Core.Path.{◌≡◌, ◌∙◌, sym, ap}
 use Rattle.text.specs.Inside.Area.{area_room}
 use Rattle.pieces.specs.declared.SoFar.{SoFar}
 use Rattle.pieces.specs.Pieces.{area_used}
-use Rattle.pieces.proofs.Answers.{used-blank, used-kept, short-area, piece_after_end}
+use Rattle.pieces.proofs.Answers.{used_blank, used_kept, short_area, piece_after_end}
 use Rattle.pieces.proofs.Lent.{part_cleared, piece_read}
 use Rattle.pieces.proofs.take_piece.Statement.{statement}
 use Rattle.pieces.proofs.take_piece.Lts.{then-unread, else-unread}
@@ -26,8 +26,8 @@ ready c =
     let w = c.args.area.now in
     let long = c.if-area-lt-AREA_LENT.false in
     elim c.if-unread.branch [
-      | then-unread x ↦ let p = part_cleared w _ _ (omega arith) x.area-is x.clear.ensures in (p.0 ∙ sym (used-blank s w (omega (arith, x.if-unread.true))), p.1, p.2)
-      | else-unread x ↦ (ap (take area_room) x.area-is ∙ sym (used-kept s w (λ e. omega (arith, x.if-unread.false))), ap (drop area_room) x.area-is, ap length x.area-is)
+      | then-unread x ↦ let p = part_cleared w _ _ (omega arith) x.area-is x.clear.ensures in (p.0 ∙ sym (used_blank s w (omega (arith, x.if-unread.true))), p.1, p.2)
+      | else-unread x ↦ (ap (take area_room) x.area-is ∙ sym (used_kept s w (λ e. omega (arith, x.if-unread.false))), ap (drop area_room) x.area-is, ap length x.area-is)
     ]
 
 room : (c : tie.Joined-unread) → area_room ≤ length c.if-unread.area
@@ -51,7 +51,7 @@ pub take_piece_spec : {M : Type 1} → statement M
 take_piece_spec =
     tie.close
     (tie.spec
-    (λ c. sym (short-area _ _ _ c.if-area-lt-AREA_LENT.true))
+    (λ c. sym (short_area _ _ _ c.if-area-lt-AREA_LENT.true))
     (λ c. sym (piece_after_end _ _ _ c.if-area-lt-AREA_LENT.false c.if-s.true))
     (λ c. search rules)
     (λ c. let h = c.if-area-lt-AREA_LENT.false in sym (length-take-le area_room c.args.area.now (omega arith)))
