@@ -109,7 +109,7 @@ calls_carried (piece {bytes = bytes} {text = text} {area = area} c p o x e) =
 calls_carried (other_area {bytes = bytes} {text = text} {area = area} c p u l x e) =
     let k = calls_carried c in
     subst (λ (y : PieceAfter). Carried bytes y.text area)
-    (sym (e ∙ takes text k.long u p ∙ ap (λ (y : PieceLeft). piece_told y text) (answers.short-area (so_far_in text) u p l))) k
+    (sym (e ∙ takes text k.long u p ∙ ap (λ (y : PieceLeft). piece_told y text) (answers.short_area (so_far_in text) u p l))) k
 calls_carried (short_end {bytes = bytes} {text = text} {area = area} c u counts f d s l x e) =
     let k = calls_carried c in
     subst (λ (t : List ℕ). Carried bytes t area) (sym (ap (λ (y : EndAfter). y.text) e ∙ end_kept text u counts f d s k.long l)) k
@@ -192,11 +192,11 @@ module _ (text area p : List ℕ) (x : PieceAfter) (said : x ≡ take_piece_hand
   area_alone : AreaAlone (piece_taken (so_far_in text) area p)
   area_alone =
       by_order (length area) area_lent
-      (λ l. subst AreaAlone (sym (answers.short-area (so_far_in text) area p l)) (λ h. refl))
+      (λ l. subst AreaAlone (sym (answers.short_area (so_far_in text) area p l)) (λ h. refl))
       (λ l.
       by_cases (so_far_in text).ended
       (λ e. subst AreaAlone (sym (answers.piece_after_end (so_far_in text) area p l e)) (λ h. refl))
-      (λ e. subst AreaAlone (sym (answers.piece-taken (so_far_in text) area p l e)) (λ h. let z : ⊥ = omega arith in absurd z)))
+      (λ e. subst AreaAlone (sym (answers.piece_taken_lem (so_far_in text) area p l e)) (λ h. let z : ⊥ = omega arith in absurd z)))
 
   pub piece_refused : 0 < x.word → (x.text ≡ text) × (x.area ≡ area)
   piece_refused =

@@ -20,7 +20,7 @@ use Rattle.ledger.specs.declared.Run.{Run}
 use Rattle.ledger.specs.declared.Answer.{Answer}
 use Rattle.ledger.specs.declared.Answer.TheVariants.{Accepted, Repeated, Refused}
 use Rattle.ledger.specs.Ledger.{can_run, within_quota, is_run, old_step, next_step, offer_judged, refused_or, answered, advanced, moved, offered}
-use Rattle.ledger.proofs.Answers.{next-cases, judged-next}
+use Rattle.ledger.proofs.Answers.{next_cases, judged_next}
 
 -- ---- answers told apart by a number
 
@@ -126,7 +126,7 @@ module _ (t : Tables) (r : Run) (number o : ℕ) where
   -- the other way
   pub next_late : (w : Answer) → AtNext w → w ≡ answered t r number o
   next_late w at =
-      judged-next t.counts t.facts r number o at.exists (λ z. omega (arith, at.next)) w (omega (arith, at.next)) (omega (arith, at.next))
+      judged_next t.counts t.facts r number o at.exists (λ z. omega (arith, at.next)) w (omega (arith, at.next)) (omega (arith, at.next))
       (sym at.answer)
       ∙ answered_judged at.clean at.run
 
@@ -145,7 +145,7 @@ module _ (t : Tables) (r : Run) (number o : ℕ) where
   accepted_had e =
       let at = late_next Accepted (λ h. omega arith) e in
       let tests =
-      next-cases t.counts t.facts r number o
+      next_cases t.counts t.facts r number o
       (λ x.
       x ≡ Accepted
       → (r.len < most_steps) × (can_run t.counts t.facts r.now o ≡ true) × (within_quota t.counts t.facts r.columns o ≡ true))

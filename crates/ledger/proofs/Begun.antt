@@ -17,7 +17,7 @@ use Rattle.tables.specs.Steps.{copied}
 use Rattle.scan.specs.declared.Found.TheVariants.{Clean}
 use Rattle.scan.specs.Scan.{input_fault}
 use Rattle.ledger.specs.Ledger.{at_start, fresh, starts_at, start_in, started, begun}
-use Rattle.ledger.proofs.Answers.{start-within, start-beyond}
+use Rattle.ledger.proofs.Answers.{start_within, start_beyond}
 use Rattle.ledger.proofs.Gains.{zeros_at}
 
 -- the start that is taken from a lent state
@@ -53,6 +53,6 @@ module _ (t : Tables) (s : List ℕ) (valid : Valid (task_of t)) where
           let x = state_of (start_of t s) v in
           by_order v t.counts.vars
           (λ l.
-          sym (start-within t.counts t.facts v x (dom_at t.facts v) l refl)
+          sym (start_within t.counts t.facts v x (dom_at t.facts v) l refl)
           ∙ lt-ltb x (dom_at t.facts v) (omega (arith, from_at v l, h v l)))
-          (λ l. sym (start-beyond t.counts t.facts v x l) ∙ eq-eqb x 0 (from_beyond v l))
+          (λ l. sym (start_beyond t.counts t.facts v x l) ∙ eq-eqb x 0 (from_beyond v l))

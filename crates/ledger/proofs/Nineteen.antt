@@ -21,7 +21,7 @@ use Rattle.ledger.specs.declared.Run.{Run}
 use Rattle.ledger.specs.declared.Answer.TheVariants.{Refused}
 use Rattle.ledger.specs.Ledger.{can_run, within_quota, next_step, offered}
 use Rattle.ledger.specs.History.{GivenByStartAndLog, Sized, stored_in, StoresBeyond}
-use Rattle.ledger.proofs.Answers.{can-may, within_is, next-cases, next-beyond}
+use Rattle.ledger.proofs.Answers.{can_may, within_is, next_cases, next_beyond}
 use Rattle.ledger.proofs.Accepted.{told, late_next, next_late}
 use Rattle.ledger.proofs.Sound.{run_exactly}
 use Rattle.ledger.proofs.Stored.{given_stores}
@@ -30,7 +30,7 @@ use Rattle.ledger.proofs.Stored.{given_stores}
 came : (t : Tables) (r : Run) (number o place : ℕ) → next_step t.counts t.facts r number o ≡ Refused (BeyondQuota place)
     → (r.len < most_steps) × (can_run t.counts t.facts r.now o ≡ true) × (within_quota t.counts t.facts r.columns o ≡ false) × (place ≡ number)
 came t r number o place =
-    next-cases t.counts t.facts r number o
+    next_cases t.counts t.facts r number o
     (λ x.
     x ≡ Refused (BeyondQuota place)
     → (r.len < most_steps) × (can_run t.counts t.facts r.now o ≡ true) × (within_quota t.counts t.facts r.columns o ≡ false) × (place ≡ number))
@@ -40,7 +40,7 @@ came t r number o place =
 -- an operator that exists can run exactly if it may
 can_runs : (t : Tables) (r : Run) (o : ℕ) → o < t.counts.ops → can_run t.counts t.facts r.now o ≡ true ↔ MayRun (sas_of t) o (state_of r.now)
 can_runs t r o exists =
-    let is = can-may t.counts t.facts r.now o (may_run t.counts t.facts r.now o) exists refl in (
+    let is = can_may t.counts t.facts r.now o (may_run t.counts t.facts r.now o) exists refl in (
       λ p. complies_true (sas_of t) ((sas_of t).pre o) (state_of r.now) (sym (may_run_is t r.now o) ∙ is ∙ p),
       λ h. sym is ∙ may_run_is t r.now o ∙ true_complies (sas_of t) ((sas_of t).pre o) (state_of r.now) h,
     )
@@ -82,7 +82,7 @@ module _ (t : Tables) (r : Run) (sized : Sized r) (number o : ℕ) where
           run = (run_exactly t h.0 r sized).1 h.1;
           exists = step.exists;
           next = step.next;
-          answer = sym (next-beyond t.counts t.facts r number o step.room can beyond);
+          answer = sym (next_beyond t.counts t.facts r number o step.room can beyond);
         }))),
   )
 

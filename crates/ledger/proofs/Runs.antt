@@ -24,7 +24,7 @@ use Rattle.ledger.specs.declared.replay.Tried.{Tried}
 use Rattle.ledger.specs.Ledger.{all_columns, booked, at_start, onward, standing, fresh, advanced, can_run, can_follow, replayed, given, start_in, zeros, same_at, same_to, alike, is_run}
 use Rattle.ledger.specs.History.{Sized}
 use Rattle.ledger.specs.Inside.Bounded.{Bounded}
-use Rattle.ledger.proofs.Answers.{follow-parts}
+use Rattle.ledger.proofs.Answers.{follow_parts}
 use Rattle.ledger.proofs.Gains.{booked_length, booked_most, start_bounded}
 use Rattle.meaning.proofs.Columns.{gain_small}
 
@@ -149,7 +149,7 @@ unfolding can_run
 can_exists c facts s o p = ltb-true o c.ops (and_left (ltb o c.ops) (may_run c facts s o) p)
 
 pub follow_exists : (c : Counts) (facts : List ℕ) (x : Standing) (o : ℕ) → can_follow c facts x o ≡ true → o < c.ops
-follow_exists c facts x o p = can_exists c facts x.now o (follow-parts c facts x o p).0
+follow_exists c facts x o p = can_exists c facts x.now o (follow_parts c facts x o p).0
 
 module _ (t : Tables) where
   pub replayed_yes : (x : Standing) (o : ℕ) (os : List ℕ) → can_follow t.counts t.facts x o ≡ true

@@ -20,7 +20,7 @@ use Rattle.ledger.specs.declared.Answer.{Answer}
 use Rattle.ledger.specs.declared.Answer.TheVariants.{Repeated, Refused}
 use Rattle.ledger.specs.Ledger.{is_run, old_step, next_step, offer_judged, answered, offered}
 use Rattle.ledger.specs.History.{GivenByStartAndLog, Sized}
-use Rattle.ledger.proofs.Answers.{next-cases}
+use Rattle.ledger.proofs.Answers.{next_cases}
 use Rattle.ledger.proofs.Accepted.{told, tables_other, answered_fault, answered_not_a_run, answered_judged}
 use Rattle.ledger.proofs.Sound.{given_told, run_exactly}
 use Rattle.ledger.proofs.Told.{offer_told}
@@ -42,7 +42,7 @@ module _ (t : Tables) (r : Run) (number o : ℕ) where
 
   next_other : Other (next_step t.counts t.facts r number o)
   next_other =
-      next-cases t.counts t.facts r number o Other (λ g e. omega arith) (λ l p e. omega arith) (λ l p q e. omega arith) (λ l p q e. omega arith)
+      next_cases t.counts t.facts r number o Other (λ g e. omega arith) (λ l p e. omega arith) (λ l p q e. omega arith) (λ l p q e. omega arith)
 
   judged_other : Other (offer_judged t.counts t.facts r number o)
   unfolding offer_judged

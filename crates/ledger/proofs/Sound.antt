@@ -25,7 +25,7 @@ use Rattle.ledger.specs.declared.replay.Standing.{Standing}
 use Rattle.ledger.specs.declared.replay.Tried.{Tried}
 use Rattle.ledger.specs.Ledger.{all_columns, at_start, standing, fresh, advanced, can_follow, replayed, given, starts_at, start_in, alike, is_run}
 use Rattle.ledger.specs.History.{may_follow, Tells, GivenByStartAndLog, Sized}
-use Rattle.ledger.proofs.Answers.{start-within, start-beyond}
+use Rattle.ledger.proofs.Answers.{start_within, start_beyond}
 use Rattle.ledger.proofs.Runs.{SamePlaces, Tested, advanced_stands, alike_parts, same_to_at, zeros_unused, replayed_yes, replayed_no, run_tested}
 use Rattle.ledger.proofs.Begun.{start_of, from_at, from_beyond, from_size}
 use Rattle.ledger.proofs.Sequences.{end_append}
@@ -149,7 +149,7 @@ module _ (t : Tables) (valid : Valid (task_of t)) (s : List ℕ) (wide : length 
   start_state : IsState (sas_of t) (state_of s)
   start_state v l =
       ltb-true (state_of s v) (dom_at t.facts v)
-      (start-within t.counts t.facts v (state_of s v) (dom_at t.facts v) l refl
+      (start_within t.counts t.facts v (state_of s v) (dom_at t.facts v) l refl
       ∙ place v (omega (arith, valid.vars.1)))
 
   start_from_self : start_of t s ≡ s
@@ -159,7 +159,7 @@ module _ (t : Tables) (valid : Valid (task_of t)) (s : List ℕ) (wide : length 
       by_order v t.counts.vars (from_at t s valid v)
       (λ l.
       from_beyond t s valid v l
-      ∙ sym (eqb-true (state_of s v) 0 (start-beyond t.counts t.facts v (state_of s v) l ∙ place v h))))
+      ∙ sym (eqb-true (state_of s v) 0 (start_beyond t.counts t.facts v (state_of s v) l ∙ place v h))))
 
 -- a run that passes has, at every place, what the run has that replaying its own log leads to
 replayed_places : {t : Tables} (r z : Run) → Sized r → Tested t r → Told t r.start (take r.len r.log) z → start_of t r.start ≡ r.start

@@ -33,7 +33,7 @@ use Rattle.ledger.specs.declared.Answer.TheVariants.{Accepted}
 use Rattle.ledger.specs.Ledger.{all_columns, at_start, onward, standing, fresh, advanced, can_run, within_quota, can_follow, replayed, given, start_in, is_run, answered, offered}
 use Rattle.ledger.specs.History.{Offer, may_follow, really_runs, Tells, Sized, stored_in, steps_in}
 use Rattle.ledger.proofs.Gains.{zeros_at, booked_at_lem}
-use Rattle.ledger.proofs.Answers.{within_is, follow-both, follow-quota, follow-parts, next-go}
+use Rattle.ledger.proofs.Answers.{within_is, follow_both, follow_quota, follow_parts, next_go}
 use Rattle.ledger.proofs.Begun.{start_of, from_at, from_beyond, from_size, from_inside}
 use Rattle.ledger.proofs.Runs.{three, advanced_stands, fresh_sized, advanced_sized, alike_refl, unused_zeros, replayed_yes, replayed_no, follow_exists}
 use Rattle.ledger.proofs.Sequences.{end_append, runs_append, paid_same}
@@ -121,7 +121,7 @@ module _ (t : Tables) (s : List ℕ) (clean : tables_fault t ≡ Clean) (state :
 
     pub follow_is : (o : ℕ) → can_follow t.counts t.facts (standing q) o ≡ may_follow (task_of t) (state_of s) done o
     unfolding may_follow
-    follow_is o = follow-both t.counts t.facts (standing q) o ∙ ap₂ ◌&&◌ (can_is o) (quota_is o)
+    follow_is o = follow_both t.counts t.facts (standing q) o ∙ ap₂ ◌&&◌ (can_is o) (quota_is o)
 
     -- ---- one step more
 
@@ -130,7 +130,7 @@ module _ (t : Tables) (s : List ℕ) (clean : tables_fault t ≡ Clean) (state :
       more = done ++ (o ∷ [])
 
       parts : (can_run t.counts t.facts q.now o ≡ true) × (within_quota t.counts t.facts q.columns o ≡ true)
-      parts = follow-parts t.counts t.facts (standing q) o can
+      parts = follow_parts t.counts t.facts (standing q) o can
 
       may : complies (sas_of t) ((sas_of t).pre o) reached ≡ true
       may = and_right (ltb o t.counts.ops) (complies (sas_of t) ((sas_of t).pre o) reached) (sym (can_is o) ∙ parts.0)
@@ -225,7 +225,7 @@ module _ (t : Tables) (s : List ℕ) (clean : tables_fault t ≡ Clean) (state :
 
       runs_accepted : Runs → answered t q x.number x.op ≡ Accepted
       runs_accepted p =
-          let parts = follow-parts t.counts t.facts (standing q) x.op (runs_follow p) in
+          let parts = follow_parts t.counts t.facts (standing q) x.op (runs_follow p) in
           let room : q.len < most_steps = omega (arith, runs_room p, told.tells.len) in
           sym
           (next_late t q x.number x.op Accepted
@@ -234,7 +234,7 @@ module _ (t : Tables) (s : List ℕ) (clean : tables_fault t ≡ Clean) (state :
             run = is_run_lem;
             exists = follow_exists t.counts t.facts (standing q) x.op (runs_follow p);
             next = omega (arith, eqb-true x.number (length done + 1) (runs_tests p).0, told.tells.len);
-            answer = sym (next-go t.counts t.facts q x.number x.op room parts.0 parts.1);
+            answer = sym (next_go t.counts t.facts q x.number x.op room parts.0 parts.1);
           }))
 
       accepted_runs : answered t q x.number x.op ≡ Accepted → Runs
@@ -243,7 +243,7 @@ module _ (t : Tables) (s : List ℕ) (clean : tables_fault t ≡ Clean) (state :
           let had = accepted_had t q x.number x.op e in
           let l = told.tells.len in
           rw (eq-eqb x.number (length done + 1) (omega arith), lt-ltb (length done) most_steps (omega arith))
-          (sym (follow_is x.op) ∙ sym (follow-quota t.counts t.facts (standing q) x.op true had.can (sym had.keeps)))
+          (sym (follow_is x.op) ∙ sym (follow_quota t.counts t.facts (standing q) x.op true had.can (sym had.keeps)))
 
       -- the run handed back tells the steps done, with this one if it was really run
       pub offer_told : Told t s (cond (really_runs (task_of t) (state_of s) done x) (done ++ (x.op ∷ [])) done)

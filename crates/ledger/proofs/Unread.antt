@@ -29,7 +29,7 @@ use Rattle.ledger.specs.declared.Answer.TheVariants.{Accepted, Repeated, Refused
 use Rattle.ledger.specs.Ledger.{all_columns, booked_at, booked, at_start, onward, standing, fresh, advanced, can_run, within_quota, can_follow, replayed, given, start_at, starts_at}
 use Rattle.ledger.specs.Ledger.{start_in, zeros, alike, is_run}
 use Rattle.ledger.specs.Ledger.{old_step, next_step, offer_judged, refused_or, answered, moved, offered, started, begun}
-use Rattle.ledger.proofs.Answers.{within_is, follow-both, next-full, next-not, next-beyond, next-go, next-cases}
+use Rattle.ledger.proofs.Answers.{within_is, follow_both, next_full, next_not, next_beyond, next_go, next_cases}
 use Rattle.ledger.proofs.Runs.{advanced_stands, can_exists, follow_exists}
 use Rattle.ledger.proofs.Accepted.{accepted_had}
 
@@ -62,9 +62,9 @@ module _ (t u : Tables) (E : SameTask (task_of t) (task_of u)) where
 
   follow_alike : (x : Standing) (o : ℕ) → can_follow t.counts t.facts x o ≡ can_follow u.counts u.facts x o
   follow_alike x o =
-      follow-both t.counts t.facts x o
+      follow_both t.counts t.facts x o
       ∙ and_alike _ _ _ _ (can_alike x.now o) (λ e. within_alike x.columns o (can_exists t.counts t.facts x.now o e))
-      ∙ sym (follow-both u.counts u.facts x o)
+      ∙ sym (follow_both u.counts u.facts x o)
 
   stepped_alike : (s : List ℕ) (o : ℕ) → o < t.counts.ops → stepped t.counts t.facts s o ≡ stepped u.counts u.facts s o
   unfolding stepped
@@ -119,10 +119,10 @@ module _ (t u : Tables) (E : SameTask (task_of t) (task_of u)) where
       let can = sym (can_alike r.now o) in
       let within : can_run t.counts t.facts r.now o ≡ true → _ =
       λ p. sym (within_alike r.columns o (can_exists t.counts t.facts r.now o p)) in
-      next-cases t.counts t.facts r number o (λ x. x ≡ next_step u.counts u.facts r number o) (next-full u.counts u.facts r number o)
-      (λ l p. next-not u.counts u.facts r number o l (can ∙ p))
-      (λ l p q. next-beyond u.counts u.facts r number o l (can ∙ p) (within p ∙ q))
-      (λ l p q. next-go u.counts u.facts r number o l (can ∙ p) (within p ∙ q))
+      next_cases t.counts t.facts r number o (λ x. x ≡ next_step u.counts u.facts r number o) (next_full u.counts u.facts r number o)
+      (λ l p. next_not u.counts u.facts r number o l (can ∙ p))
+      (λ l p q. next_beyond u.counts u.facts r number o l (can ∙ p) (within p ∙ q))
+      (λ l p q. next_go u.counts u.facts r number o l (can ∙ p) (within p ∙ q))
 
   judged_alike : (r : Run) (number o : ℕ) → offer_judged t.counts t.facts r number o ≡ offer_judged u.counts u.facts r number o
   unfolding offer_judged

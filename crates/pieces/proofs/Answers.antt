@@ -25,22 +25,22 @@ use Rattle.pieces.specs.declared.SoFar.{SoFar}
 use Rattle.pieces.specs.Pieces.{area_lent, so_far, bytes_with, area_used, piece_left, gone_on, piece_taken, end_left, ends_as, lent_short, read_so_far, text_ended}
 
 -- ---- numbers and places
-pub one-at-zero : (number_of TextTooLong ≡ 1) × (place_of TextTooLong ≡ 0)
-one-at-zero = (refl, refl)
+pub one_at_zero : (number_of TextTooLong ≡ 1) × (place_of TextTooLong ≡ 0)
+one_at_zero = (refl, refl)
 
-pub two-at-zero : (number_of (OffForm 0) ≡ 2) × (place_of (OffForm 0) ≡ 0)
-two-at-zero = (refl, refl)
+pub two_at_zero : (number_of (OffForm 0) ≡ 2) × (place_of (OffForm 0) ≡ 0)
+two_at_zero = (refl, refl)
 
-pub eight-at-zero : (number_of TableTooShort ≡ 8) × (place_of TableTooShort ≡ 0)
-eight-at-zero = (refl, refl)
+pub eight_at_zero : (number_of TableTooShort ≡ 8) × (place_of TableTooShort ≡ 0)
+eight_at_zero = (refl, refl)
 
 -- ---- A PIECE
 
 module _ (s : SoFar) (w p : List ℕ) where
   -- 8, before all else; text so far and area are as they were
-  pub short-area : length w < area_lent → piece_taken s w p ≡ piece_left s (Fault TableTooShort) w
+  pub short_area : length w < area_lent → piece_taken s w p ≡ piece_left s (Fault TableTooShort) w
   unfolding piece_taken
-  short-area h = rw (lt-ltb _ _ h)
+  short_area h = rw (lt-ltb _ _ h)
 
   module _ (long : area_lent ≤ length w) where
     -- 2 at place 0; text so far and area are as they were
@@ -48,29 +48,29 @@ module _ (s : SoFar) (w p : List ℕ) where
     unfolding piece_taken
     piece_after_end e = rw (le-ltb _ _ long, e)
 
-    pub piece-taken : s.ended ≡ false → piece_taken s w p ≡ gone_on s w (length p) (feed (mk s.at (area_used s w)) p)
+    pub piece_taken_lem : s.ended ≡ false → piece_taken s w p ≡ gone_on s w (length p) (feed (mk s.at (area_used s w)) p)
     unfolding piece_taken
-    piece-taken e = rw (le-ltb _ _ long, e)
+    piece_taken_lem e = rw (le-ltb _ _ long, e)
 
 -- what a piece is read in: before the first byte zeros, then the area's first bytes
 module _ (s : SoFar) (w : List ℕ) where
-  pub used-blank : s.bytes ≡ 0 → area_used s w ≡ replicate area_room 0
+  pub used_blank : s.bytes ≡ 0 → area_used s w ≡ replicate area_room 0
   unfolding area_used
-  used-blank e = rw (eq-eqb _ _ e)
+  used_blank e = rw (eq-eqb _ _ e)
 
-  pub used-kept : (s.bytes ≡ 0 → ⊥) → area_used s w ≡ take area_room w
+  pub used_kept : (s.bytes ≡ 0 → ⊥) → area_used s w ≡ take area_room w
   unfolding area_used
-  used-kept n = rw (ne_eqb _ _ n)
+  used_kept n = rw (ne_eqb _ _ n)
 
 -- AN EMPTY PIECE leaves the count of bytes, and after the first byte it changes nothing
-pub empty-count : (n : ℕ) → n ≤ most_bytes + 1 → bytes_with n 0 ≡ n
+pub empty_count : (n : ℕ) → n ≤ most_bytes + 1 → bytes_with n 0 ≡ n
 unfolding bytes_with
-empty-count n few = omega arith
+empty_count n few = omega arith
 
-pub empty-piece : (s : SoFar) (w : List ℕ) → area_lent ≤ length w → s.ended ≡ false → 0 < s.bytes → s.bytes ≤ most_bytes + 1 → piece_taken s w [] ≡ piece_left s Clean w
+pub empty_piece : (s : SoFar) (w : List ℕ) → area_lent ≤ length w → s.ended ≡ false → 0 < s.bytes → s.bytes ≤ most_bytes + 1 → piece_taken s w [] ≡ piece_left s Clean w
 unfolding feed
-empty-piece s w long e some few =
-    piece-taken s w [] long e ∙ rw (used-kept s w (λ q. omega arith), take-append-drop area_room w, empty-count s.bytes few, ← e)
+empty_piece s w long e some few =
+    piece_taken_lem s w [] long e ∙ rw (used_kept s w (λ q. omega arith), take-append-drop area_room w, empty_count s.bytes few, ← e)
 
 -- the bytes are counted up to one too many: what comes later counts as at once
 pub bytes_counted : (n k : ℕ) → bytes_with (min n (most_bytes + 1)) k ≡ min (n + k) (most_bytes + 1)
@@ -91,14 +91,14 @@ neither true b e = clash refl e
 neither false b e = (refl, e)
 
 module _ (w f c h : List ℕ) where
-  pub none-short : LongEnough w f c h → lent_short w f c h ≡ false
+  pub none_short : LongEnough w f c h → lent_short w f c h ≡ false
   unfolding lent_short
-  none-short l = rw (le-ltb _ _ l.area, le-ltb _ _ l.facts, le-ltb _ _ l.costs, le-ltb _ _ l.shares)
+  none_short l = rw (le-ltb _ _ l.area, le-ltb _ _ l.facts, le-ltb _ _ l.costs, le-ltb _ _ l.shares)
 
   -- each of the four is told
-  pub area-short : length w < area_lent → lent_short w f c h ≡ true
+  pub area_short : length w < area_lent → lent_short w f c h ≡ true
   unfolding lent_short
-  area-short l = rw (lt-ltb _ _ l)
+  area_short l = rw (lt-ltb _ _ l)
 
   pub facts_short : length f < facts_room → lent_short w f c h ≡ true
   unfolding lent_short
@@ -141,6 +141,6 @@ module _ (s : SoFar) (w f c h : List ℕ) where
   unfolding read_so_far
   too_long l = rw (lt-ltb _ _ l)
 
-  pub not-too-long : s.bytes ≤ most_bytes → read_so_far s w f c h ≡ machine_end (mk s.at (take area_room w)) f c h
+  pub not_too_long : s.bytes ≤ most_bytes → read_so_far s w f c h ≡ machine_end (mk s.at (take area_room w)) f c h
   unfolding read_so_far
-  not-too-long l = rw (le-ltb _ _ l)
+  not_too_long l = rw (le-ltb _ _ l)

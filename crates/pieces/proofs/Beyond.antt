@@ -17,7 +17,7 @@ use Rattle.text.specs.Inside.Control.{St, mk}
 use Rattle.text.specs.Inside.Steps.{feed}
 use Rattle.pieces.specs.declared.SoFar.{SoFar}
 use Rattle.pieces.specs.Pieces.{area_lent, so_far, bytes_with, area_used, PieceLeft, piece_left, gone_on, piece_taken, EndLeft, lent_short, read_so_far, text_ended}
-use Rattle.pieces.proofs.Answers.{used-blank, used-kept, short-area, piece_after_end, piece-taken}
+use Rattle.pieces.proofs.Answers.{used_blank, used_kept, short_area, piece_after_end, piece_taken_lem}
 use Rattle.pieces.proofs.Keeping.{feed_length}
 
 -- ---- a piece that is taken
@@ -27,8 +27,8 @@ by_zero n a b = by_order 0 n (λ l. b (λ e. omega arith)) (λ l. a (omega arith
 
 used_length : (s : SoFar) (w : List ℕ) → area_lent ≤ length w → length (area_used s w) ≡ area_room
 used_length s w l =
-    by_zero s.bytes (λ e. ap length (used-blank s w e) ∙ length-replicate {A = ℕ} area_room 0)
-    (λ n. ap length (used-kept s w n) ∙ length-take-le area_room w (omega arith))
+    by_zero s.bytes (λ e. ap length (used_blank s w e) ∙ length-replicate {A = ℕ} area_room 0)
+    (λ n. ap length (used_kept s w n) ∙ length-take-le area_room w (omega arith))
 
 -- the machine after it
 abbrev after : SoFar → List ℕ → List ℕ → St
@@ -39,11 +39,11 @@ module _ (s : SoFar) (w p : List ℕ) (long : area_lent ≤ length w) (going : s
   taken_room = feed_length (mk s.at (area_used s w)) p ∙ used_length s w long
 
   taken_beyond : drop area_room (piece_taken s w p).area ≡ drop area_room w
-  taken_beyond = ap (λ (x : PieceLeft). drop area_room x.area) (piece-taken s w p long going) ∙ drop_at (after s w p).area (drop area_room w) area_room taken_room
+  taken_beyond = ap (λ (x : PieceLeft). drop area_room x.area) (piece_taken_lem s w p long going) ∙ drop_at (after s w p).area (drop area_room w) area_room taken_room
 
   taken_length : length (piece_taken s w p).area ≡ length w
   taken_length =
-      ap (λ (x : PieceLeft). length x.area) (piece-taken s w p long going)
+      ap (λ (x : PieceLeft). length x.area) (piece_taken_lem s w p long going)
       ∙ length-append (after s w p).area (drop area_room w)
       ∙ (let r = taken_room in let d = length-drop area_room w in omega arith)
 
@@ -52,7 +52,7 @@ module _ (s : SoFar) (w p : List ℕ) (long : area_lent ≤ length w) (going : s
 module _ (s : SoFar) (w p : List ℕ) where
   kept : (P : List ℕ → Type 0) → P w → (area_lent ≤ length w → s.ended ≡ false → P (piece_taken s w p).area) → P (piece_taken s w p).area
   kept P here taken =
-      by_order (length w) area_lent (λ l. subst P (sym (ap (λ (x : PieceLeft). x.area) (short-area s w p l))) here) (λ l. split l s.ended refl)
+      by_order (length w) area_lent (λ l. subst P (sym (ap (λ (x : PieceLeft). x.area) (short_area s w p l))) here) (λ l. split l s.ended refl)
     where
       split : area_lent ≤ length w → (b : Bool) → s.ended ≡ b → P (piece_taken s w p).area
       split l true e = subst P (sym (ap (λ (x : PieceLeft). x.area) (piece_after_end s w p l e))) here
@@ -76,7 +76,7 @@ in_use x = piece_left x.text x.answer (take area_room x.area)
 taken_in_use : (s : SoFar) (w p : List ℕ) → area_lent ≤ length w → s.ended ≡ false
     → in_use (piece_taken s w p) ≡ piece_left (gone_on s w (length p) (after s w p)).text Clean (after s w p).area
 taken_in_use s w p long going =
-    ap in_use (piece-taken s w p long going)
+    ap in_use (piece_taken_lem s w p long going)
     ∙ ap (λ (u : List ℕ). piece_left (gone_on s w (length p) (after s w p)).text Clean u) (take_at (after s w p).area (drop area_room w) area_room (taken_room s w p long going))
 
 module _ (s : SoFar) (w v p : List ℕ) (long : area_lent ≤ length w) (as_long : area_lent ≤ length v) where
@@ -93,11 +93,11 @@ module _ (s : SoFar) (w v p : List ℕ) (long : area_lent ≤ length w) (as_long
       split true q =
           ap in_use (piece_after_end s w p long q) ∙ ap (λ (u : List ℕ). piece_left s (Fault (OffForm 0)) u) e ∙ sym (ap in_use (piece_after_end s v p as_long q))
       split false q =
-          same_used (by_zero s.bytes (λ z. used-blank s w z ∙ sym (used-blank s v z)) (λ n. used-kept s w n ∙ e ∙ sym (used-kept s v n))) q
+          same_used (by_zero s.bytes (λ z. used_blank s w z ∙ sym (used_blank s v z)) (λ n. used_kept s w n ∙ e ∙ sym (used_kept s v n))) q
 
   -- before the first byte, none of the area
   pub blank_unread : s.bytes ≡ 0 → s.ended ≡ false → (x y : PieceLeft) → x ≡ piece_taken s w p → y ≡ piece_taken s v p → in_use x ≡ in_use y
-  blank_unread e q x y a b = ap in_use a ∙ same_used (used-blank s w e ∙ sym (used-blank s v e)) q ∙ sym (ap in_use b)
+  blank_unread e q x y a b = ap in_use a ∙ same_used (used_blank s w e ∙ sym (used_blank s v e)) q ∙ sym (ap in_use b)
 
 -- the end reads no more of it
 pub beyond_unread_by_end : (s : SoFar) (w v f c h : List ℕ) → area_lent ≤ length w → area_lent ≤ length v → take area_room w ≡ take area_room v → (x y : EndLeft)

@@ -31,13 +31,13 @@ use Rattle.text.proofs.Filling.{filled_length, threes_length}
 use Rattle.text.specs.Inside.End.{refusal_of, over, last_fault, written, left_behind, settled_as, machine_end}
 use Rattle.pieces.specs.declared.SoFar.{SoFar}
 use Rattle.pieces.specs.Pieces.{area_lent, so_far, piece_left, piece_taken, EndLeft, end_left, ends_as, lent_short, read_so_far, text_ended}
-use Rattle.pieces.proofs.Answers.{LongEnough, long_enough, piece_after_end, short_end, second_end, end_read, too_long, not-too-long}
+use Rattle.pieces.proofs.Answers.{LongEnough, long_enough, piece_after_end, short_end, second_end, end_read, too_long, not_too_long}
 use Rattle.pieces.proofs.Keeping.{ended_length}
 
 -- ---- which reading answers, and which of the entry's tests decides
 module _ (s : SoFar) (w f c h : List ℕ) where
   read_by : (P : Outcome → Type 0) → P (leaves (Refused TextTooLong) f c h) → P (machine_end (mk s.at (take area_room w)) f c h) → P (read_so_far s w f c h)
-  read_by P a b = by_order most_bytes s.bytes (λ l. subst P (sym (too_long s w f c h l)) a) (λ l. subst P (sym (not-too-long s w f c h l)) b)
+  read_by P a b = by_order most_bytes s.bytes (λ l. subst P (sym (too_long s w f c h l)) a) (λ l. subst P (sym (not_too_long s w f c h l)) b)
 
   end_by : (P : EndLeft → Type 0) → (lent_short w f c h ≡ true → P (end_left s (Refused TableTooShort) f c h))
       → (lent_short w f c h ≡ false → s.ended ≡ true → P (end_left s (Refused (OffForm 0)) f c h))

@@ -22,7 +22,7 @@ use Rattle.text.specs.Inside.Steps.{feed}
 use Rattle.text.specs.Inside.End.{FilledTo, machine_end}
 use Rattle.text.proofs.Filling.{filled_none, fill_end}
 use Rattle.pieces.specs.declared.SoFar.{SoFar}
-use Rattle.pieces.proofs.Answers.{piece-taken, end_read, too_long, not-too-long}
+use Rattle.pieces.proofs.Answers.{piece_taken_lem, end_read, too_long, not_too_long}
 use Rattle.pieces.specs.Pieces.{area_lent, so_far, bytes_with, area_used, lent_short, PieceLeft, piece_left, piece_taken, end_left, ends_as, read_so_far, text_ended}
 
 -- where all but the shares are long enough, they decide
@@ -56,7 +56,7 @@ module _ (s : SoFar) (w p : List ℕ) where
       ap (λ (d : List ℕ). piece_left (so_far k n false) Clean (x ++ d)) beyond
       ∙ ap (λ (i : ℕ). gone_to i (mk k x)) count
       ∙ ap (λ (y : St). gone_to (bytes_with s.bytes (length p)) y) (fed ∙ ap (λ (v : List ℕ). feed (mk s.at v) p) used)
-      ∙ sym (piece-taken s w p h e)
+      ∙ sym (piece_taken_lem s w p h e)
 
 -- the end is answered, by the count or by the machine
 module _ (s : SoFar) (w f c h : List ℕ) (long : lent_short w f c h ≡ false) (going : s.ended ≡ false) where
@@ -68,4 +68,4 @@ module _ (s : SoFar) (w f c h : List ℕ) (long : lent_short w f c h ≡ false) 
 
   pub answered_by_machine : s.bytes ≤ most_bytes → (r : Reading) (f' c' h' : List ℕ) → leaves r f' c' h' ≡ machine_end (mk s.at (take area_room w)) f c h
       → end_left (so_far s.at s.bytes true) r f' c' h' ≡ text_ended s w f c h
-  answered_by_machine l r f' c' h' m = answered (leaves r f' c' h') (not-too-long s w f c h l ∙ sym m)
+  answered_by_machine l r f' c' h' m = answered (leaves r f' c' h') (not_too_long s w f c h l ∙ sym m)

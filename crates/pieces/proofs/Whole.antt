@@ -55,13 +55,13 @@ record Stands (text : List ℕ) (s : SoFar) (w : List ℕ) : Type 0 where
 
 begun_stands : (w : List ℕ) → area_lent ≤ length w → Stands [] begun_text w
 unfolding begun_text feed
-begun_stands w l = record { of_bytes = none; going = refl; long = l; bytes = refl; ctrl = refl; area = answers.used-blank begun_text w refl }
+begun_stands w l = record { of_bytes = none; going = refl; long = l; bytes = refl; ctrl = refl; area = answers.used_blank begun_text w refl }
 
 -- after the first byte it is what stands in the area
 used_area : (text : List ℕ) (s : SoFar) (w : List ℕ) → s.bytes ≡ min (length text) (most_bytes + 1) → take area_room w ≡ (read_to text).area → area_used s w ≡ (read_to text).area
 unfolding feed
-used_area [] s w e a = answers.used-blank s w (omega arith)
-used_area (b ∷ text) s w e a = answers.used-kept s w (λ q. omega arith) ∙ a
+used_area [] s w e a = answers.used_blank s w (omega arith)
+used_area (b ∷ text) s w e a = answers.used_kept s w (λ q. omega arith) ∙ a
 
 -- a piece more
 gone_on_stands : (text p : List ℕ) (s : SoFar) (w : List ℕ) → Bytes p → Stands text s w → (x : St) → x ≡ read_to (text ++ p)
@@ -88,7 +88,7 @@ module _ (text p : List ℕ) (s : SoFar) (w : List ℕ) (q : Bytes p) (g : Stand
   gone_on_lem = ap₂ (λ (c : Ctrl) (v : List ℕ). feed (mk c v) p) g.ctrl g.area ∙ feed_on (mk start (replicate area_room 0)) text p
 
   piece_goes_on : piece_taken s w p ≡ gone_on s w (length p) (feed (mk s.at (area_used s w)) p)
-  piece_goes_on = answers.piece-taken s w p g.long g.going
+  piece_goes_on = answers.piece_taken_lem s w p g.long g.going
 
   piece_stands : (t : SoFar) (a : Found) (v : List ℕ) → piece_left t a v ≡ piece_taken s w p → Stands (text ++ p) t v
   piece_stands t a v e =
@@ -99,9 +99,9 @@ calls_stand : {text w : List ℕ} {s : SoFar} → Calls text s w → Stands text
 calls_stand (begun w l) = begun_stands w l
 calls_stand (piece {text = text} {w = w} {v = v} {s = s} {t = t} k p o a e) = piece_stands text p s w (bytes_of p o) (calls_stand k) t a v e
 calls_stand (other_area {text = text} {w = w} {s = s} k p u v l a e) =
-    subst (λ (y : PieceLeft). Stands text y.text w) (sym (e ∙ answers.short-area s u p l)) (calls_stand k)
+    subst (λ (y : PieceLeft). Stands text y.text w) (sym (e ∙ answers.short_area s u p l)) (calls_stand k)
 calls_stand (part_of_area {text = text} {s = s} k p front u v back whole l a e) =
-    subst (λ (y : PieceLeft). Stands text y.text (front ++ y.area ++ back)) (sym (e ∙ answers.short-area s u p l))
+    subst (λ (y : PieceLeft). Stands text y.text (front ++ y.area ++ back)) (sym (e ∙ answers.short_area s u p l))
     (subst (λ (z : List ℕ). Stands text s z) whole (calls_stand k))
 calls_stand (short_end {text = text} {w = w} {s = s} k u f c h l x e) =
     subst (λ (y : EndLeft). Stands text y.text w) (sym (e ∙ answers.short_end s u f c h l)) (calls_stand k)
@@ -118,7 +118,7 @@ unfolding machine_read feed
 machine_read_lem [] s w f c h g =
     ap (λ (k : Ctrl). machine_end (mk k (take area_room w)) f c h) g.ctrl ∙ nothing_read (take area_room w) (replicate area_room 0) f c h
 machine_read_lem (b ∷ text) s w f c h g =
-    ap₂ (λ (k : Ctrl) (v : List ℕ). machine_end (mk k v) f c h) g.ctrl (sym (answers.used-kept s w (λ q. omega (arith, g.bytes))) ∙ g.area)
+    ap₂ (λ (k : Ctrl) (v : List ℕ). machine_end (mk k v) f c h) g.ctrl (sym (answers.used_kept s w (λ q. omega (arith, g.bytes))) ∙ g.area)
 
 -- the answer and the three tables that an end left
 abbrev pub answer_and_tables : EndLeft → Outcome
@@ -137,12 +137,12 @@ module _ (text : List ℕ) (s : SoFar) (w : List ℕ) (g : Stands text s w) (f c
     so_far_read =
         by_order most_bytes (length text)
         (λ l. answers.too_long s w f c h (omega (arith, g.bytes)) ∙ sym (text_long text f c h facts costs shares l))
-        (λ l. answers.not-too-long s w f c h (omega (arith, g.bytes)) ∙ machine_read_lem text s w f c h g ∙ whole_read l)
+        (λ l. answers.not_too_long s w f c h (omega (arith, g.bytes)) ∙ machine_read_lem text s w f c h g ∙ whole_read l)
 
     long_read : answer_and_tables (text_ended s w f c h) ≡ read_text text f c h
     long_read =
         ap answer_and_tables
-        (answers.end_read s w f c h (answers.none-short w f c h (record { area = g.long; facts = facts; costs = costs; shares = shares })) g.going)
+        (answers.end_read s w f c h (answers.none_short w f c h (record { area = g.long; facts = facts; costs = costs; shares = shares })) g.going)
         ∙ so_far_read
 
   end_stands : answer_and_tables (text_ended s w f c h) ≡ read_text text f c h
@@ -182,7 +182,7 @@ module _ {text w : List ℕ} {s : SoFar} (calls : Calls text s w) where
   -- every piece is taken, after a fault in the text too
   pub piece_clean : (p : List ℕ) (t : SoFar) (a : Found) (v : List ℕ) → piece_left t a v ≡ piece_taken s w p → a ≡ Clean
   piece_clean p t a v e =
-      let g = calls_stand calls in ap (λ (x : PieceLeft). x.answer) (e ∙ answers.piece-taken s w p g.long g.going)
+      let g = calls_stand calls in ap (λ (x : PieceLeft). x.answer) (e ∙ answers.piece_taken_lem s w p g.long g.going)
 
   -- the text hasn't ended, and its bytes are counted up to one too many
   pub not_ended : s.ended ≡ false
@@ -196,7 +196,7 @@ module _ {text w : List ℕ} {s : SoFar} (calls : Calls text s w) where
       → most_bytes < length text → answer_and_tables x ≡ leaves (Refused TextTooLong) f c h
   too_long_first f c h x e a b d l =
       let g = calls_stand calls in
-      let long = answers.none-short w f c h (record { area = g.long; facts = a; costs = b; shares = d }) in
+      let long = answers.none_short w f c h (record { area = g.long; facts = a; costs = b; shares = d }) in
       ap answer_and_tables (e ∙ answers.end_read s w f c h long g.going) ∙ answers.too_long s w f c h (omega (arith, g.bytes))
 
   -- THE END IS THAT OF THE WHOLE TEXT: answer, place and every table; for tables too short 8, as there

@@ -92,7 +92,8 @@ pub fn take_piece(s: SoFar, area: &mut [u8], piece: &[u8]) -> Taken
     }
     let bytes = s.bytes;
     let at = s.at;
-    if bytes == 0 {
+    let unread = bytes == 0;
+    if unread {
         clear(&mut area[..AREA_ROOM]);
     }
     let on = feed_piece(at, piece, &mut area[..AREA_ROOM]);

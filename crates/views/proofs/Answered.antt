@@ -20,7 +20,7 @@ use Rattle.views.specs.declared.BestAnswer.TheVariants as bests
 use Rattle.views.specs.declared.BoundAnswer.TheVariants as bounds
 use Rattle.views.specs.Entries.{no_such_map, asked_fault, distance_fault, ByFault, IsAway, IsBest, IsBound}
 use Rattle.views.specs.Entries.{distance_said, best_said, bound_said, DistanceGiven, BestGiven, BoundGiven}
-use Rattle.views.proofs.Answers.{away-is, away-only, bound-is, bound-only}
+use Rattle.views.proofs.Answers.{away_is, away_only, bound_is, bound_only}
 use Rattle.views.proofs.Judging.{by_clean, map_there, asked_clean, distance_clean, bound_clean}
 
 -- what no refusal can be was accepted
@@ -102,8 +102,8 @@ module _ (t : Tables) (s : List ℕ) where
   distance_answered m =
       let T = task_of t in
       its_own (distance_fault t m s) distance_said distance.Refused (IsAway T (state_of s) m) (away T (state_of s) m) distance_said_lem distance_no_refusal
-      (λ e. let c = distance_clean t m s e in away-is T c.0 m c.1 (state_of s) c.2)
-      (λ e v w. let c = distance_clean t m s e in away-only T c.0 m c.1 (state_of s) v w c.2)
+      (λ e. let c = distance_clean t m s e in away_is T c.0 m c.1 (state_of s) c.2)
+      (λ e v w. let c = distance_clean t m s e in away_only T c.0 m c.1 (state_of s) v w c.2)
 
   pub best_answered : (m : ℕ) (x : Advice) → BestGiven t m s (best_said x) ↔ ((distance_fault t m s ≡ Clean) × IsBest (task_of t) (state_of s) m x)
   best_answered m = answered (distance_fault t m s) best_said bests.Refused (IsBest (task_of t) (state_of s) m) best_said_lem best_no_refusal
@@ -112,5 +112,5 @@ module _ (t : Tables) (s : List ℕ) where
   bound_answered =
       let T = task_of t in
       its_own (input_fault t s) bound_said bounds.Refused (IsBound T (state_of s)) (bound T (state_of s)) bound_said_lem bound_no_refusal
-      (λ e. let c = bound_clean t s e in bound-is T c.0 (state_of s) c.1)
-      (λ e. let c = bound_clean t s e in bound-only T c.0 (state_of s) c.1)
+      (λ e. let c = bound_clean t s e in bound_is T c.0 (state_of s) c.1)
+      (λ e. let c = bound_clean t s e in bound_only T c.0 (state_of s) c.1)

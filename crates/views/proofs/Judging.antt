@@ -39,7 +39,7 @@ use Rattle.views.specs.Entries.{no_such_map, asked_fault, state_table, distances
 use Rattle.views.specs.Entries.{distance_said, best_said, bound_said, DistanceGiven, BestGiven, BoundGiven}
 use Rattle.sweep.proofs.Alike.{counted_alike}
 use Rattle.sweep.proofs.Viewing.{priced_alike, valid_unpriced}
-use Rattle.views.proofs.Answers.{counted-rounds, counted-distances, counted-best, image-inside, away-is, bound-is}
+use Rattle.views.proofs.Answers.{counted_rounds, counted_distances, counted_best, image_inside, away_is, bound_is}
 
 -- ---- one fault after the other
 
@@ -141,9 +141,9 @@ module _ (t : Tables) where
       by_clean (distances_fault t m out best) _ _ (distances_asked t m out best l k ∙ e) (
         r,
         refl,
-        counted-rounds (task_of t) asked.0 m asked.1 D,
-        counted-distances (task_of t) asked.0 m asked.1 D,
-        counted-best (task_of t) asked.0 m asked.1 D,
+        counted_rounds (task_of t) asked.0 m asked.1 D,
+        counted_distances (task_of t) asked.0 m asked.1 D,
+        counted_best (task_of t) asked.0 m asked.1 D,
       )
 
   pub given_distance : (m : ℕ) (s : List ℕ) (d : ℕ) {answer : DistanceAnswer} → distance_fault t m s ≡ Clean
@@ -151,7 +151,7 @@ module _ (t : Tables) where
   given_distance m s d e h a =
       let q = distance_clean t m s e in
       by_clean (distance_fault t m s) _ _ e
-      (away (task_of t) (state_of s) m, a ∙ ap distance_said h, away-is (task_of t) q.0 m q.1 (state_of s) q.2)
+      (away (task_of t) (state_of s) m, a ∙ ap distance_said h, away_is (task_of t) q.0 m q.1 (state_of s) q.2)
 
   pub given_best : (m : ℕ) (s : List ℕ) (x : Advice) {answer : BestAnswer} → distance_fault t m s ≡ Clean
       → IsBestStep (view_graph costless.sas (view costless m)) (α costless.sas (view costless m) (state_of s)) x → answer ≡ best_said x → BestGiven t m s answer
@@ -159,10 +159,10 @@ module _ (t : Tables) where
       let T = task_of t in
       let q = distance_clean t m s e in
       by_clean (distance_fault t m s) _ _ e
-      (x, a, (computed_best_exactly_induced T q.0 m q.1 (α T.sas (view T m) (state_of s)) x (image-inside T q.0 m q.1 (state_of s) q.2)).0 B)
+      (x, a, (computed_best_exactly_induced T q.0 m q.1 (α T.sas (view T m) (state_of s)) x (image_inside T q.0 m q.1 (state_of s) q.2)).0 B)
 
   pub given_bound : (s : List ℕ) {v : Cost} {answer : BoundAnswer} → input_fault t s ≡ Clean → v ≡ bound costless (state_of s)
       → answer ≡ bound_said v → BoundGiven t s answer
   given_bound s e h a =
       let q = bound_clean t s e in
-      by_clean (input_fault t s) _ _ e (bound (task_of t) (state_of s), a ∙ ap bound_said h, bound-is (task_of t) q.0 (state_of s) q.1)
+      by_clean (input_fault t s) _ _ e (bound (task_of t) (state_of s), a ∙ ap bound_said h, bound_is (task_of t) q.0 (state_of s) q.1)

@@ -36,7 +36,7 @@ use Rattle.sweep.proofs.Picking.{advised_none, advised_inj}
 use Rattle.views.specs.Entries.{distances_fault, distance_fault, ByFault, DistancesOf, BestStepsOf, RoundsOf, IsAway, IsBest, IsBound, DistancesGiven}
 use Rattle.views.specs.Entries.{distance_said, best_said, bound_said, DistanceGiven, BestGiven, BoundGiven}
 use Rattle.scan.specs.Scan.{input_fault}
-use Rattle.views.proofs.Answers.{image-inside, distances-only, best_only, away-is, away-only, best-is-only, bound-only}
+use Rattle.views.proofs.Answers.{image_inside, distances_only, best_only, away_is, away_only, best_is_only, bound_only}
 use Rattle.views.proofs.Judging.{by_clean, distances_clean, distance_clean, bound_clean}
 use Rattle.views.proofs.Answered.{by_told, input_asked, asked_input, distance_answered, best_answered, bound_answered}
 
@@ -72,23 +72,23 @@ distances_unique t m out best =
     (λ x y e p q.
     let c = distances_clean t m out best e in
     outcome (p.1 ∙ ap distances.Rounds (rounds_unique (task_of t) c.0 m c.1 p.0 q.0 p.2 q.2) ∙ sym q.1)
-    (distances-only (task_of t) c.0 m c.1 out x.table y.table p.3 q.3)
+    (distances_only (task_of t) c.0 m c.1 out x.table y.table p.3 q.3)
     (best_only (task_of t) c.0 m c.1 best x.best y.best p.4 q.4))
 
 pub distance_at_unique : (t : Tables) (m : ℕ) (s : List ℕ) (x y : DistanceAnswer) → DistanceGiven t m s x → DistanceGiven t m s y → x ≡ y
 distance_at_unique t m s =
     said_only (distance_fault t m s) distance_said distance.Refused (IsAway (task_of t) (state_of s) m)
-    (λ e v w. let c = distance_clean t m s e in away-only (task_of t) c.0 m c.1 (state_of s) v w c.2)
+    (λ e v w. let c = distance_clean t m s e in away_only (task_of t) c.0 m c.1 (state_of s) v w c.2)
 
 pub best_at_unique : (t : Tables) (m : ℕ) (s : List ℕ) (x y : BestAnswer) → BestGiven t m s x → BestGiven t m s y → x ≡ y
 best_at_unique t m s =
     said_only (distance_fault t m s) best_said bests.Refused (IsBest (task_of t) (state_of s) m)
-    (λ e v w. let c = distance_clean t m s e in best-is-only (task_of t) c.0 m c.1 (state_of s) v w c.2)
+    (λ e v w. let c = distance_clean t m s e in best_is_only (task_of t) c.0 m c.1 (state_of s) v w c.2)
 
 pub bound_unique : (t : Tables) (s : List ℕ) (x y : BoundAnswer) → BoundGiven t s x → BoundGiven t s y → x ≡ y
 bound_unique t s =
     said_only (input_fault t s) bound_said bounds.Refused (IsBound (task_of t) (state_of s))
-    (λ e. let c = bound_clean t s e in bound-only (task_of t) c.0 (state_of s) c.1)
+    (λ e. let c = bound_clean t s e in bound_only (task_of t) c.0 (state_of s) c.1)
 
 -- what is answered in one way alone is answered exactly so
 exactly : {A : Type 0} (P : A → Type 0) (y : A) → ((x : A) → P x → P y → x ≡ y) → P y → (x : A) → P x ↔ (x ≡ y)
@@ -133,7 +133,7 @@ module _ (t : Tables) (m : ℕ) (out best out' best' : List ℕ) (r : ℕ) (give
       let c = distance_clean t m s e in
       let a = α (sas_of t) (view (task_of t) m) (state_of s) in
       by_clean (distance_fault t m s) _ _ e
-      (said_at out' a, refl, rounds_given.2.distances a (omega (arith, image-inside (task_of t) c.0 m c.1 (state_of s) c.2)))
+      (said_at out' a, refl, rounds_given.2.distances a (omega (arith, image_inside (task_of t) c.0 m c.1 (state_of s) c.2)))
 
   pub distance_as_table : (s : List ℕ) → distance_fault t m s ≡ Clean
       → (x : DistanceAnswer) → DistanceGiven t m s x ↔ (x ≡ distance_said (said_at out' (α (sas_of t) (view (task_of t) m) (state_of s))))
@@ -146,7 +146,7 @@ module _ (t : Tables) (m : ℕ) (out best out' best' : List ℕ) (r : ℕ) (give
       let c = distance_clean t m s e in
       let a = α (sas_of t) (view (task_of t) m) (state_of s) in
       exactly (BestGiven t m s) (best_said (advised_at best' a)) (λ x. best_at_unique t m s x (best_said (advised_at best' a)))
-      ((best_answered t s m (advised_at best' a)).1 (e, rounds_given.3.steps a (image-inside (task_of t) c.0 m c.1 (state_of s) c.2)))
+      ((best_answered t s m (advised_at best' a)).1 (e, rounds_given.3.steps a (image_inside (task_of t) c.0 m c.1 (state_of s) c.2)))
 
   module _ (a : ℕ) (l : a < abstract_states (sas_of t) (view (task_of t) m)) where
     said_is : IsDistanceAt (sas_of t) (view (task_of t) m) a (said_at out' a)
@@ -193,8 +193,8 @@ module _ (t : Tables) (m : ℕ) (B : ℕ → Advice)
   following_answers_at s d given =
       let h = (distance_answered t s m (fin d)).0 given in
       let c = distance_clean t m s h.0 in
-      following_answers (α (sas_of t) (view (task_of t) m) (state_of s)) d (image-inside (task_of t) c.0 m c.1 (state_of s) c.2)
-      (subst (IsAway (task_of t) (state_of s) m) h.1 (away-is (task_of t) c.0 m c.1 (state_of s) c.2))
+      following_answers (α (sas_of t) (view (task_of t) m) (state_of s)) d (image_inside (task_of t) c.0 m c.1 (state_of s) c.2)
+      (subst (IsAway (task_of t) (state_of s) m) h.1 (away_is (task_of t) c.0 m c.1 (state_of s) c.2))
 
 -- DEMAND 3, over the answers of `bound` and `distance_at`
 module _ (t : Tables) (s : List ℕ) where

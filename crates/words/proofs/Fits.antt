@@ -19,7 +19,7 @@ use Rattle.views.specs.declared.BoundAnswer.{BoundAnswer}
 use Rattle.views.specs.declared.BoundAnswer.TheVariants as bounds
 use Rattle.views.specs.Entries.{ByFault, IsBound, bound_said, BoundGiven}
 use Rattle.scan.specs.Scan.{input_fault}
-use Rattle.views.proofs.Answers.{image-inside, bound-is, bound-only}
+use Rattle.views.proofs.Answers.{image_inside, bound_is, bound_only}
 use Rattle.views.proofs.Judging.{bound_clean}
 use Rattle.sequences.specs.declared.choosing.Choice.{Choice}
 use Rattle.sequences.specs.declared.choosing.Choice.TheVariants.{FirstPart, SecondPart, NoPart, Unread}
@@ -35,7 +35,7 @@ bound_most : (T : Task) → Valid T → (s : State) → IsState T.sas s → (b :
 bound_most T ok s h b e =
     let c = summed_number (away T s) T.maps b e in
     let each : (m : ℕ) → m < T.maps → c.0 m ≤ 4095000000 =
-    λ m l. distance_at_most T ok m l (α T.sas (view T m) s) (c.0 m) (image-inside T ok m l s h) (c.1 m l) in
+    λ m l. distance_at_most T ok m l (α T.sas (view T m) s) (c.0 m) (image_inside T ok m l s h) (c.1 m l) in
     subst (λ (x : ℕ). x ≤ T.maps * 4095000000) (sym c.2) (sum_most c.0 4095000000 T.maps each)
 
 said_fits : (v : Cost) (k : ℕ) → k ≤ 8 → ((b : ℕ) → v ≡ fin b → b ≤ k * 4095000000) → SumFits (bound_said v)
@@ -50,7 +50,7 @@ sum_fits t s a = at (input_fault t s) refl
     at Clean e p =
         let c = bound_clean t s e in
         let T = task_of t in
-        let b = bound-only T c.0 (state_of s) c.1 p.0 (bound T (state_of s)) p.2 (bound-is T c.0 (state_of s) c.1) in
+        let b = bound_only T c.0 (state_of s) c.1 p.0 (bound T (state_of s)) p.2 (bound_is T c.0 (state_of s) c.1) in
         rw (p.1, b) (said_fits (bound T (state_of s)) T.maps c.0.maps.1 (bound_most T c.0 (state_of s) c.1))
     at (Fault f) e p = rw p tt
 

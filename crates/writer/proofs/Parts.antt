@@ -58,6 +58,19 @@ digits_more_two v g =
 pub byte : {a b : ℕ} → a ≡ b → a ∷ [] ≡ b ∷ []
 byte e = ap (λ (x : ℕ). x ∷ []) e
 
+-- ---- a number, from its last digits
+
+pub number_alone : {p q : Pen} {v b : ℕ} → Writes p (b ∷ []) q → b ≡ 48 + v % 10 → v < 10 → Writes p (digits v) q
+number_alone {v = v} w e h = so (so w (byte e)) (digit_alone v h)
+
+pub number_two : {p q r : Pen} {v a b : ℕ} → Writes p (a ∷ []) q → a ≡ 48 + v / 10 % 10 → Writes q (b ∷ []) r → b ≡ 48 + v % 10 → 10 ≤ v → v < 100 → Writes p (digits v) r
+number_two {v = v} w e x f g h = so (after (so w (byte e)) (so x (byte f))) (digits_two v g h)
+
+pub number_more :
+    {p q r s : Pen} {v a b : ℕ} → Writes p (digits (v / 100)) q → Writes q (a ∷ []) r → a ≡ 48 + v / 10 % 10 → Writes r (b ∷ []) s → b ≡ 48 + v % 10 → 100 ≤ v
+    → Writes p (digits v) s
+number_more {v = v} u w e x f g = so (after (after u (so w (byte e))) (so x (byte f))) (digits_more_two v g)
+
 -- ---- a word
 
 pub word_turn : (s : List ℕ) (i : ℕ) → i < length s → drop i s ≡ get_or s i 0 ∷ [] ++ drop (i + 1) s

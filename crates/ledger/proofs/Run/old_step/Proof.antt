@@ -1,5 +1,5 @@
 -- `Run::old_step` meets its contract: the logged operator decides. Assumes nothing.
-use Rattle.ledger.proofs.Answers.{old_other, old-same}
+use Rattle.ledger.proofs.Answers.{old_other, old_same}
 use Rattle.meaning.specs.Limits.{most_steps}
 use borrow.Author.Rules.{rules}
 use native.Mathlib.Omega.{arith}
@@ -11,7 +11,7 @@ unfolding most_steps
 element-copy-out-if1 c = omega (arith, c.requires.2)
 
 returns : tie.Need-returns-then-self-at
-returns c = old-same _ _ _ c.if-self-at.true
+returns c = old_same _ _ _ c.if-self-at.true
 
 returns-2 : tie.Need-returns
 returns-2 c = old_other _ _ _ c.if-self-at.false

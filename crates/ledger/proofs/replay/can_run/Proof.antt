@@ -10,7 +10,7 @@ use Rattle.tables.specs.Layout.{place}
 use Rattle.tables.specs.Steps.{says_of, row_holds, may_run}
 use Rattle.tables.proofs.Laws.{every_more, every_end, every_false}
 use Rattle.ledger.specs.Ledger.{can_run}
-use Rattle.ledger.proofs.Answers.{can-may, can-no}
+use Rattle.ledger.proofs.Answers.{can_may, can_no}
 use Rattle.ledger.proofs.replay.can_run.Statement.{statement}
 use Rattle.ledger.proofs.replay.can_run.Tie as tie
 
@@ -46,7 +46,7 @@ decided : (x : tie.At-loop-v invariant-loop decreases-loop) {b : Bool} → every
 unfolding may_run row_holds
 decided x e =
     let a = (first x).args in
-    can-may a.c a.facts.now a.state.now a.op.0 _ (asked x).before.before.if-c-op.false
+    can_may a.c a.facts.now a.state.now a.op.0 _ (asked x).before.before.if-c-op.false
     (sym e ∙ ap (λ (row : ℕ). every (says_of a.facts.now row a.state.now) a.c.vars) (asked x).pre_row-row.ensures)
 
 -- ---- the needs
@@ -72,7 +72,7 @@ can_run_spec =
     (tie.spec
     invariant-loop
     decreases-loop
-    (λ c. can-no _ _ _ _ c.if-c-op.true)
+    (λ c. can_no _ _ _ _ c.if-c-op.true)
     (λ c. search rules)
     (λ c κs. omega (arith, c.before.if-c-op.false, c.before.before.before.before.before.requires.1))
     (λ c. search rules)

@@ -1,12 +1,12 @@
 -- `replay::within_quota` meets its contract: it is the test of a stored test, at their column. Assumes nothing.
 use borrow.Author.Rules.{rules}
 use mathlib.Core.Path.{◌∙◌, sym}
-use Rattle.ledger.proofs.Answers.{within-stored}
+use Rattle.ledger.proofs.Answers.{within_stored}
 use Rattle.ledger.proofs.replay.within_quota.Statement.{statement}
 use Rattle.ledger.proofs.replay.within_quota.Tie as tie
 
 returns : tie.Need-returns
-returns c = c.can_store.ensures ∙ sym (within-stored _ _ _ _)
+returns c = c.can_store.ensures ∙ sym (within_stored _ _ _ _)
 
 pub within_quota_spec : {M : Type 1} → statement M
 within_quota_spec = tie.close (tie.spec
