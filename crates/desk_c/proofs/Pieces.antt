@@ -140,7 +140,8 @@ module _ (text area counts f c s : List ℕ) (long : text_words ≤ length text)
   answers_as : counts_row ≤ length counts → end_text_handed text area counts f c s ≡ end_told (text_ended (so_far_in text) area f c s) text counts
   answers_as n =
       ends text long area counts f c s
-      ∙ ap (λ (b : Bool). cond b (end_after (read_left (refused_word TableTooShort) counts f c s) text) (end_told (text_ended (so_far_in text) area f c s) text counts)) (le-ltb (length counts) counts_row n)
+      ∙ ap (λ (b : Bool). cond b (end_after (read_left (refused_word TableTooShort) counts f c s) text) (end_told (text_ended (so_far_in text) area f c s) text counts))
+      (le-ltb (length counts) counts_row n)
 
 -- ---- AFTER THE END, whatever stands in the words besides: 2 at place 0, and nothing moves
 module _ (text : List ℕ) (long : text_words ≤ length text) (over : (so_far_in text).ended ≡ true) where

@@ -10,7 +10,25 @@ use Rattle.refusals.specs.declared.Refusal.TheVariants.{TableTooShort}
 use Rattle.meaning.specs.Split.{Task, Valid}
 use Rattle.scan.specs.declared.Found.{Found}
 use Rattle.scan.specs.declared.Found.TheVariants.{Clean, Fault}
-use Rattle.tables.specs.Layout.{Tables, facts_room, costs_room, shares_room, dom_place, init_place, goal_place, pre_place, eff_place, mark_place, dom_at, init_at, goal_at, pre_at, eff_at, class_at, mark_at}
+use Rattle.tables.specs.Layout.{
+  Tables,
+  facts_room,
+  costs_room,
+  shares_room,
+  dom_place,
+  init_place,
+  goal_place,
+  pre_place,
+  eff_place,
+  mark_place,
+  dom_at,
+  init_at,
+  goal_at,
+  pre_at,
+  eff_at,
+  class_at,
+  mark_at,
+}
 use Rattle.tables.specs.Editions.{read_in}
 use Rattle.tables.specs.Task.{task_of}
 use Rattle.scan.specs.Scan.{unless, task_fault, roomy, tables_fault}

@@ -179,7 +179,8 @@ amounts_told share m zero rest l T k = lit_told (dash ∷ []) (line_end ∷ rest
 amounts_told share m (suc n) rest l T k =
     row_told 0 (λ o U. most_cost + 1) (λ o x. put_share (share_place m o) x) share (λ o. leb (share o) most_cost) (λ U. Unit {0}) (suc n)
     (λ i U h p. tt) (λ i U h p. within_most (share i) most_cost) (suc n) 0 (omega arith) (line_end ∷ rest) (over_stop (line_ends rest)) l T tt k
-    ∙ ap (λ (U : Tables). judged (each (λ o. unless (leb (share o) most_cost) (OutOfRange l)) (suc n) 0) (k (line_end ∷ rest) l U)) (shares_changed (λ o x. set x (share_place m o) (share o)) (suc n) 0 T)
+    ∙ ap (λ (U : Tables). judged (each (λ o. unless (leb (share o) most_cost) (OutOfRange l)) (suc n) 0) (k (line_end ∷ rest) l U))
+    (shares_changed (λ o x. set x (share_place m o) (share o)) (suc n) 0 T)
 
 pub share_told : (τ : Task) (m : ℕ) (T : Tables) (rest : List ℕ)
     → ToldLine (text_line "share=" (amounts m τ.sas.ops)) (keyed "share=" (share_text (τ.share m) τ.sas.ops)) rest (line_of_shares τ.edition τ.sas.ops τ.maps m) T (shares_fault τ m)

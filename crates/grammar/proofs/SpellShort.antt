@@ -18,7 +18,25 @@ use Rattle.tables.specs.Lines.{quota_lines}
 use Rattle.tables.proofs.Editions.{lines_second, lines_first, lines_most}
 use Rattle.grammar.specs.Fields.{bytes_of, comma, slash, semicolon}
 use Rattle.meaning.specs.Limits.{most_cost}
-use Rattle.grammar.specs.Spelling.{last_digits, digits, gap, joined, numbers, fact, another_fact, more_facts, first_fact, some_facts, keyed, stacked, spelled_in, op_text, map_text, share_text, spelled}
+use Rattle.grammar.specs.Spelling.{
+  last_digits,
+  digits,
+  gap,
+  joined,
+  numbers,
+  fact,
+  another_fact,
+  more_facts,
+  first_fact,
+  some_facts,
+  keyed,
+  stacked,
+  spelled_in,
+  op_text,
+  map_text,
+  share_text,
+  spelled,
+}
 use Rattle.grammar.proofs.Editions.{spelled_either}
 use Rattle.grammar.proofs.Decimal.{few, many}
 

@@ -133,7 +133,11 @@ module _ (n : Counts) (w : List ℕ) (long : length w ≡ area_room) where
   pub cost_kept : (o v : ℕ) → o < costs_room → v < 16777216 → tables_of n (put_word w (cost_byte o) v) ≡ put_cost o v (tables_of n w)
   unfolding tables_of
   cost_kept o v h q =
-      simp (put3_take w (cost_byte o) v facts_room (omega arith), threes_set costs_room costs_byte w o v (cost_byte o) refl h (omega arith) q, put3_low w (cost_byte o) v shares_room shares_byte (omega arith))
+      simp (
+        put3_take w (cost_byte o) v facts_room (omega arith),
+        threes_set costs_room costs_byte w o v (cost_byte o) refl h (omega arith) q,
+        put3_low w (cost_byte o) v shares_room shares_byte (omega arith),
+      )
 
   pub share_kept : (i v : ℕ) → i < shares_room → v < 16777216 → tables_of n (put_word w (shares_byte + 3 * i) v) ≡ put_share i v (tables_of n w)
   unfolding tables_of

@@ -30,7 +30,24 @@ use Rattle.grammar.specs.Grammar.{
   share_lines,
 }
 use Rattle.text.specs.Inside.Area.{share_byte}
-use Rattle.text.specs.Inside.Control.{up, part_begun, due, opened, with_digit, dashed, to_line, row_or, next_line, part_number, part_after_dash, part_dash_due, field_maps, field_class, field_share, field_end}
+use Rattle.text.specs.Inside.Control.{
+  up,
+  part_begun,
+  due,
+  opened,
+  with_digit,
+  dashed,
+  to_line,
+  row_or,
+  next_line,
+  part_number,
+  part_after_dash,
+  part_dash_due,
+  field_maps,
+  field_class,
+  field_share,
+  field_end,
+}
 use Rattle.text.specs.Inside.Fields.{key_byte, with_count, limit, counts_with, seen_with, noted, stored, kind}
 use Rattle.text.specs.Inside.Steps.{mark_due, idle_here, list_end, after_share, after_number, live, byte_read}
 use Rattle.text.proofs.BridgeReading.{tables_of, reading, Bytes, bytes_drop, behind, sign_read, kw, spelled, key_ok}

@@ -31,7 +31,23 @@ use Rattle.sequences.specs.declared.choosing.Choice.TheVariants.{FirstPart, Seco
 use Rattle.sequences.specs.Choosing.{list_of, steps_of}
 use Rattle.ledger.specs.declared.Answer.{Answer}
 use Rattle.ledger.specs.declared.Answer.TheVariants as ledger
-use Rattle.words.specs.Words.{word, done, first, second, refused_word, found_word, written_word, distances_word, distance_word, best_word, bound_word, judged_word, cheaper_word, opening_word, answer_word}
+use Rattle.words.specs.Words.{
+  word,
+  done,
+  first,
+  second,
+  refused_word,
+  found_word,
+  written_word,
+  distances_word,
+  distance_word,
+  best_word,
+  bound_word,
+  judged_word,
+  cheaper_word,
+  opening_word,
+  answer_word,
+}
 
 -- ---- a word
 

@@ -73,10 +73,12 @@ stops : (x : tie.After-op_line-line Facts decreases-facts Ops decreases-ops Maps
     → let l = x.before.before in
     operator_fault (task l) l.loop-o.o ≡ Fault (r (line_of_op (task l).edition l.loop-o.o)) → Fault (r x.op_line-line.result) ≡ lines_fault (task l)
 stops x r h =
+    let l = x.before.before in
     ap (λ (n : ℕ). Fault (r n)) x.op_line-line.ensures
-    ∙ sym (operator_decides (task x.before.before) x.loop-o.o (r (line_of_op (task x.before.before).edition x.loop-o.o)) x.loop-o.invariant.1 x.loop-o-test.true h)
+    ∙ sym (operator_decides (task l) l.loop-o.o (r (line_of_op (task l).edition l.loop-o.o)) l.loop-o.invariant.1 x.loop-o-test.true h)
 
-cheap : (x : tie.Else-cost_at-gt-COST_MOST Facts decreases-facts Ops decreases-ops Maps decreases-maps Scan decreases-scan) → let l = x.before.before.before.before in (task l).sas.cost l.loop-o.o ≤ most_cost
+cheap : (x : tie.Else-cost_at-gt-COST_MOST Facts decreases-facts Ops decreases-ops Maps decreases-maps Scan decreases-scan)
+    → let l = x.before.before.before.before in (task l).sas.cost l.loop-o.o ≤ most_cost
 cheap x = omega (arith, x.cost_at.ensures, x.if-cost_at-gt-COST_MOST.false)
 
 -- its facts are in range
@@ -84,35 +86,41 @@ fitting : (x : tie.After-mark_of Facts decreases-facts Ops decreases-ops Maps de
     → let l = x.before.before.before.before.before.before.before in
     each (tests (fit l) (said (task l).edition l.loop-o.o)) (task l).sas.vars 0 ≡ Clean
 fitting x =
-    walk_end (tests (fit x.before.before.before.before.before.before.before) (said (task x.before.before.before.before.before.before.before).edition x.loop-o.o)) (task x.before.before.before.before.before.before.before).sas.vars x.loop-v.v x.loop-v.invariant.1 (omega arith) (omega arith)
+    let l = x.before.before.before.before.before.before.before in
+    walk_end (tests (fit l) (said (task l).edition l.loop-o.o)) (task l).sas.vars x.loop-v.v x.loop-v.invariant.1 (omega arith) (omega arith)
 
 ended : (x : tie.After-is_idle Facts decreases-facts Ops decreases-ops Maps decreases-maps Scan decreases-scan)
     → let l = x.before.before.before.before.before.before.before.before.before in
     operator_fault (task l) l.loop-o.o ≡ unless (not x.is_idle.result) (IdleOperator (line_of_op (task l).edition l.loop-o.o))
 ended x =
+    let k = x.before.before in
+    let l = k.before.before.before.before.before.before.before in
     let a = x.args in
-    idle_decides (task x.before.before.before.before.before.before.before.before.before) x.loop-o.o (cheap x.before.before.before.before.before) (fitting x.before.before) (omega (arith, x.mark_of.ensures, x.if-mark_of-gt-MARK_MOST.false))
-    (x.is_idle.ensures ∙ is_idle_is (tables a.c a.facts.now a.costs.now []) x.loop-o.o)
+    idle_decides (task l) l.loop-o.o (cheap k.before.before.before) (fitting k) (omega (arith, x.mark_of.ensures, x.if-mark_of-gt-MARK_MOST.false))
+    (x.is_idle.ensures ∙ is_idle_is (tables a.c a.facts.now a.costs.now []) l.loop-o.o)
 
 -- ---- after the operators: they are clean; after the count of maps: it is in range
 
-operators : (x : tie.After-loop-o Facts decreases-facts Ops decreases-ops Maps decreases-maps Scan decreases-scan) → let T = task x.before in each (operator_fault T) T.sas.ops 0 ≡ Clean
+operators : (x : tie.After-loop-o Facts decreases-facts Ops decreases-ops Maps decreases-maps Scan decreases-scan)
+    → let T = task x.before in each (operator_fault T) T.sas.ops 0 ≡ Clean
 operators x =
     walk_end (operator_fault (task x.before)) (task x.before).sas.ops x.loop-o.o x.loop-o.invariant.1 (omega arith) (omega arith)
 
-counted : (x : tie.Else-not-lies_within Facts decreases-facts Ops decreases-ops Maps decreases-maps Scan decreases-scan) → within 1 most_maps (task x.before.before.before).maps ≡ true
+counted : (x : tie.Else-not-lies_within Facts decreases-facts Ops decreases-ops Maps decreases-maps Scan decreases-scan)
+    → within 1 most_maps (task x.before.before.before).maps ≡ true
 counted x = sym x.lies_within.ensures ∙ x.if-not-lies_within.false
 
 -- ---- the needs
 
 loop2-again : tie.Need-loop-v-preserved Facts decreases-facts Ops decreases-ops Maps decreases-maps Scan decreases-scan
 loop2-again c =
-    let w = c.facts_fit in
-    (omega arith, tests_more (fit c.before.before.before.before.before.before.before.before) (said (task c.before.before.before.before.before.before.before.before).edition c.loop-o.o) c.loop-v.v c.loop-v.invariant.1 (sym w.ensures ∙ c.if-not-facts_fit.false))
+    let l = c.before.before.before.before.before.before.before.before in
+    (omega arith, tests_more (fit l) (said (task l).edition l.loop-o.o) c.loop-v.v c.loop-v.invariant.1 (sym c.facts_fit.ensures ∙ c.if-not-facts_fit.false))
 
 loop-again : tie.Need-loop-o-preserved Facts decreases-facts Ops decreases-ops Maps decreases-maps Scan decreases-scan
 loop-again c =
-    (omega arith, walk_more (operator_fault (task c.before.before.before.before.before.before.before.before.before.before)) c.loop-o.o c.loop-o.invariant.1 (ended c.before ∙ rw c.if-is_idle.false refl))
+    let l = c.before.before.before.before.before.before.before.before.before.before in
+    (omega arith, walk_more (operator_fault (task l)) l.loop-o.o l.loop-o.invariant.1 (ended c.before ∙ rw c.if-is_idle.false refl))
 
 map-fault-requires : tie.Need-map_fault-map-requires Facts decreases-facts Ops decreases-ops Maps decreases-maps Scan decreases-scan
 map-fault-requires c κs =
@@ -130,14 +138,17 @@ returns c =
 
 returns-2 : tie.Need-returns-then-not-facts_fit Facts decreases-facts Ops decreases-ops Maps decreases-maps Scan decreases-scan
 returns-2 c =
-    let w = c.facts_fit in
-    let no = sym w.ensures ∙ c.if-not-facts_fit.true in
-    let out = tests_here (fit c.before.before.before.before.before.before.before.before) (said (task c.before.before.before.before.before.before.before.before).edition c.loop-o.o) (task c.before.before.before.before.before.before.before.before).sas.vars c.loop-v.v c.loop-v.invariant.1 c.loop-v-test.true no in
-    stops c.before.before.before.before.before.before OutOfRange (fact_decides (task c.before.before.before.before.before.before.before.before) c.loop-o.o (cheap c.before.before.before.before) (said (task c.before.before.before.before.before.before.before.before).edition c.loop-o.o 0) out)
+    let l = c.before.before.before.before.before.before.before.before in
+    let no = sym c.facts_fit.ensures ∙ c.if-not-facts_fit.true in
+    let said_of = said (task l).edition l.loop-o.o in
+    let out = tests_here (fit l) said_of (task l).sas.vars c.loop-v.v c.loop-v.invariant.1 c.loop-v-test.true no in
+    stops c.before.before.before.before.before.before OutOfRange (fact_decides (task l) l.loop-o.o (cheap c.before.before.before.before) (said_of 0) out)
 
 returns-3 : tie.Need-returns-then-mark_of-gt-MARK_MOST Facts decreases-facts Ops decreases-ops Maps decreases-maps Scan decreases-scan
 returns-3 c =
-    stops c.before.before.before.before.before.before OutOfRange (mark_decides (task c.before.before.before.before.before.before.before.before) c.loop-o.o (cheap c.before.before.before.before) (fitting c.before) (omega (arith, c.mark_of.ensures, c.if-mark_of-gt-MARK_MOST.true)))
+    let l = c.before.before.before.before.before.before.before.before in
+    stops c.before.before.before.before.before.before OutOfRange
+    (mark_decides (task l) l.loop-o.o (cheap c.before.before.before.before) (fitting c.before) (omega (arith, c.mark_of.ensures, c.if-mark_of-gt-MARK_MOST.true)))
 
 returns-4 : tie.Need-returns-then-is_idle Facts decreases-facts Ops decreases-ops Maps decreases-maps Scan decreases-scan
 returns-4 c =

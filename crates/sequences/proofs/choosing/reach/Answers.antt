@@ -13,7 +13,8 @@ returns-then-meets_goal c =
 pub returns-in_default : goal.returns-in_default
 returns-in_default c =
     let t = tables c.args.c c.args.facts.now c.args.costs.now [] in
-    reached_refused (task_of t) c.loop-i.invariant (goal_said t c.loop-i.s c.meets_goal.ensures c.if-meets_goal.false) c.loop-i-test.true c.step-m.result c.step-m.ensures (not_ran c.step-m.result c.in_default.not-Ran)
+    reached_refused (task_of t) c.loop-i.invariant (goal_said t c.loop-i.s c.meets_goal.ensures c.if-meets_goal.false) c.loop-i-test.true c.step-m.result
+    c.step-m.ensures (not_ran c.step-m.result c.in_default.not-Ran)
 
 pub state_after-s-requires : goal.state_after-s-requires
 state_after-s-requires c =

@@ -17,7 +17,8 @@ returns-3 : tie.Need-returns-else-last_class
 unfolding after_class
 returns-3 c =
     let n = c.before.before in
-    simp (← n.before.before.before.last_class.ensures, n.before.before.if-last_class.false, ← n.one_more-else-last_class.ensures, ← c.before.await_number-n-else-last_class.ensures) c.expect-else-last_class.ensures
+    simp (← n.before.before.before.last_class.ensures, n.before.before.if-last_class.false, ← n.one_more-else-last_class.ensures, ← c.before.await_number-n-else-last_class.ensures)
+    c.expect-else-last_class.ensures
 
 pub after_class_spec : {M : Type 1} → statement M
 unfolding after_class

@@ -24,4 +24,10 @@ counts_with_spec =
     (λ c. at c.before.before.before.before.before.before.args.c c.if-f-eq-FIELD_QUOTA.true)
     (λ c.
     let x = c.before.before in
-    simp (ne_eqb _ _ x.before.before.if-f-eq-FIELD_VARS.false, ne_eqb _ _ x.before.if-f-eq-FIELD_OPS.false, ne_eqb _ _ x.if-f-eq-FIELD_MAPS.false, ne_eqb _ _ c.before.if-f-eq-FIELD_EDITION.false, ne_eqb _ _ c.if-f-eq-FIELD_QUOTA.false)))
+    simp (
+      ne_eqb _ _ x.before.before.if-f-eq-FIELD_VARS.false,
+      ne_eqb _ _ x.before.if-f-eq-FIELD_OPS.false,
+      ne_eqb _ _ x.if-f-eq-FIELD_MAPS.false,
+      ne_eqb _ _ c.before.if-f-eq-FIELD_EDITION.false,
+      ne_eqb _ _ c.if-f-eq-FIELD_QUOTA.false,
+    )))

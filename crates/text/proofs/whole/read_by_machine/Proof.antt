@@ -22,7 +22,12 @@ returns-4 : tie.Need-returns-then-text-gt-BYTES_MOST
 unfolding read_all admitted
 returns-4 c =
     let x = c.before in
-    simp (le-ltb _ _ x.before.before.if-facts-lt-FACTS_ROOM.false, le-ltb _ _ x.before.if-costs-lt-COSTS_ROOM.false, le-ltb _ _ x.if-shares-lt-SHARES_ROOM.false, lt-ltb _ _ c.if-text-gt-BYTES_MOST.true)
+    simp (
+      le-ltb _ _ x.before.before.if-facts-lt-FACTS_ROOM.false,
+      le-ltb _ _ x.before.if-costs-lt-COSTS_ROOM.false,
+      le-ltb _ _ x.if-shares-lt-SHARES_ROOM.false,
+      lt-ltb _ _ c.if-text-gt-BYTES_MOST.true,
+    )
 
 returns-5 : tie.Need-returns
 unfolding read_all admitted
@@ -30,7 +35,8 @@ returns-5 c =
     let run = c.before.before.before.before.before.before in
     let x = run.before.before.before.before in
     let y = x.before.before in
-    simp (le-ltb _ _ y.before.if-facts-lt-FACTS_ROOM.false, le-ltb _ _ y.if-costs-lt-COSTS_ROOM.false, le-ltb _ _ x.before.if-shares-lt-SHARES_ROOM.false, le-ltb _ _ x.if-text-gt-BYTES_MOST.false) run.run_machine.ensures
+    simp (le-ltb _ _ y.before.if-facts-lt-FACTS_ROOM.false, le-ltb _ _ y.if-costs-lt-COSTS_ROOM.false, le-ltb _ _ x.before.if-shares-lt-SHARES_ROOM.false, le-ltb _ _ x.if-text-gt-BYTES_MOST.false)
+    run.run_machine.ensures
 
 pub read_by_machine_spec : {M : Type 1} → statement M
 read_by_machine_spec =

@@ -7,7 +7,8 @@ use Rattle.writer.proofs.rows.put_facts.Given as goal
 
 abbrev pub invariant-loop-v : goal.invariant-loop-v
 invariant-loop-v l =
-    (l.v ≤ l.n) × (length l.out ≡ length l.initial.out) × Writes (pen l.next l.out) (facts_left l.some (row_at l.facts l.row) (l.n - l.v) l.v) (inked (pen l.initial.next l.initial.out) (some_facts (row_at l.facts l.row) l.n 0))
+    (l.v ≤ l.n) × (length l.out ≡ length l.initial.out) × Writes (pen l.next l.out) (facts_left l.some (row_at l.facts l.row) (l.n - l.v) l.v)
+    (inked (pen l.initial.next l.initial.out) (some_facts (row_at l.facts l.row) l.n 0))
 
 abbrev pub decreases-loop-v : goal.decreases-loop-v
 decreases-loop-v l = l.n - l.v
