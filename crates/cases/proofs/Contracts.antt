@@ -1,5 +1,6 @@
 -- What is computed of a task gives the claims of a case over any clean tables of the task: it meets the contract, and by the uniqueness theorems nothing
 -- else does. Assumes nothing.
+use Rattle.std.specs.Prelude.{Ok}
 use mathlib.Core.Path.{◌≡◌, refl, sym, ap, ◌∙◌, subst}
 use mathlib.Core.List.{List, [], ◌∷◌, ◌++◌, map}
 use Prim.Native.Nat.{ℕ, zero, suc, ◌≤◌, ◌<◌}
@@ -7,6 +8,7 @@ use native.Mathlib.Nat.{not-suc-le-zero, le_of_suc-le-suc}
 use native.Mathlib.Omega.{arith}
 use lib.ListN.{length, get_or, drop, length-map, get_or-append}
 use borrow.Author.Tests.{le-leb, lt-ltb}
+use Rattle.scan.specs.Found.{clean}
 use Rattle.graph.specs.Cost.{Cost}
 use Rattle.graph.specs.Best.{Advice}
 use Rattle.meaning.specs.Limits.{most_states}
@@ -19,11 +21,9 @@ use Rattle.meaning.proofs.Theorems.{distance_is_least}
 use Rattle.tables.specs.Layout.{Tables}
 use Rattle.tables.specs.Task.{sas_of, task_of, state_of}
 use Rattle.tables.specs.Steps.{copied}
-use Rattle.scan.specs.declared.Found.TheVariants.{Clean}
 use Rattle.scan.specs.Scan.{tables_fault, input_fault}
 use Rattle.scan.proofs.Validity.{clean_valid, state_clean}
 use Rattle.sweep.specs.Said.{said, advised}
-use Rattle.views.specs.declared.DistancesAnswer.TheVariants.{Rounds}
 use Rattle.views.specs.Entries.{asked_fault, distances_fault, distance_fault, DistancesOf, BestStepsOf, RoundsOf, IsBest}
 use Rattle.views.specs.Entries.{DistancesGiven, distance_said, DistanceGiven, best_said, BestGiven, bound_said, BoundGiven}
 use Rattle.views.proofs.Judging.{by_clean}
@@ -80,24 +80,24 @@ module _ {X : Type 0} (number : X → ℕ) (xs : List X) (out : List ℕ) (fits 
   entered_long : length (entered_in number xs out) ≡ length out
   entered_long = ap length same ∙ front_long (map number xs) out (omega (arith, as_many))
 
-module _ (t : Tables) (clean : tables_fault t ≡ Clean) where
+module _ (t : Tables) (sound : tables_fault t ≡ clean) where
   ok : Valid (task_of t)
-  ok = clean_valid t clean
+  ok = clean_valid t sound
 
   -- ---- nothing is at fault
-  inside_clean : (s : List ℕ) → Inside (task_of t) s → input_fault t s ≡ Clean
+  inside_clean : (s : List ℕ) → Inside (task_of t) s → input_fault t s ≡ clean
   unfolding input_fault
-  inside_clean s h = rw (clean, (state_clean t s).1 h) refl
+  inside_clean s h = rw (sound, (state_clean t s).1 h) refl
 
-  asked_clean : (m : ℕ) → m < t.counts.maps → asked_fault t m ≡ Clean
+  asked_clean : (m : ℕ) → m < t.counts.maps → asked_fault t m ≡ clean
   unfolding asked_fault
-  asked_clean m l = rw (clean, lt-ltb m t.counts.maps l) refl
+  asked_clean m l = rw (sound, lt-ltb m t.counts.maps l) refl
 
-  distances_clean : (m : ℕ) (out best : List ℕ) → m < t.counts.maps → most_states ≤ length out → most_states ≤ length best → distances_fault t m out best ≡ Clean
+  distances_clean : (m : ℕ) (out best : List ℕ) → m < t.counts.maps → most_states ≤ length out → most_states ≤ length best → distances_fault t m out best ≡ clean
   unfolding distances_fault
   distances_clean m out best l h g = rw (le-leb most_states (length out) h, le-leb most_states (length best) g, asked_clean m l) refl
 
-  distance_clean : (m : ℕ) (s : List ℕ) → m < t.counts.maps → Inside (task_of t) s → distance_fault t m s ≡ Clean
+  distance_clean : (m : ℕ) (s : List ℕ) → m < t.counts.maps → Inside (task_of t) s → distance_fault t m s ≡ clean
   unfolding distance_fault
   distance_clean m s l h = rw (asked_clean m l, (state_clean t s).1 h) refl
 
@@ -131,9 +131,9 @@ module _ (t : Tables) (clean : tables_fault t ≡ Clean) where
         }
 
     abbrev outcome : Outcome
-    outcome = record { answer = Rounds r; table = entered_in entered ds out; best = entered_in step_entered bs best }
+    outcome = record { answer = Ok r; table = entered_in entered ds out; best = entered_in step_entered bs best }
 
-    met : DistancesGiven t m out best (Rounds r) (entered_in entered ds out) (entered_in step_entered bs best)
+    met : DistancesGiven t m out best (Ok r) (entered_in entered ds out) (entered_in step_entered bs best)
     met = by_clean (distances_fault t m out best) _ _ (distances_clean m out best S.asked h g) (r, refl, S.rounds, entered_distances, entered_steps)
 
   pub distances_exactly : (m : ℕ) (ds : List Cost) (r : ℕ) (bs : List Advice) → Shows (task_of t) m ds r bs → ClaimHolds t (distances m ds r bs)
@@ -175,6 +175,6 @@ module _ (t : Tables) (clean : tables_fault t ≡ Clean) where
   unfolding judged_of
   judged_exactly s os x h e = rw (inside_clean s h) e
 
-  pub begun_is : (s : List ℕ) → Inside (task_of t) s → begun t s ≡ record { run = fresh (copied s t.counts.vars); answer = Accepted }
+  pub begun_is : (s : List ℕ) → Inside (task_of t) s → begun t s ≡ record { run = fresh (copied s t.counts.vars); answer = Ok Accepted }
   unfolding begun started
   begun_is s h = rw (inside_clean s h) refl

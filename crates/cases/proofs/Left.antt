@@ -1,5 +1,6 @@
 -- What a reading leaves in lent tables of enough room agrees with the tables of its text at every place: beyond them it is 0, and so is what is read beyond a
 -- table's end. So what is computed of the tables of the text gives the claims of the tables that are left. Assumes nothing.
+use Rattle.std.specs.Prelude.{Result, Err}
 use mathlib.Core.Path.{◌≡◌, refl, sym, ap, ◌∙◌, subst}
 use mathlib.Core.Logic.{◌↔◌}
 use mathlib.Core.List.{List, [], ◌∷◌}
@@ -9,6 +10,8 @@ use native.Mathlib.Omega.{arith}
 use lib.Dec.{leb}
 use lib.ListN.{length, get_or, replicate, length-append}
 use borrow.Author.Tests.{leb-true, le-leb}
+use Rattle.refusals.specs.declared.Refusal.{Refusal}
+use Rattle.scan.specs.Found.{clean}
 use Rattle.refusals.specs.declared.Refusal.TheVariants.{TableTooShort, NotARun}
 use Rattle.meaning.specs.Bound.{away, bound}
 use Rattle.meaning.proofs.Facts.{and_left, and_right}
@@ -17,7 +20,6 @@ use Rattle.tables.specs.Layout.{Tables, facts_room, costs_room, shares_room, dom
 use Rattle.tables.specs.Editions.{read_in}
 use Rattle.tables.specs.Task.{task_of, tables, state_of}
 use Rattle.tables.specs.Steps.{copied}
-use Rattle.scan.specs.declared.Found.TheVariants.{Clean}
 use Rattle.scan.specs.Scan.{unless, task_fault, roomy, tables_fault}
 use Rattle.scan.specs.Own.{OwnSame}
 use Rattle.scan.proofs.Walks.{clean_first, rule_held}
@@ -30,7 +32,6 @@ use Rattle.sequences.specs.Judging.{limited}
 use Rattle.sequences.proofs.Unread.{judged_alike}
 use Rattle.ledger.specs.declared.Run.{Run}
 use Rattle.ledger.specs.declared.Answer.{Answer}
-use Rattle.ledger.specs.declared.Answer.TheVariants.{Refused}
 use Rattle.ledger.specs.declared.Offered.{Offered}
 use Rattle.ledger.specs.Ledger.{fresh, is_run, offer_judged, answered, moved, offered}
 use Rattle.ledger.proofs.Unread.{offered_alike, begun_alike}
@@ -49,8 +50,8 @@ filled_long room xs lent h =
 -- ---- what is computed of the tables of a text, past their faults
 
 -- an offer past the tables' faults
-abbrev pub answered_past : Tables → Run → ℕ → ℕ → Answer
-answered_past t r number o = cond (is_run t r) (offer_judged t.counts t.facts r number o) (Refused NotARun)
+abbrev pub answered_past : Tables → Run → ℕ → ℕ → Result Answer Refusal
+answered_past t r number o = cond (is_run t r) (offer_judged t.counts t.facts r number o) (Err NotARun)
 
 abbrev pub offered_past : Tables → Run → ℕ → ℕ → Offered
 offered_past t r number o = record { run = moved t r o (answered_past t r number o); answer = answered_past t r number o }
@@ -76,7 +77,7 @@ Shown T (run s xs) = Inside (task_of T) s × SaysPast T (fresh (copied s T.count
 through : {P Q R : Type 0} → (P → Q) → (Q → P) → P ↔ R → Q ↔ R
 through to from e = (λ q. e.0 (from q), λ r. to (e.1 r))
 
-module _ (T : Tables) (f c s : List ℕ) (clean : tables_fault T ≡ Clean) where
+module _ (T : Tables) (f c s : List ℕ) (clean : tables_fault T ≡ clean) where
   abbrev U : Tables
   U = left_in T f c s
 

@@ -4,7 +4,7 @@ use mathlib.Core.Path.{◌≡◌, refl, sym, subst}
 use mathlib.Core.List.{List, [], ◌∷◌}
 use Prim.Native.Nat.{ℕ, suc, ◌≤◌}
 use lib.ListN.{length}
-use mathlib.Core.Bool.{true, false, false≢true}
+use mathlib.Core.Bool.{false, false≢true}
 use Rattle.tables.specs.Lines.{quota_lines}
 use Rattle.tables.specs.Steps.{row_holds, may_run, can_store, overwritten, stepped, copied}
 use Rattle.scan.specs.Scan.{each, split_fault}
@@ -66,7 +66,7 @@ use Rattle.sequences.specs.Stepping.{step_of}
 use Rattle.meaning.specs.Limits.{most_bytes, most_steps}
 use Rattle.sweep.specs.Said.{said, advised}
 use Rattle.sequences.specs.Judging.{walked, limited}
-use Rattle.ledger.specs.Ledger.{booked, at_start, onward, fresh, advanced, can_run, within_quota, can_follow, replayed, given, start_at, start_in, zeros, same_to, alike, is_run}
+use Rattle.ledger.specs.Ledger.{booked, at_start, onward, fresh, advanced, can_run, within_quota, can_follow, replayed, given, start_at, start_in, zeros, is_run}
 use Rattle.ledger.specs.Ledger.{old_step, next_step, offer_judged}
 use Rattle.meaning.specs.Columns.{rest, gain}
 use Rattle.meaning.specs.Quota.{may_store}
@@ -156,7 +156,7 @@ opened_steps = tt
 
 -- a run
 opened_run : Unit {0}
-unfolding rest gain booked at_start onward fresh advanced can_run within_quota can_follow replayed given start_at start_in zeros same_to alike is_run old_step next_step offer_judged
+unfolding rest gain booked at_start onward fresh advanced can_run within_quota can_follow replayed given start_at start_in zeros is_run old_step next_step offer_judged
 opened_run = tt
 
 pub cases_hold : (f c s : List ℕ) → facts_room ≤ length f → costs_room ≤ length c → shares_room ≤ length s → EachAt (λ i x. Right f c s x) 0 table

@@ -2,7 +2,9 @@
 -- Everything is claimed over the contracts of the public entries (crates/desk/src/lib.rt). A contract that is an equation gives one outcome, and the claim
 -- is of that outcome. The contracts of distances, best steps and bounds say what the numbers mean, so there the claim is that an outcome meets the contract
 -- exactly if it is the one of the case: that one meets it, and no other does.
-use Rattle.std.specs.Prelude.{◌≡◌, ◌↔◌, List, [], ◌∷◌, ◌++◌, map, ℕ, suc, ◌≤◌, length, drop}
+use Rattle.refusals.specs.declared.Refusal.{Refusal}
+use Rattle.grammar.specs.Readings.{Reading}
+use Rattle.std.specs.Prelude.{◌≡◌, ◌↔◌, List, [], ◌∷◌, ◌++◌, map, ℕ, suc, ◌≤◌, length, drop, Ok, Err, Result, Option}
 use Prim.Native.String.{String}
 use Rattle.graph.specs.Cost.{Cost, none, fin}
 use Rattle.graph.specs.Best.{Advice, halt, take}
@@ -12,23 +14,14 @@ use Rattle.meaning.specs.Views.{abstract_states}
 use Rattle.meaning.specs.Split.{view}
 use Rattle.tables.specs.Layout.{Tables}
 use Rattle.tables.specs.Task.{sas_of, task_of, tables}
-use Rattle.grammar.specs.declared.Reading.{Reading}
-use Rattle.grammar.specs.declared.Reading.TheVariants as reading
 use Rattle.grammar.specs.Fields.{Outcome, bytes_of}
 use Rattle.grammar.specs.Grammar.{read_text}
 use Rattle.sweep.specs.Said.{NONE, HALT}
-use Rattle.views.specs.declared.DistancesAnswer.{DistancesAnswer}
-use Rattle.views.specs.declared.DistancesAnswer.TheVariants.{Rounds}
-use Rattle.views.specs.declared.DistanceAnswer.{DistanceAnswer}
-use Rattle.views.specs.declared.BestAnswer.{BestAnswer}
-use Rattle.views.specs.declared.BoundAnswer.{BoundAnswer}
 use Rattle.views.specs.Entries.{DistancesGiven, distance_said, DistanceGiven, best_said, BestGiven, bound_said, BoundGiven}
-use Rattle.sequences.specs.declared.judging.Judged.{Judged}
-use Rattle.sequences.specs.declared.judging.Judged.TheVariants as judged
 use Rattle.sequences.specs.Judging.{judged_of}
 use Rattle.ledger.specs.declared.Run.{Run}
 use Rattle.ledger.specs.declared.Answer.{Answer}
-use Rattle.ledger.specs.declared.Answer.TheVariants as answer
+use Rattle.ledger.specs.declared.Answer.TheVariants.{Accepted, Repeated}
 use Rattle.ledger.specs.Ledger.{offered, begun}
 
 -- yes; yes at a cost; the same again; or no, with the number and the place of the paper's list
@@ -39,17 +32,17 @@ pub data Told : Type 0 where
   no! : ℕ → ℕ → Told
 
 abbrev pub of_text : Reading → Told
-of_text (reading.Accepted n) = yes!
-of_text (reading.Refused r) = no! (number_of r) (place_of r)
+of_text (Ok n) = yes!
+of_text (Err r) = no! (number_of r) (place_of r)
 
-abbrev pub of_sequence : Judged → Told
-of_sequence (judged.Passed c) = costs c
-of_sequence (judged.Refused r) = no! (number_of r) (place_of r)
+abbrev pub of_sequence : Result ℕ Refusal → Told
+of_sequence (Ok c) = costs c
+of_sequence (Err r) = no! (number_of r) (place_of r)
 
-abbrev pub of_offer : Answer → Told
-of_offer answer.Accepted = yes!
-of_offer answer.Repeated = again
-of_offer (answer.Refused r) = no! (number_of r) (place_of r)
+abbrev pub of_offer : Result Answer Refusal → Told
+of_offer (Ok Accepted) = yes!
+of_offer (Ok Repeated) = again
+of_offer (Err r) = no! (number_of r) (place_of r)
 
 -- an offer, what it is answered, and the columns then
 pub record Offering : Type 0 where
@@ -99,11 +92,11 @@ abbrev pub ClaimHolds : Tables → Claim → Type 0
 ClaimHolds t (distances m ds r bs) =
     (length ds ≡ abstract_states (sas_of t) (view (task_of t) m))
     × (length bs ≡ abstract_states (sas_of t) (view (task_of t) m))
-    × ((out best : List ℕ) → most_states ≤ length out → most_states ≤ length best → (answer : DistancesAnswer) (out' best' : List ℕ)
-    → DistancesGiven t m out best answer out' best' ↔ ((answer ≡ Rounds r) × (out' ≡ entered_in entered ds out) × (best' ≡ entered_in step_entered bs best)))
-ClaimHolds t (distance_at m s v) = (answer : DistanceAnswer) → DistanceGiven t m s answer ↔ (answer ≡ distance_said v)
-ClaimHolds t (best_at m s x) = (answer : BestAnswer) → BestGiven t m s answer ↔ (answer ≡ best_said x)
-ClaimHolds t (bound_at s v) = (answer : BoundAnswer) → BoundGiven t s answer ↔ (answer ≡ bound_said v)
+    × ((out best : List ℕ) → most_states ≤ length out → most_states ≤ length best → (answer : Result ℕ Refusal) (out' best' : List ℕ)
+    → DistancesGiven t m out best answer out' best' ↔ ((answer ≡ Ok r) × (out' ≡ entered_in entered ds out) × (best' ≡ entered_in step_entered bs best)))
+ClaimHolds t (distance_at m s v) = (answer : Result (Option ℕ) Refusal) → DistanceGiven t m s answer ↔ (answer ≡ distance_said v)
+ClaimHolds t (best_at m s x) = (answer : Result (Option ℕ) Refusal) → BestGiven t m s answer ↔ (answer ≡ best_said x)
+ClaimHolds t (bound_at s v) = (answer : Result (Option ℕ) Refusal) → BoundGiven t s answer ↔ (answer ≡ bound_said v)
 ClaimHolds t (judging s os x) = of_sequence (judged_of t s os) ≡ x
 ClaimHolds t (run s xs) = (of_offer (begun t s).answer ≡ yes!) × SaysThat t (begun t s).run xs
 
@@ -115,8 +108,8 @@ pub record Case : Type 0 where
 
 -- claims are made of what an accepted text leaves: its counts and the three lent tables
 abbrev pub AllHold : Reading → List ℕ → List ℕ → List ℕ → List Claim → Type 0
-AllHold (reading.Accepted n) f c s cs = EachAt (λ i x. ClaimHolds (tables n f c s) x) 0 cs
-AllHold (reading.Refused r) f c s cs = cs ≡ []
+AllHold (Ok n) f c s cs = EachAt (λ i x. ClaimHolds (tables n f c s) x) 0 cs
+AllHold (Err r) f c s cs = cs ≡ []
 
 -- the case is right of an outcome of the reader
 pub record RightOf (x : Case) (o : Outcome) : Type 0 where

@@ -6,13 +6,15 @@ ghost use Rattle.std.specs.Prelude.{◌≤◌, length, IfOk};
 
 use meaning::limits::BYTES_MOST;
 use refusals::{Refusal, number, place};
+use std::fmt::Display;
 use std::io;
 use std::io::Read;
 
 // Room for a text, and one byte more, so that a longer one is seen to be longer.
 pub const TASK_ROOM: usize = BYTES_MOST + 1;
 
-// Reads until the buffer is full or the input ends, and answers how many bytes it put at the buffer's start.
+// Reads until the buffer is full or the input ends, and answers how many bytes it put at the buffer's start. Of std's methods `read_exact` fails where the input
+// ends before, and `read_to_end` reads into the heap.
 pub fn read_full(from: &mut impl Read, buffer: &mut [u8]) -> io::Result<usize>
     ensures { IfOk result (λ n. n ≤ length buffer.new) }
 {
@@ -27,29 +29,16 @@ pub fn read_full(from: &mut impl Read, buffer: &mut [u8]) -> io::Result<usize>
     Ok(done)
 }
 
-// A line: a name, '=' and a number.
-pub fn say(rt: &impl Print, name: &[u8], x: u64) -> io::Result<()> {
-    rt.write_all(name)?;
-    rt.println(x)
-}
-
-// A line: a name, '=' and none.
-pub fn say_none(rt: &impl Print, name: &[u8]) -> io::Result<()> {
-    rt.write_all(name)?;
-    rt.write_all(b"none\n")
+// A line: a name, '=', and the number or none.
+pub fn say(rt: &impl Print, name: &str, x: Option<impl Display + Drop>) -> io::Result<()> {
+    match x {
+        Some(x) => println!(rt; "{name}={x}"),
+        None => println!(rt; "{name}=none"),
+    }
 }
 
 // A refusal's two lines.
 pub fn say_refused(rt: &impl Print, r: Refusal) -> io::Result<()> {
-    say(rt, b"refused=", number(r) as u64)?;
-    say(rt, b"place=", place(r) as u64)
-}
-
-// The first n bytes of a buffer, or all where there are fewer.
-pub fn say_bytes(rt: &impl Print, buffer: &[u8], n: usize) -> io::Result<()> {
-    if n <= buffer.len() {
-        rt.write_all(&buffer[..n])
-    } else {
-        rt.write_all(buffer)
-    }
+    println!(rt; "refused={}", number(r))?;
+    println!(rt; "place={}", place(r))
 }

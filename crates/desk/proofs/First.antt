@@ -1,14 +1,17 @@
 -- IN EDITION 1 NO ANSWER DEPENDS ON QUOTA AND MARKS, entry by entry: tables of edition 1 that are the same but for these get the same answers and leave the same
 -- bytes and runs, whatever their counts; so edition 1 answers as it did before there were any. From the rooms' laws of tables that are read alike. Assumes nothing.
+use Rattle.std.specs.Result.{result_map_both}
+use Rattle.std.specs.Prelude.{Result, Option}
 use mathlib.Core.Path.{◌≡◌, refl, ap}
 use mathlib.Core.List.{List}
 use Prim.Native.Nat.{ℕ}
 use denote.Ref.{Bor}
+use Rattle.refusals.specs.declared.Refusal.{Refusal}
+use Rattle.scan.specs.Found.{Found}
 use Rattle.refusals.specs.declared.Refusal.TheVariants.{TableTooShort}
 use lib.Dec.{leb}
 use lib.ListN.{length}
 use Rattle.tables.specs.Layout.{Tables}
-use Rattle.scan.specs.declared.Found.{Found}
 use Rattle.scan.specs.Scan.{unless, ◌then◌, tables_fault}
 use Rattle.scan.proofs.Walks.{clean_next}
 use Rattle.scan.proofs.Unread.{ReadAlike, unless_same, state_own}
@@ -17,12 +20,9 @@ use Rattle.scan.proofs.Unstored.{SameButMarks, first_alike, first_own}
 use Rattle.grammar.specs.Spelling.{text_of}
 use Rattle.grammar.specs.Writing.{text_room, on_page, write_fault, write_text}
 use Rattle.grammar.proofs.Unread.{own_text}
-use Rattle.views.specs.declared.DistancesAnswer.{DistancesAnswer}
-use Rattle.views.specs.declared.DistanceAnswer.{DistanceAnswer}
-use Rattle.views.specs.declared.BestAnswer.{BestAnswer}
-use Rattle.views.specs.declared.BoundAnswer.{BoundAnswer}
 use Rattle.views.specs.Entries.{DistancesGiven, DistanceGiven, BestGiven, BoundGiven}
 use Rattle.views.proofs.Unread as views
+use Rattle.sequences.specs.declared.choosing.Choice.{Choice}
 use Rattle.sequences.specs.Judging.{judged_of}
 use Rattle.sequences.specs.Choosing.{named_of, cheaper_of}
 use Rattle.sequences.specs.Opening.{OpeningOf}
@@ -35,11 +35,11 @@ use Rattle.ledger.proofs.Unread as ledger
 pub record SameAnswers (t u : Tables) : Type 0 where
   pub check : tables_fault t ≡ tables_fault u
   pub write : (buffer : List ℕ) → write_text t buffer ≡ write_text u buffer
-  pub distances : (map : ℕ) (out best out' best' : List ℕ) (x : DistancesAnswer) → DistancesGiven t map out best x out' best'
+  pub distances : (map : ℕ) (out best out' best' : List ℕ) (x : Result ℕ Refusal) → DistancesGiven t map out best x out' best'
       → DistancesGiven u map out best x out' best'
-  pub distance_at : (map : ℕ) (s : List ℕ) (x : DistanceAnswer) → DistanceGiven t map s x → DistanceGiven u map s x
-  pub best_at : (map : ℕ) (s : List ℕ) (x : BestAnswer) → BestGiven t map s x → BestGiven u map s x
-  pub bound : (s : List ℕ) (x : BoundAnswer) → BoundGiven t s x → BoundGiven u s x
+  pub distance_at : (map : ℕ) (s : List ℕ) (x : Result (Option ℕ) Refusal) → DistanceGiven t map s x → DistanceGiven u map s x
+  pub best_at : (map : ℕ) (s : List ℕ) (x : Result (Option ℕ) Refusal) → BestGiven t map s x → BestGiven u map s x
+  pub bound : (s : List ℕ) (x : Result (Option ℕ) Refusal) → BoundGiven t s x → BoundGiven u s x
   pub judge : (s ops : List ℕ) → judged_of t s ops ≡ judged_of u s ops
   pub cheaper : (s a b : List ℕ) → cheaper_of t s a b ≡ cheaper_of u s a b
   pub opening : (s : List ℕ) (a b r : Bor (List ℕ)) → OpeningOf t s a b r → OpeningOf u s a b r
@@ -69,7 +69,7 @@ module _ (t u : Tables) (E : SameButMarks t u) where
         best_at = λ map s x. views.best_given_alike alike s s (state_own t.counts s) map x;
         bound = λ s x. views.bound_given_alike alike s s (state_own t.counts s) x;
         judge = λ s ops. sequences.judged_alike alike s s (state_own t.counts s) ops;
-        cheaper = λ s a b. ap named_of (sequences.chosen_alike alike s s (state_own t.counts s) a b);
+        cheaper = λ s a b. ap (λ (d : Result Choice Refusal). result_map_both named_of (λ r. r) d) (sequences.chosen_alike alike s s (state_own t.counts s) a b);
         opening = λ s a b r. sequences.opening_alike alike s s (state_own t.counts s) a b r;
         begin = λ s. ledger.begun_alike alike s s (state_own t.counts s);
         offer = λ run number op. ledger.offered_alike alike run number op;

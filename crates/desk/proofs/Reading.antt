@@ -4,10 +4,10 @@ use mathlib.Core.Path.{◌≡◌, sym, ap, ◌∙◌, subst}
 use mathlib.Core.List.{List}
 use Prim.Native.Nat.{ℕ, ◌≤◌}
 use lib.ListN.{length}
+use Rattle.std.specs.Prelude.{Ok, Err}
 use Rattle.refusals.specs.declared.Refusal.{Refusal}
 use Rattle.meaning.specs.Split.{Task, Valid}
 use Rattle.tables.specs.declared.Counts.{Counts}
-use Rattle.grammar.specs.declared.Reading.TheVariants.{Accepted, Refused}
 use Rattle.grammar.specs.Fields.{Outcome}
 use Rattle.grammar.specs.Grammar.{read_text}
 use Rattle.grammar.specs.Spelling.{spelled}
@@ -16,13 +16,13 @@ use Rattle.grammar.proofs.Editions.{ByEdition}
 use Rattle.grammar.proofs.SpellLeft.{Named, accepted_named, accepted_task_of, accepted_short}
 
 module _ (task facts costs shares : List ℕ) (x : Outcome) (h : x ≡ read_text task facts costs shares) where
-  pub read_refused : (r : Refusal) → x.answer ≡ Refused r → (x.facts ≡ facts) × (x.costs ≡ costs) × (x.shares ≡ shares)
+  pub read_refused : (r : Refusal) → x.answer ≡ Err r → (x.facts ≡ facts) × (x.costs ≡ costs) × (x.shares ≡ shares)
   read_refused r e =
       let l = h ∙ refused_leaves task facts costs shares r (ap (λ (o : Outcome). o.answer) (sym h) ∙ e) in
       (ap (λ (o : Outcome). o.facts) l, ap (λ (o : Outcome). o.costs) l, ap (λ (o : Outcome). o.shares) l)
 
-  module _ (n : Counts) (e : x.answer ≡ Accepted n) where
-    abbrev answers : (read_text task facts costs shares).answer ≡ Accepted n
+  module _ (n : Counts) (e : x.answer ≡ Ok n) where
+    abbrev answers : (read_text task facts costs shares).answer ≡ Ok n
     answers = ap (λ (o : Outcome). o.answer) (sym h) ∙ e
 
     -- the text spells a valid task, whose quota and marks are 0 in edition 1, and is short

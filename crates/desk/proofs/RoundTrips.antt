@@ -7,18 +7,17 @@ use mathlib.Core.List.{List}
 use Prim.Native.Nat.{ℕ, ◌≤◌}
 use native.Mathlib.Omega.{arith}
 use lib.ListN.{length, get_or, take}
+use Rattle.std.specs.Prelude.{Ok, Err}
+use Rattle.grammar.specs.Readings.{Written}
+use Rattle.scan.specs.Found.{clean}
 use Rattle.refusals.specs.declared.Refusal.{Refusal}
 use Rattle.meaning.specs.Split.{Valid}
 use Rattle.tables.specs.declared.Counts.{Counts}
 use Rattle.tables.specs.Layout.{Tables, facts_room, costs_room, shares_room}
 use Rattle.tables.specs.Task.{task_of}
-use Rattle.scan.specs.declared.Found.TheVariants.{Clean}
 use Rattle.scan.specs.Scan.{tables_fault}
 use Rattle.scan.specs.Own.{OwnSame}
 use Rattle.scan.proofs.Validity.{clean_valid}
-use Rattle.grammar.specs.declared.Reading.TheVariants.{Accepted}
-use Rattle.grammar.specs.declared.Written.{Written}
-use Rattle.grammar.specs.declared.Written.TheVariants.{Length, Refused}
 use Rattle.grammar.specs.Fields.{Outcome, leaves}
 use Rattle.grammar.specs.Grammar.{read_text}
 use Rattle.grammar.specs.Spelling.{spelled, text_of}
@@ -30,7 +29,7 @@ use Rattle.grammar.proofs.RoundTrips as trips
 use Rattle.grammar.proofs.RoundTrips.{tables_left, UnusedZero}
 
 -- the tables that an accepted text leaves spell it
-text_left : (task facts costs shares : List ℕ) (x : Outcome) → x ≡ read_text task facts costs shares → (n : Counts) → x.answer ≡ Accepted n
+text_left : (task facts costs shares : List ℕ) (x : Outcome) → x ≡ read_text task facts costs shares → (n : Counts) → x.answer ≡ Ok n
     → text_of (tables_left n x) ≡ task
 text_left task facts costs shares x h n e =
     ap (λ (o : Outcome). text_of (tables_left n o)) h ∙ trips.left_text task facts costs shares n (ap (λ (o : Outcome). o.answer) (sym h) ∙ e)
@@ -42,19 +41,19 @@ module _ (t : Tables) (buffer : List ℕ) (w : Page) (h : w ≡ write_text t buf
   said a e = ap (λ (p : Page). p.answer) (sym h) ∙ e
 
   -- refused: the buffer is as it was
-  pub write_refused : (r : Refusal) → w.answer ≡ Refused r → w.bytes ≡ buffer
-  write_refused r e = ap (λ (p : Page). p.bytes) (h ∙ writing.refused_buffer t buffer r (said (Refused r) e))
+  pub write_refused : (r : Refusal) → w.answer ≡ Err r → w.bytes ≡ buffer
+  write_refused r e = ap (λ (p : Page). p.bytes) (h ∙ writing.refused_buffer t buffer r (said (Err r) e))
 
   -- written exactly if the buffer has room and the tables are accepted: a task's text always fits
-  pub write_exactly : ((n : ℕ) × (w.answer ≡ Length n)) ↔ ((text_room ≤ length buffer) × (tables_fault t ≡ Clean))
+  pub write_exactly : ((n : ℕ) × (w.answer ≡ Ok n)) ↔ ((text_room ≤ length buffer) × (tables_fault t ≡ clean))
   write_exactly = (
-    (λ x. let o = writing.wrote t buffer x.0 (said (Length x.0) x.1) in (o.room, o.clean)),
+    (λ x. let o = writing.wrote t buffer x.0 (said (Ok x.0) x.1) in (o.room, o.clean)),
     (λ x. (length (text_of t), ap (λ (p : Page). p.answer) (h ∙ writing.tables_written t buffer x.0 x.1))),
   )
 
-  module _ (n : ℕ) (e : w.answer ≡ Length n) where
+  module _ (n : ℕ) (e : w.answer ≡ Ok n) where
     abbrev wrote : writing.Wrote t buffer n
-    wrote = writing.wrote t buffer n (said (Length n) e)
+    wrote = writing.wrote t buffer n (said (Ok n) e)
 
     bytes_are : w.bytes ≡ over (text_of t) buffer
     bytes_are = ap (λ (p : Page). p.bytes) (h ∙ writing.tables_written t buffer wrote.room wrote.clean)
@@ -91,28 +90,28 @@ module _ (t : Tables) (buffer : List ℕ) (w : Page) (h : w ≡ write_text t buf
 
       -- where the unused places were 0 already, and the tables are as long: exactly the same lent bytes
       pub read_written_same : UnusedZero t → length facts ≡ length t.facts → length costs ≡ length t.costs → length shares ≡ length t.shares
-          → x ≡ leaves (Accepted t.counts) t.facts t.costs t.shares
+          → x ≡ leaves (Ok t.counts) t.facts t.costs t.shares
       read_written_same U p q r = reads ∙ trips.spelled_same t wrote.clean facts costs shares a b c U p q r
 
     -- THE ONLY TEXT: whatever text a reading accepts as the same task is this one
-    pub only_text : (y facts costs shares : List ℕ) (x : Outcome) → x ≡ read_text y facts costs shares → (k : Counts) → x.answer ≡ Accepted k
+    pub only_text : (y facts costs shares : List ℕ) (x : Outcome) → x ≡ read_text y facts costs shares → (k : Counts) → x.answer ≡ Ok k
         → OwnSame (tables_left k x) t
         → y ≡ take n w.bytes
     only_text y facts costs shares x g k p O = sym (text_left y facts costs shares x g k p) ∙ own_text (tables_left k x) t O ∙ sym write_spells
 
 -- ---- WRITING WHAT WAS READ
 
-module _ (task facts costs shares : List ℕ) (x : Outcome) (h : x ≡ read_text task facts costs shares) (n : Counts) (e : x.answer ≡ Accepted n) where
-  answers : (read_text task facts costs shares).answer ≡ Accepted n
+module _ (task facts costs shares : List ℕ) (x : Outcome) (h : x ≡ read_text task facts costs shares) (n : Counts) (e : x.answer ≡ Ok n) where
+  answers : (read_text task facts costs shares).answer ≡ Ok n
   answers = ap (λ (o : Outcome). o.answer) (sym h) ∙ e
 
   -- the same bytes, whatever buffer of enough room is lent
-  pub write_read : (buffer : List ℕ) → text_room ≤ length buffer → (w : Page) → w ≡ write_text (tables_left n x) buffer → w ≡ page (Length (length task)) (over task buffer)
+  pub write_read : (buffer : List ℕ) → text_room ≤ length buffer → (w : Page) → w ≡ write_text (tables_left n x) buffer → w ≡ page (Ok (length task)) (over task buffer)
   write_read buffer l w g =
       g ∙ ap (λ (o : Outcome). write_text (tables_left n o) buffer) h ∙ trips.write_read task facts costs shares n answers buffer l
 
   -- ONE TEXT: another text that is accepted and leaves the same numbers in the task's own places is the same text
-  pub one_text : (task' facts' costs' shares' : List ℕ) (x' : Outcome) → x' ≡ read_text task' facts' costs' shares' → (n' : Counts) → x'.answer ≡ Accepted n'
+  pub one_text : (task' facts' costs' shares' : List ℕ) (x' : Outcome) → x' ≡ read_text task' facts' costs' shares' → (n' : Counts) → x'.answer ≡ Ok n'
       → OwnSame (tables_left n x) (tables_left n' x')
       → task ≡ task'
   one_text task' facts' costs' shares' x' h' n' e' O =

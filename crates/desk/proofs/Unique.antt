@@ -1,10 +1,12 @@
 -- For each entry of the desk: no second outcome could meet its contract, whatever was handed in. Answer, run and every lent place are determined.
 -- Assumes nothing.
+use Rattle.std.specs.Prelude.{Result, Option}
 use mathlib.Core.Path.{◌≡◌, sym, ◌∙◌}
 use mathlib.Core.List.{List}
 use Prim.Native.Nat.{ℕ}
 use denote.Ref.{Bor}
-use Rattle.scan.specs.declared.Found.{Found}
+use Rattle.refusals.specs.declared.Refusal.{Refusal}
+use Rattle.scan.specs.Found.{Found}
 use Rattle.tables.specs.Layout.{Tables}
 use Rattle.scan.specs.Scan.{tables_fault}
 use Rattle.grammar.specs.Fields.{Outcome}
@@ -12,12 +14,8 @@ use Rattle.grammar.specs.Grammar.{read_text}
 use Rattle.grammar.specs.Writing.{Page, write_text}
 use Rattle.pieces.specs.declared.SoFar.{SoFar}
 use Rattle.pieces.specs.Pieces.{PieceLeft, EndLeft, begun_text, piece_taken, text_ended}
-use Rattle.views.specs.declared.DistanceAnswer.{DistanceAnswer}
-use Rattle.views.specs.declared.BestAnswer.{BestAnswer}
-use Rattle.views.specs.declared.BoundAnswer.{BoundAnswer}
 use Rattle.views.specs.Entries.{DistancesGiven, DistanceGiven, BestGiven, BoundGiven}
 use Rattle.views.proofs.Promises as views
-use Rattle.sequences.specs.declared.judging.Judged.{Judged}
 use Rattle.sequences.specs.declared.choosing.Cheaper.{Cheaper}
 use Rattle.sequences.specs.Judging.{judged_of}
 use Rattle.sequences.specs.Choosing.{cheaper_of}
@@ -55,20 +53,20 @@ pub distances_unique : (t : Tables) (map : ℕ) (out best : List ℕ) (x y : vie
     → DistancesGiven t map out best x.answer x.table x.best → DistancesGiven t map out best y.answer y.table y.best → x ≡ y
 distances_unique t map out best x y p q = views.distances_unique t map out best x y p q
 
-pub distance_at_unique : (t : Tables) (map : ℕ) (state : List ℕ) (x y : DistanceAnswer)
+pub distance_at_unique : (t : Tables) (map : ℕ) (state : List ℕ) (x y : Result (Option ℕ) Refusal)
     → DistanceGiven t map state x → DistanceGiven t map state y → x ≡ y
 distance_at_unique t map state x y p q = views.distance_at_unique t map state x y p q
 
-pub best_at_unique : (t : Tables) (map : ℕ) (state : List ℕ) (x y : BestAnswer) → BestGiven t map state x → BestGiven t map state y → x ≡ y
+pub best_at_unique : (t : Tables) (map : ℕ) (state : List ℕ) (x y : Result (Option ℕ) Refusal) → BestGiven t map state x → BestGiven t map state y → x ≡ y
 best_at_unique t map state x y p q = views.best_at_unique t map state x y p q
 
-pub bound_unique : (t : Tables) (state : List ℕ) (x y : BoundAnswer) → BoundGiven t state x → BoundGiven t state y → x ≡ y
+pub bound_unique : (t : Tables) (state : List ℕ) (x y : Result (Option ℕ) Refusal) → BoundGiven t state x → BoundGiven t state y → x ≡ y
 bound_unique t state x y p q = views.bound_unique t state x y p q
 
-pub judge_unique : (t : Tables) (state ops : List ℕ) (x y : Judged) → x ≡ judged_of t state ops → y ≡ judged_of t state ops → x ≡ y
+pub judge_unique : (t : Tables) (state ops : List ℕ) (x y : Result ℕ Refusal) → x ≡ judged_of t state ops → y ≡ judged_of t state ops → x ≡ y
 judge_unique t state ops x y p q = p ∙ sym q
 
-pub cheaper_unique : (t : Tables) (state a b : List ℕ) (x y : Cheaper) → x ≡ cheaper_of t state a b → y ≡ cheaper_of t state a b → x ≡ y
+pub cheaper_unique : (t : Tables) (state a b : List ℕ) (x y : Result Cheaper Refusal) → x ≡ cheaper_of t state a b → y ≡ cheaper_of t state a b → x ≡ y
 cheaper_unique t state a b x y p q = p ∙ sym q
 
 -- where the part stands, and what it holds

@@ -2,8 +2,9 @@
 // No entry asks anything of its caller: whatever is handed in, there is an answer.
 // Beside each entry stands the theorem that no second outcome could meet its contract (proofs/Unique.antt).
 //
-// The lent tables of a task: `c` counts its variables, operators and maps, and has its edition and, in edition 2, its quota of stored tests; `facts` has at
-// least 1,624 bytes, `costs` 64 words and `shares` 512 words, laid out as crates/tables/specs/Layout.antt says. A lent state has a byte for each variable. A list of operators holds their numbers.
+// The lent tables of a task, `task`: `counts` has the numbers of its variables, operators and maps, its edition and, in edition 2, its quota of stored tests;
+// `facts` has at least 1,624 bytes, `costs` 64 words and `shares` 512 words, laid out as crates/tables/specs/Layout.antt says. A lent state has a byte for each
+// variable. A list of operators holds their numbers.
 // A refusal is one of the paper's list: `refusals::number` and `refusals::place` tell its number and its place.
 #![tactic(auto)]
 
@@ -20,20 +21,22 @@ ghost use Rattle.sequences.specs.Choosing.{cheaper_of};
 ghost use Rattle.sequences.specs.Opening.{OpeningOf};
 ghost use Rattle.ledger.specs.Ledger.{begun, offered};
 
-use grammar::{Reading, Written};
 use ledger::{Offered, Run};
 use meaning::OpNo;
 use pieces::{Ended, SoFar, Taken};
-use scan::Found;
+use refusals::Refusal;
 use sequences::choosing::Cheaper;
-use sequences::judging::Judged;
-use tables::Counts;
-use views::{BestAnswer, BoundAnswer, DistanceAnswer, DistancesAnswer};
+use tables::{Counts, LentTables};
 
 // READS a task text into the lent tables: the task's counts, or why not.
 // Accepted: the tables hold the task's numbers, and 0 in every place beyond. Refused: every lent place is as it was.
 // `read_unique`.
-pub fn read(task: &[u8], facts: &mut [u8], costs: &mut [u32], shares: &mut [u32]) -> Reading
+pub fn read(
+    task: &[u8],
+    facts: &mut [u8],
+    costs: &mut [u32],
+    shares: &mut [u32],
+) -> Result<Counts, Refusal>
     ensures { leaves result facts.new costs.new shares.new ≡ read_text (was task) facts.old costs.old shares.old }
 {
     text::read(task, facts, costs, shares)
@@ -75,18 +78,18 @@ pub fn end_text(
 // Written: the text stands in the buffer's first places, and every place after it is as it was. Refused: so is every place.
 // Each accepted task has one text, and reading it gives the same tables (proofs/RoundTrips.antt).
 // `write_unique`.
-pub fn write(c: Counts, facts: &[u8], costs: &[u32], shares: &[u32], buffer: &mut [u8]) -> Written
-    ensures { page result buffer.new ≡ write_text (lent c facts costs shares) buffer.old }
+pub fn write(task: LentTables, buffer: &mut [u8]) -> Result<u32, Refusal>
+    ensures { page result buffer.new ≡ write_text (lent task) buffer.old }
 {
-    writer::write(c, facts, costs, shares, buffer)
+    writer::write(task, buffer)
 }
 
 // CHECKS handed-in tables by the text's rules: clean, or the first fault with the line that the same task's text would have.
 // `check_unique`.
-pub fn check(c: Counts, facts: &[u8], costs: &[u32], shares: &[u32]) -> Found
-    ensures { result ≡ tables_fault (lent c facts costs shares) }
+pub fn check(task: LentTables) -> Result<(), Refusal>
+    ensures { result ≡ tables_fault (lent task) }
 {
-    scan::tables_fault(c, facts, costs, shares)
+    scan::tables_fault(task)
 }
 
 // The DISTANCES of a map at all its abstract states, into a lent table of at least 4,096 places (4,294,967,295 for none), with the count of rounds; and the best
@@ -94,126 +97,78 @@ pub fn check(c: Counts, facts: &[u8], costs: &[u32], shares: &[u32]) -> Found
 // first one. Following them reaches a goal at exactly the distance (crates/views/proofs/Promises.antt). Refused: both tables are as they were.
 // `distances_unique`.
 pub fn distances(
-    c: Counts,
-    facts: &[u8],
-    costs: &[u32],
-    shares: &[u32],
+    task: LentTables,
     map: u32,
     out: &mut [u32],
     best: &mut [u8],
-) -> DistancesAnswer
-    ensures { DistancesGiven (lent c facts costs shares) map out.old best.old result out.new best.new }
+) -> Result<u32, Refusal>
+    ensures { DistancesGiven (lent task) map out.old best.old result out.new best.new }
 {
-    views::distances(c, facts, costs, shares, map, out, best)
+    views::distances(task, map, out, best)
 }
 
 // The DISTANCE of a state's image in one map, or none.
 // `distance_at_unique`.
-pub fn distance_at(
-    c: Counts,
-    facts: &[u8],
-    costs: &[u32],
-    shares: &[u32],
-    map: u32,
-    state: &[u8],
-) -> DistanceAnswer
-    ensures { DistanceGiven (lent c facts costs shares) map (was state) result }
+pub fn distance_at(task: LentTables, map: u32, state: &[u8]) -> Result<Option<u32>, Refusal>
+    ensures { DistanceGiven (lent task) map (was state) result }
 {
-    views::distance_at(c, facts, costs, shares, map, state)
+    views::distance_at(task, map, state)
 }
 
 // The BEST STEP of a state's image in one map, or none: at a goal of the map, and where its distance is none.
 // `best_at_unique`.
-pub fn best_at(
-    c: Counts,
-    facts: &[u8],
-    costs: &[u32],
-    shares: &[u32],
-    map: u32,
-    state: &[u8],
-) -> BestAnswer
-    ensures { BestGiven (lent c facts costs shares) map (was state) result }
+pub fn best_at(task: LentTables, map: u32, state: &[u8]) -> Result<Option<u32>, Refusal>
+    ensures { BestGiven (lent task) map (was state) result }
 {
-    views::best_at(c, facts, costs, shares, map, state)
+    views::best_at(task, map, state)
 }
 
 // The summed BOUND of a state: at most the cost of every sequence from there to the goal, of any length; none exactly if some map
 // says none, and then there is no such sequence. Along a run it falls by at most what the maps are paid (crates/watched_runs).
 // `bound_unique`.
-pub fn bound(c: Counts, facts: &[u8], costs: &[u32], shares: &[u32], state: &[u8]) -> BoundAnswer
-    ensures { BoundGiven (lent c facts costs shares) (was state) result }
+pub fn bound(task: LentTables, state: &[u8]) -> Result<Option<u64>, Refusal>
+    ensures { BoundGiven (lent task) (was state) result }
 {
-    views::bound(c, facts, costs, shares, state)
+    views::bound(task, state)
 }
 
 // JUDGES a sequence of operators from a state: passed with its cost, or the first refusal. It counts its own storing steps from 0, against the quota.
 // `judge_unique`.
-pub fn judge(
-    c: Counts,
-    facts: &[u8],
-    costs: &[u32],
-    shares: &[u32],
-    state: &[u8],
-    ops: &[u32],
-) -> Judged
-    ensures { result ≡ judged_of (lent c facts costs shares) (was state) (was ops) }
+pub fn judge(task: LentTables, state: &[u8], ops: &[u32]) -> Result<u32, Refusal>
+    ensures { result ≡ judged_of (lent task) (was state) (was ops) }
 {
-    sequences::judge(c, facts, costs, shares, state, ops)
+    sequences::judge(task, state, ops)
 }
 
 // The CHEAPER of two lists of operators, each judged up to the first moment a goal holds: the first, the second or neither, with the cost.
 // `cheaper_unique`.
-pub fn cheaper(
-    c: Counts,
-    facts: &[u8],
-    costs: &[u32],
-    shares: &[u32],
-    state: &[u8],
-    a: &[u32],
-    b: &[u32],
-) -> Cheaper
-    ensures { result ≡ cheaper_of (lent c facts costs shares) (was state) (was a) (was b) }
+pub fn cheaper(task: LentTables, state: &[u8], a: &[u32], b: &[u32]) -> Result<Cheaper, Refusal>
+    ensures { result ≡ cheaper_of (lent task) (was state) (was a) (was b) }
 {
-    sequences::cheaper(c, facts, costs, shares, state, a, b)
+    sequences::cheaper(task, state, a, b)
 }
 
 // The OPENING PART of the cheaper list, of the caller's own memory; for neither, or refused input, the empty part at the start of the first list.
 // `opening_unique`.
-pub fn opening<'a>(
-    c: Counts,
-    facts: &[u8],
-    costs: &[u32],
-    shares: &[u32],
-    state: &[u8],
-    a: &'a [u32],
-    b: &'a [u32],
-) -> &'a [u32]
-    ensures { OpeningOf (lent c facts costs shares) (was state) a.entry b.entry result }
+pub fn opening<'a>(task: LentTables, state: &[u8], a: &'a [u32], b: &'a [u32]) -> &'a [u32]
+    ensures { OpeningOf (lent task) (was state) a.entry b.entry result }
 {
-    sequences::opening(c, facts, costs, shares, state, a, b)
+    sequences::opening(task, state, a, b)
 }
 
 // BEGINS a run from a state: a fresh run, or a run of zeros with the refusal.
 // `begin_unique`.
-pub fn begin(c: Counts, facts: &[u8], costs: &[u32], shares: &[u32], start: &[u8]) -> Offered
-    ensures { result ≡ begun (lent c facts costs shares) (was start) }
+pub fn begin(task: LentTables, start: &[u8]) -> Offered
+    ensures { result ≡ begun (lent task) (was start) }
 {
-    Run::begin(c, facts, costs, shares, start)
+    Run::begin(task, start)
 }
 
 // OFFERS a step to a run: its number and its operator. The run comes back advanced if the step is accepted, and else as it was; a repeat changes nothing. The
 // stored tests that it tells are the storing steps really run, at most the quota (`TellsStored`, crates/ledger/specs/History.antt).
 // `offer_unique`.
-pub fn offer(
-    run: Run,
-    c: Counts,
-    facts: &[u8],
-    costs: &[u32],
-    shares: &[u32],
-    number: u32,
-    op: OpNo,
-) -> Offered
-    ensures { result ≡ offered (lent c facts costs shares) run number op.0 }
+pub fn offer(run: Run, task: LentTables, number: u32, op: OpNo) -> Offered
+    ensures { result ≡ offered (lent task) run number op.0 }
 {
-    run.offer(c, facts, costs, shares, number, op)
+    run.offer(task, number, op)
 }

@@ -7,19 +7,16 @@ use mathlib.Core.List.{List}
 use Prim.Native.Nat.{ℕ, ◌<◌}
 use native.Mathlib.Omega.{arith}
 use lib.ListN.{get_or}
+use Rattle.std.specs.Prelude.{Ok, Err, Result, Some}
+use Rattle.scan.specs.Found.{Found, clean}
 use Rattle.graph.specs.Cost.{none, fin}
 use Rattle.graph.specs.Best.{Advice}
 use Rattle.refusals.specs.declared.Refusal.{Refusal}
 use Rattle.meaning.specs.Views.{α, abstract_states, AbstractGoal}
 use Rattle.meaning.specs.Split.{view}
-use Rattle.scan.specs.declared.Found.{Found}
-use Rattle.scan.specs.declared.Found.TheVariants.{Clean, Fault}
 use Rattle.tables.specs.Layout.{Tables}
 use Rattle.tables.specs.Task.{sas_of, task_of, state_of}
 use Rattle.sweep.specs.Said.{HALT, said_at, advised_at}
-use Rattle.views.specs.declared.DistancesAnswer.{DistancesAnswer}
-use Rattle.views.specs.declared.DistancesAnswer.TheVariants as distances
-use Rattle.views.specs.declared.DistanceAnswer.TheVariants as distance
 use Rattle.views.specs.Entries.{distances_fault, distance_fault, ByFault, RoundsOf, DistancesOf, BestStepsOf, DistancesGiven, distance_said, best_said, BestGiven}
 use Rattle.views.proofs.Promises as views
 use Rattle.words.specs.Words.{word, done, refused_word, distances_word, distance_word, best_word}
@@ -29,27 +26,27 @@ use Rattle.desk_c.proofs.Bounding.{distance_behind}
 
 module _ (t : Tables) (m : ℕ) (out best out' best' : List ℕ) where
   -- the answer behind a word
-  distances_behind : (x : DistancesAnswer) → DistancesHanded t m out best (distances_word x) out' best' → DistancesGiven t m out best x out' best'
-  distances_behind x h = subst (λ (a : DistancesAnswer). DistancesGiven t m out best a out' best') (distances_told h.0 x (sym h.2)) h.1
+  distances_behind : (x : Result ℕ Refusal) → DistancesHanded t m out best (distances_word x) out' best' → DistancesGiven t m out best x out' best'
+  distances_behind x h = subst (λ (a : Result ℕ Refusal). DistancesGiven t m out best a out' best') (distances_told h.0 x (sym h.2)) h.1
 
   -- REFUSED, nothing that was lent is altered
   pub distances_refused : (f : Refusal) → DistancesHanded t m out best (refused_word f) out' best' → (out' ≡ out) × (best' ≡ best)
-  distances_refused f h = at (distances_fault t m out best) (distances_behind (distances.Refused f) h)
+  distances_refused f h = at (distances_fault t m out best) (distances_behind (Err f) h)
     where
       at : (g : Found)
-          → ByFault g (λ e. (distances.Refused f ≡ distances.Refused e) × (out' ≡ out) × (best' ≡ best))
-          ((r : ℕ) × (distances.Refused f ≡ distances.Rounds r) × RoundsOf (task_of t) m r × DistancesOf (task_of t) m out out' × BestStepsOf (task_of t) m best best')
+          → ByFault g (λ e. (◌≡◌ {A = Result ℕ Refusal} (Err f) (Err e)) × (out' ≡ out) × (best' ≡ best))
+          ((r : ℕ) × (◌≡◌ {A = Result ℕ Refusal} (Err f) (Ok r)) × RoundsOf (task_of t) m r × DistancesOf (task_of t) m out out' × BestStepsOf (task_of t) m best best')
           → (out' ≡ out) × (best' ≡ best)
-      at Clean p =
+      at (Ok u) p =
           let e = p.1 in
           let z : ◌≡◌ {A = ℕ} 0 1 = cc in
           absurd (let n : ⊥ = omega arith in n)
-      at (Fault e) p = (p.1, p.2)
+      at (Err e) p = (p.1, p.2)
 
   -- DONE, the tables are those of the map
   module _ (r : ℕ) (handed : DistancesHanded t m out best (word done r) out' best') where
-    given : DistancesGiven t m out best (distances.Rounds r) out' best'
-    given = distances_behind (distances.Rounds r) handed
+    given : DistancesGiven t m out best (Ok r) out' best'
+    given = distances_behind (Ok r) handed
 
     module _ (a : ℕ) (l : a < abstract_states (sas_of t) (view (task_of t) m)) where
       -- 255 stands exactly at the goals of the map and where the distance is none
@@ -61,15 +58,15 @@ module _ (t : Tables) (m : ℕ) (out best out' best' : List ℕ) where
       following_reaches = views.following_reaches t m out best out' best' r given a l
 
     -- the words that tell a state's distance and its best step tell what the tables have at its image
-    module _ (s : List ℕ) (clean : distance_fault t m s ≡ Clean) (w : ℕ) where
+    module _ (s : List ℕ) (sound : distance_fault t m s ≡ clean) (w : ℕ) where
       pub distance_as_table : DistanceHanded t m s w ↔ (w ≡ distance_word (distance_said (said_at out' (α (sas_of t) (view (task_of t) m) (state_of s)))))
       distance_as_table =
-          let own = views.distance_as_table t m out best out' best' r given s clean in
+          let own = views.distance_as_table t m out best out' best' r given s sound in
           ((λ h. h.2 ∙ ap distance_word ((own h.0).0 h.1)), (λ e. (_, (own _).1 refl, e)))
 
       pub best_as_table : BestHanded t m s w ↔ (w ≡ best_word (best_said (advised_at best' (α (sas_of t) (view (task_of t) m) (state_of s)))))
       best_as_table =
-          let own = views.best_as_table t m out best out' best' r given s clean in
+          let own = views.best_as_table t m out best out' best' r given s sound in
           ((λ h. h.2 ∙ ap best_word ((own h.0).0 h.1)), (λ e. (_, (own _).1 refl, e)))
 
 -- FOLLOWING THE WORDS of `desk_best_at`, where B has at each abstract state what it tells at some state that is seen as that: from a state's image a goal of the
@@ -84,4 +81,4 @@ following_words t m B told s d h =
     let k = told b l in
     let p = k.2 in
     (k.0, k.1, subst (BestGiven t m k.0) (best_told p.0 (best_said (B b)) (sym p.2)) p.1))
-    s d (distance_behind t s m (distance.Of d) (word done d) refl h)
+    s d (distance_behind t s m (Ok (Some d)) (word done d) refl h)

@@ -9,14 +9,12 @@ use mathlib.Core.List.{List, [], ◌++◌}
 use lib.Dec.{ltb}
 use lib.ListN.{length}
 use borrow.Author.Tests.{le-ltb, lt-ltb}
-use Rattle.refusals.specs.declared.Refusal.{Refusal}
+use Rattle.std.specs.Prelude.{Ok, Err}
+use Rattle.grammar.specs.Readings.{Reading}
+use Rattle.scan.specs.Found.{Found, clean}
 use Rattle.refusals.specs.declared.Refusal.TheVariants.{OffForm, TableTooShort}
 use Rattle.meaning.proofs.Facts.{by_cases, by_order}
-use Rattle.scan.specs.declared.Found.{Found}
-use Rattle.scan.specs.declared.Found.TheVariants.{Clean, Fault}
-use Rattle.grammar.specs.declared.Reading.{Reading}
-use Rattle.grammar.specs.declared.Reading.TheVariants as reading
-use Rattle.grammar.specs.Fields.{Outcome, leaves}
+use Rattle.grammar.specs.Fields.{Outcome}
 use Rattle.grammar.specs.Grammar.{read_text}
 use Rattle.pieces.specs.declared.SoFar.{SoFar}
 use Rattle.pieces.specs.Pieces.{area_lent, begun_text, PieceLeft, piece_left, piece_taken, EndLeft, lent_short, text_ended}
@@ -25,10 +23,10 @@ use Rattle.pieces.specs.Calls as calls
 use Rattle.pieces.proofs.Answers as answers
 use Rattle.pieces.proofs.Ending as ending
 use Rattle.pieces.proofs.Whole as whole
-use Rattle.lent_texts.specs.Lent.{text_words, text_short, so_far_in, words_with, words_ended}
+use Rattle.lent_texts.specs.Lent.{text_words, text_short, so_far_in, words_with}
 use Rattle.lent_texts.proofs.Carried.{taken_back, ended_back, lengths_kept}
 use Rattle.words.specs.Words.{refused_word, found_word, reading_word}
-use Rattle.desk_c.specs.Handing.{ReadLeft, read_left, counts_row, counts_after, read_counted, read_handed}
+use Rattle.desk_c.specs.Handing.{read_left, counts_row, counts_after, read_counted, read_handed}
 use Rattle.desk_c.specs.Pieces.{BeginAfter, begin_text_handed, PieceAfter, piece_after, text_after, piece_told, take_piece_handed, EndAfter, end_after, ended_by, end_told}
 use Rattle.desk_c.specs.Pieces.{end_text_handed, LentCalls, begun, piece, other_area, short_end}
 use Rattle.desk_c.proofs.Texts.{take_short, end_short, end_few}
@@ -74,7 +72,7 @@ module _ {bytes text area : List ℕ} (k : Carried bytes text area) (p : List �
   abbrev taken : PieceLeft
   taken = piece_taken (so_far_in text) area p
 
-  told_taken : piece_told taken text ≡ piece_after (found_word Clean) (words_with taken.text text) taken.area
+  told_taken : piece_told taken text ≡ piece_after (found_word clean) (words_with taken.text text) taken.area
   told_taken =
       ap (λ (a : Found). piece_after (found_word a) (text_after a taken.text text) taken.area) (whole.piece_clean k.made p taken.text taken.answer taken.area refl)
 
@@ -183,8 +181,8 @@ module _ (text area p : List ℕ) (x : PieceAfter) (said : x ≡ take_piece_hand
   told_alone y h = split y.answer y.text y.area h
     where
       split : (a : Found) (t : SoFar) (v : List ℕ) → (0 < found_word a → v ≡ area) → Alone (piece_told (piece_left t a v) text)
-      split Clean t v g l = let z : ⊥ = omega arith in absurd z
-      split (Fault r) t v g l = (refl, g l)
+      split (Ok tt) t v g l = let z : ⊥ = omega arith in absurd z
+      split (Err r) t v g l = (refl, g l)
 
   -- a piece that isn't taken leaves the area
   abbrev AreaAlone : PieceLeft → Type 0
@@ -217,8 +215,8 @@ module _ (text area counts f c s : List ℕ) (x : EndAfter) (said : x ≡ end_te
   answered_alone = split (text_ended (so_far_in text) area f c s).answer refl
     where
       split : (a : Reading) → (text_ended (so_far_in text) area f c s).answer ≡ a → LeftAlone (end_told (text_ended (so_far_in text) area f c s) text counts)
-      split (reading.Accepted n) e l = let z : 0 < reading_word (reading.Accepted n) = subst (λ (a : Reading). 0 < reading_word a) e l in absurd (let y : ⊥ = omega arith in y)
-      split (reading.Refused r) e l =
+      split (Ok n) e l = let z : 0 < reading_word (Ok n) = subst (λ (a : Reading). 0 < reading_word a) e l in absurd (let y : ⊥ = omega arith in y)
+      split (Err r) e l =
           let k = ending.refused_end_keeps (so_far_in text) area f c s (text_ended (so_far_in text) area f c s) refl r e in
           (ap (λ (a : Reading). counts_after a counts) e, k.0, k.1, k.2)
 

@@ -7,9 +7,9 @@ use Prim.Native.Nat.{ℕ, ◌<◌}
 use native.Mathlib.Omega.{arith}
 use lib.Dec.{ltb}
 use lib.ListN.{length}
+use Rattle.std.specs.Prelude.{Ok, Err}
+use Rattle.grammar.specs.Readings.{Reading}
 use Rattle.refusals.specs.declared.Refusal.TheVariants.{TableTooShort}
-use Rattle.grammar.specs.declared.Reading.{Reading}
-use Rattle.grammar.specs.declared.Reading.TheVariants as reading
 use Rattle.grammar.specs.Fields.{Outcome}
 use Rattle.grammar.specs.Grammar.{read_text}
 use Rattle.grammar.proofs.Admission.{refused_leaves}
@@ -22,8 +22,8 @@ module _ (text counts f c s : List ℕ) where
   LeftAlone x = (x.counts ≡ counts) × (x.facts ≡ f) × (x.costs ≡ c) × (x.shares ≡ s)
 
   counted_alone : (a : Reading) → (read_text text f c s).answer ≡ a → 0 < reading_word a → LeftAlone (read_counted (read_text text f c s) counts)
-  counted_alone (reading.Accepted n) e l = absurd (let z : ⊥ = omega arith in z)
-  counted_alone (reading.Refused r) e l =
+  counted_alone (Ok n) e l = absurd (let z : ⊥ = omega arith in z)
+  counted_alone (Err r) e l =
       subst (λ (o : Outcome). LeftAlone (read_counted o counts)) (sym (refused_leaves text f c s r e)) (refl, refl, refl, refl)
 
   tested_alone : (b : Bool) → 0 < (cond b (read_left (refused_word TableTooShort) counts f c s) (read_counted (read_text text f c s) counts)).word

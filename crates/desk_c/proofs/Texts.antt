@@ -1,21 +1,20 @@
 -- Laws of what the entries on a text in pieces hand back: each outcome from the facts that a way through the code has. Assumes nothing.
 use Prim.Native.Nat.{ℕ, ◌≤◌, ◌<◌}
-use mathlib.Core.Path.{◌≡◌, ap, ◌∙◌}
+use mathlib.Core.Path.{◌≡◌, ap, ◌∙◌, refl}
 use mathlib.Core.Bool.{Bool, true, false}
 use mathlib.Core.List.{List}
 use lib.ListN.{length}
 use borrow.Author.Tests.{lt-ltb, le-ltb, ltb-false}
-use Rattle.refusals.specs.declared.Refusal.{Refusal}
+use Rattle.std.specs.Prelude.{Ok, Err}
+use Rattle.grammar.specs.Readings.{Reading}
+use Rattle.scan.specs.Found.{Found, clean}
 use Rattle.refusals.specs.declared.Refusal.TheVariants.{TableTooShort}
-use Rattle.scan.specs.declared.Found.{Found}
-use Rattle.scan.specs.declared.Found.TheVariants.{Clean, Fault}
-use Rattle.grammar.specs.declared.Reading.{Reading}
 use Rattle.pieces.specs.declared.SoFar.{SoFar}
 use Rattle.pieces.specs.Pieces.{PieceLeft, EndLeft, begun_text, piece_left, piece_taken, end_left, text_ended}
 use Rattle.lent_texts.specs.Lent.{text_words, text_short, so_far_in, words_with, words_ended}
 use Rattle.words.specs.Words.{word, done, refused_word, found_word, reading_word}
 use Rattle.desk_c.specs.Handing.{counts_row, counts_after, read_left}
-use Rattle.desk_c.specs.Pieces.{begin_after, begin_text_handed, PieceAfter, piece_after, text_after, piece_told, take_piece_handed, EndAfter, end_after, ended_by, end_told, end_text_handed}
+use Rattle.desk_c.specs.Pieces.{begin_after, begin_text_handed, piece_after, text_after, piece_told, take_piece_handed, end_after, ended_by, end_told, end_text_handed}
 
 -- words that are long enough
 pub words_long : (text : List ℕ) → text_short text ≡ false → text_words ≤ length text
@@ -33,11 +32,12 @@ module _ (text : List ℕ) (w : ℕ) where
   begin_done h s b p e = rw (h, e, p, b)
 
 -- the text's words after a piece
-pub after_taken : (a : Found) (t : SoFar) (text : List ℕ) → a ≡ Clean → words_with t text ≡ text_after a t text
+pub after_taken : (a : Found) (t : SoFar) (text : List ℕ) → a ≡ clean → words_with t text ≡ text_after a t text
 after_taken a t text e = rw e
 
-pub after_refused : (a : Found) (t : SoFar) (text : List ℕ) {r : Refusal} → a ≡ Fault r → text ≡ text_after a t text
-after_refused a t text e = rw e
+pub after_refused : (a : Found) (t : SoFar) (text : List ℕ) → ((u : Unit {0}) → a ≡ Ok u → ⊥) → text ≡ text_after a t text
+after_refused (Ok u) t text not = absurd (not u refl)
+after_refused (Err r) t text not = refl
 
 -- a piece
 module _ (text area piece : List ℕ) (w : ℕ) where

@@ -1,17 +1,18 @@
 -- THE BOUND DOESN'T JUMP, for a run that a C program keeps in lent memory: memory of any origin that isn't 17, and so that which `desk_begin` fills. Over the words
 -- that `desk_begin`, `desk_bound` and `desk_distance_at` hand back, and the state now and the columns where they stand in the memory that any calls of `desk_offer`
 -- leave, one after another. By the theorems of crates/watched_runs, as lent memory carries the desk's own run. Assumes nothing.
+use Rattle.std.specs.Prelude.{Ok}
 use mathlib.Core.Path.{◌≡◌, sym, ap, ap₂, ◌∙◌, subst}
 use mathlib.Core.List.{List, ◌++◌}
 use Prim.Native.Nat.{ℕ, ◌-◌, ◌≤◌, ◌<◌}
 use native.Mathlib.Omega.{arith}
 use lib.ListN.{length}
+use Rattle.scan.specs.Found.{clean}
 use Rattle.refusals.specs.declared.Refusal.TheVariants.{TableTooShort}
 use Rattle.meaning.specs.Limits.{most_vars}
 use Rattle.meaning.specs.Split.{sum, Valid}
 use Rattle.meaning.proofs.Columns.{sum_same}
 use Rattle.meaning.proofs.Facts.{by_cases}
-use Rattle.scan.specs.declared.Found.TheVariants.{Clean}
 use Rattle.scan.specs.Scan.{tables_fault}
 use Rattle.scan.proofs.Validity.{clean_valid}
 use Rattle.tables.specs.Layout.{Tables}
@@ -83,7 +84,7 @@ lent_never_jumps t valid m n r q e g a b never =
 
 -- BETWEEN TWO MOMENTS of any memory that isn't 17, being long enough and what its start and log give: after the offers xs, and after the offers ys that follow
 -- them; a and b show the states now, as C lends them
-pub never_jumps : (t : Tables) (m : RunLeft) → run_bytes ≤ length m.bytes → run_words ≤ length m.words → tables_fault t ≡ Clean
+pub never_jumps : (t : Tables) (m : RunLeft) → run_bytes ≤ length m.bytes → run_words ≤ length m.words → tables_fault t ≡ clean
     → GivenByStartAndLog (task_of t) (run_lent m) → (xs ys : List Offer) (a b : List ℕ) → Shows t.counts.vars a (now_in (offers_handed t m xs).bytes)
     → Shows t.counts.vars b (now_in (offers_handed t m (xs ++ ys)).bytes) → NeverJumpsLent t (offers_handed t m xs) (offers_handed t m (xs ++ ys)) a b
 never_jumps t m long-bytes long-words clean given xs ys a b p q =
@@ -100,7 +101,7 @@ never_jumps t m long-bytes long-words clean given xs ys a b p q =
 
 module _ (t : Tables) (s bytes words : List ℕ) (filled : (begin_handed t s bytes words).word ≡ word done 0) where
   -- the memory that it was lent was long enough, and the start was accepted
-  begun_behind : (run_bytes ≤ length bytes) × (run_words ≤ length words) × ((begun t s).answer ≡ Accepted)
+  begun_behind : (run_bytes ≤ length bytes) × (run_words ≤ length words) × ((begun t s).answer ≡ Ok Accepted)
   unfolding begin_handed
   begun_behind =
       by_cases (run_short bytes words)
@@ -110,7 +111,7 @@ module _ (t : Tables) (s bytes words : List ℕ) (filled : (begin_handed t s byt
       (λ p.
       let long = long_enough bytes words p in
       let told = (begins_carried bytes words long.0 long.1 t s).told in
-      (long.0, long.1, answer_told (begun t s).answer Accepted (sym told ∙ filled)))
+      (long.0, long.1, answer_told (begun t s).answer (Ok Accepted) (sym told ∙ filled)))
 
   pub begun_long : (run_bytes ≤ length (begin_handed t s bytes words).bytes) × (run_words ≤ length (begin_handed t s bytes words).words)
   begun_long =
@@ -118,7 +119,7 @@ module _ (t : Tables) (s bytes words : List ℕ) (filled : (begin_handed t s byt
       let lengths = (begins_carried bytes words b.0 b.1 t s).lengths in
       (omega (arith, lengths.0, b.0), omega (arith, lengths.1, b.1))
 
-  pub begun_clean : tables_fault t ≡ Clean
+  pub begun_clean : tables_fault t ≡ clean
   begun_clean = (accepted_began t s begun_behind.2).clean
 
   pub begun_given : GivenByStartAndLog (task_of t) (run_lent (begin_handed t s bytes words))

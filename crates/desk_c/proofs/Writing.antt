@@ -4,8 +4,11 @@ use mathlib.Core.Path.{◌≡◌, refl, sym, ap, ◌∙◌, subst}
 use mathlib.Core.List.{List, [], ◌∷◌}
 use Prim.Native.Nat.{ℕ, ◌≤◌}
 use native.Mathlib.Omega.{arith}
-use lib.ListN.{length, get_or, set, take}
+use lib.ListN.{length, get_or, take}
 use borrow.Author.Tests.{lt-ltb, le-ltb}
+use Rattle.std.specs.Prelude.{Ok, Err}
+use Rattle.grammar.specs.Readings.{Reading}
+use Rattle.scan.specs.Found.{clean}
 use Rattle.refusals.specs.declared.Refusal.{Refusal}
 use Rattle.refusals.specs.declared.Refusal.TheVariants.{TableTooShort}
 use Rattle.meaning.proofs.Facts.{by_order}
@@ -13,10 +16,6 @@ use Rattle.tables.specs.declared.Counts.{Counts}
 use Rattle.tables.specs.Layout.{Tables, facts_room, costs_room, shares_room}
 use Rattle.tables.specs.Task.{tables, task_of}
 use Rattle.tables.proofs.Laws.{never}
-use Rattle.scan.specs.declared.Found.TheVariants.{Clean, Fault}
-use Rattle.grammar.specs.declared.Reading.{Reading}
-use Rattle.grammar.specs.declared.Reading.TheVariants as reading
-use Rattle.grammar.specs.declared.Written.TheVariants as written
 use Rattle.grammar.specs.Fields.{leaves}
 use Rattle.grammar.specs.Grammar.{read_text}
 use Rattle.grammar.specs.Spelling.{spelled, tables_of, canon}
@@ -44,11 +43,11 @@ module _ (t : Tables) (buffer : List ℕ) (x : WriteLeft) (h : x ≡ write_hande
 
   pub write_refused : (r : Refusal) → x.word ≡ refused_word r → x.bytes ≡ buffer
   write_refused r e =
-      bytes_are ∙ desk.write_refused t buffer (write_text t buffer) refl r (written_told (write_text t buffer).answer (written.Refused r) (sym word_is ∙ e))
+      bytes_are ∙ desk.write_refused t buffer (write_text t buffer) refl r (written_told (write_text t buffer).answer (Err r) (sym word_is ∙ e))
 
   module _ (n : ℕ) (e : x.word ≡ word done n) where
-    answers : (write_text t buffer).answer ≡ written.Length n
-    answers = written_told (write_text t buffer).answer (written.Length n) (sym word_is ∙ e)
+    answers : (write_text t buffer).answer ≡ Ok n
+    answers = written_told (write_text t buffer).answer (Ok n) (sym word_is ∙ e)
 
     -- the text, of at most 10,588 bytes
     pub write_spells : take n x.bytes ≡ spelled (task_of t)
@@ -69,7 +68,7 @@ module _ (t : Tables) (buffer : List ℕ) (x : WriteLeft) (h : x ≡ write_hande
           subst (λ (z : List ℕ). Named (task_of t) f c s (read_text (take n z) f c s)) (sym bytes_are)
           (desk.read_written t buffer (write_text t buffer) refl n answers f c s a b d (read_text (take n (write_text t buffer).bytes) f c s) refl)
 
-      accepts : (read_text (take n x.bytes) f c s).answer ≡ reading.Accepted (canon t).counts
+      accepts : (read_text (take n x.bytes) f c s).answer ≡ Ok (canon t).counts
       unfolding tables_of
       accepts = named.answer
 
@@ -78,7 +77,7 @@ module _ (t : Tables) (buffer : List ℕ) (x : WriteLeft) (h : x ≡ write_hande
 
       -- done; the task's counts in the row; its own numbers in the tables, and 0 in every other place
       pub read_written : (y.word ≡ word done 0) × (y.counts ≡ counts_put (canon t).counts counts)
-          × Named (task_of t) f c s (leaves (reading.Accepted (canon t).counts) y.facts y.costs y.shares)
+          × Named (task_of t) f c s (leaves (Ok (canon t).counts) y.facts y.costs y.shares)
       read_written = (
         ap (λ (z : ReadLeft). z.word) hands ∙ ap reading_word accepts,
         ap (λ (z : ReadLeft). z.counts) hands ∙ ap (λ (k : Reading). counts_after k counts) accepts,
@@ -88,7 +87,7 @@ module _ (t : Tables) (buffer : List ℕ) (x : WriteLeft) (h : x ≡ write_hande
 
 -- ---- WRITING WHAT WAS READ
 
-counts_put_lem : (row : List ℕ) (n : Counts) → counts_row ≤ length row → counts_in (counts_after (reading.Accepted n) row) ≡ n
+counts_put_lem : (row : List ℕ) (n : Counts) → counts_row ≤ length row → counts_in (counts_after (Ok n) row) ≡ n
 counts_put_lem [] n l = absurd (let z : ⊥ = omega arith in z)
 counts_put_lem (a ∷ []) n l = absurd (let z : ⊥ = omega arith in z)
 counts_put_lem (a ∷ b ∷ []) n l = absurd (let z : ⊥ = omega arith in z)
@@ -97,9 +96,9 @@ counts_put_lem (a ∷ b ∷ c ∷ d ∷ []) n l = absurd (let z : ⊥ = omega ar
 counts_put_lem (a ∷ b ∷ c ∷ d ∷ e ∷ row) n l = refl
 
 -- a word of 0 is an accepted text's
-accepted_by : (a : Reading) → reading_word a ≡ word done 0 → (n : Counts) × (a ≡ reading.Accepted n)
-accepted_by (reading.Accepted n) e = (n, refl)
-accepted_by (reading.Refused r) e = let z : Fault r ≡ Clean = found_told (Fault r) Clean e in never cc
+accepted_by : (a : Reading) → reading_word a ≡ word done 0 → (n : Counts) × (a ≡ Ok n)
+accepted_by (Ok n) e = (n, refl)
+accepted_by (Err r) e = let z : Err r ≡ clean = found_told (Err r) clean e in never cc
 
 module _ (task counts f c s : List ℕ) (y : ReadLeft) (h : y ≡ read_handed task counts f c s) (e : y.word ≡ word done 0) where
   long : counts_row ≤ length counts
@@ -112,7 +111,7 @@ module _ (task counts f c s : List ℕ) (y : ReadLeft) (h : y ≡ read_handed ta
   counted : y ≡ read_counted (read_text task f c s) counts
   counted = h ∙ long_handed task counts f c s long
 
-  abbrev accepted : (n : Counts) × ((read_text task f c s).answer ≡ reading.Accepted n)
+  abbrev accepted : (n : Counts) × ((read_text task f c s).answer ≡ Ok n)
   accepted = accepted_by (read_text task f c s).answer (sym (ap (λ (z : ReadLeft). z.word) counted) ∙ e)
 
   -- the counts and the tables as they stand in the lent memory are those of the reading

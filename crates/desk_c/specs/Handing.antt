@@ -1,19 +1,15 @@
 -- What C lends, and what the exported entries leave behind: the word that goes back, and every lent place. A start and an offer: lent_runs/specs/Left.antt.
 -- A row of counts that is lent too short is 8 and nothing else, before all.
-use Rattle.std.specs.Prelude.{◌≡◌, cond, List, [], ℕ, ltb, length, get_or, set}
+use Rattle.refusals.specs.declared.Refusal.{Refusal}
+use Rattle.grammar.specs.Readings.{Reading}
+use Rattle.std.specs.Prelude.{◌≡◌, cond, List, [], ℕ, ltb, length, get_or, set, Ok, Err, Result, Option}
 use Rattle.refusals.specs.declared.Refusal.TheVariants.{TableTooShort}
 use Rattle.tables.specs.declared.Counts.{Counts}
 use Rattle.tables.specs.Layout.{Tables}
 use Rattle.tables.specs.Task.{tables, Slice, was}
-use Rattle.grammar.specs.declared.Reading.{Reading}
-use Rattle.grammar.specs.declared.Reading.TheVariants as reading
 use Rattle.grammar.specs.Fields.{Outcome}
 use Rattle.grammar.specs.Grammar.{read_text}
 use Rattle.grammar.specs.Writing.{Page, write_text}
-use Rattle.views.specs.declared.DistancesAnswer.{DistancesAnswer}
-use Rattle.views.specs.declared.DistanceAnswer.{DistanceAnswer}
-use Rattle.views.specs.declared.BestAnswer.{BestAnswer}
-use Rattle.views.specs.declared.BoundAnswer.{BoundAnswer}
 use Rattle.views.specs.Entries.{DistancesGiven, DistanceGiven, BestGiven, BoundGiven}
 use Rattle.words.specs.Words.{refused_word, reading_word, written_word, distances_word, distance_word, best_word, bound_word}
 
@@ -52,8 +48,8 @@ abbrev pub counts_put : Counts → List ℕ → List ℕ
 counts_put c row = set (set (set (set (set row 0 c.vars) 1 c.ops) 2 c.maps) 3 c.edition) 4 c.quota
 
 abbrev pub counts_after : Reading → List ℕ → List ℕ
-counts_after (reading.Accepted c) counts = counts_put c counts
-counts_after (reading.Refused r) counts = counts
+counts_after (Ok c) counts = counts_put c counts
+counts_after (Err r) counts = counts
 
 abbrev pub read_counted : Outcome → List ℕ → ReadLeft
 read_counted o counts = read_left (reading_word o.answer) (counts_after o.answer counts) o.facts o.costs o.shares
@@ -78,13 +74,13 @@ write_handed t buffer = write_told (write_text t buffer)
 
 -- DISTANCES, A DISTANCE, A BEST STEP, THE BOUND: the word of the answer that the desk gives
 abbrev pub DistancesHanded : Tables → ℕ → List ℕ → List ℕ → ℕ → List ℕ → List ℕ → Type 0
-DistancesHanded t map out best w out' best' = (a : DistancesAnswer) × DistancesGiven t map out best a out' best' × (w ≡ distances_word a)
+DistancesHanded t map out best w out' best' = (a : Result ℕ Refusal) × DistancesGiven t map out best a out' best' × (w ≡ distances_word a)
 
 abbrev pub DistanceHanded : Tables → ℕ → List ℕ → ℕ → Type 0
-DistanceHanded t map s w = (a : DistanceAnswer) × DistanceGiven t map s a × (w ≡ distance_word a)
+DistanceHanded t map s w = (a : Result (Option ℕ) Refusal) × DistanceGiven t map s a × (w ≡ distance_word a)
 
 abbrev pub BestHanded : Tables → ℕ → List ℕ → ℕ → Type 0
-BestHanded t map s w = (a : BestAnswer) × BestGiven t map s a × (w ≡ best_word a)
+BestHanded t map s w = (a : Result (Option ℕ) Refusal) × BestGiven t map s a × (w ≡ best_word a)
 
 abbrev pub BoundHanded : Tables → List ℕ → ℕ → Type 0
-BoundHanded t s w = (a : BoundAnswer) × BoundGiven t s a × (w ≡ bound_word a)
+BoundHanded t s w = (a : Result (Option ℕ) Refusal) × BoundGiven t s a × (w ≡ bound_word a)

@@ -1,9 +1,8 @@
 -- TEXTS IN PIECES as C lends them: the word that goes back, and every lent place. The text so far stands in lent words (lent_texts/specs/Lent.antt).
 -- Words of a text, or a row of counts, that are lent too short are 8 and nothing else, before all.
-use Rattle.std.specs.Prelude.{◌≡◌, Bool, true, cond, ◌||◌, List, [], ◌++◌, ℕ, ◌≤◌, ◌<◌, ltb, length}
+use Rattle.scan.specs.Found.{Found}
+use Rattle.std.specs.Prelude.{◌≡◌, Bool, true, cond, ◌||◌, List, [], ◌++◌, ℕ, ◌≤◌, ◌<◌, ltb, length, Ok, Err}
 use Rattle.refusals.specs.declared.Refusal.TheVariants.{TableTooShort}
-use Rattle.scan.specs.declared.Found.{Found}
-use Rattle.scan.specs.declared.Found.TheVariants.{Clean, Fault}
 use Rattle.grammar.specs.Fields.{leaves}
 use Rattle.pieces.specs.declared.SoFar.{SoFar}
 use Rattle.pieces.specs.Pieces.{area_lent, PieceLeft, EndLeft, begun_text, lent_short, piece_taken, text_ended}
@@ -34,8 +33,8 @@ piece_after w t a = record { word = w; text = t; area = a }
 
 -- the text's words after a piece: only one that was taken writes them
 abbrev pub text_after : Found → SoFar → List ℕ → List ℕ
-text_after Clean s text = words_with s text
-text_after (Fault r) s text = text
+text_after (Ok tt) s text = words_with s text
+text_after (Err r) s text = text
 
 abbrev pub piece_told : PieceLeft → List ℕ → PieceAfter
 piece_told x text = piece_after (found_word x.answer) (text_after x.answer x.text text) x.area

@@ -14,21 +14,16 @@ ghost use Rattle.desk_c.specs.Handing.{counts_row, counts_in, counts_put, counts
 ghost use Rattle.desk_c.specs.Handing.{read_left, read_handed, write_left, write_handed, DistancesHanded, DistanceHanded, BestHanded, BoundHanded};
 ghost use Rattle.lent_texts.specs.Lent.{text_words};
 ghost use Rattle.desk_c.specs.Pieces.{begin_after, begin_text_handed, piece_after, take_piece_handed, ended_by, end_after, end_text_handed};
-ghost use Rattle.tables.specs.Task.{was};
+ghost use Rattle.tables.specs.Task.{held, was};
 
-use grammar::Reading;
 use lent_runs::{hand_back, run_in, run_short};
 use lent_texts::{put_ended, put_text, text_in, text_short};
 use meaning::OpNo;
 use refusals::Refusal;
-use scan::Found;
 use sequences::choosing::choice_of;
-use tables::Counts;
-use tables::readers::word_at;
-use words::{
-    DONE, best_word, bound_word, cheaper_word, distance_word, distances_word, found_word,
-    judged_word, opening_word, refused_word, word, written_word,
-};
+use tables::readers::get_or;
+use tables::{Counts, LentTables};
+use words::{DONE, Tell, opening_word, word};
 
 // The places of a lent row of counts: variables, operators, maps, edition, quota.
 const COUNTS_ROW: usize = 5;
@@ -38,11 +33,11 @@ fn counts_in(row: &[u32]) -> Counts
     ensures { result ≡ counts_in (was row) }
 {
     Counts {
-        vars: word_at(row, 0),
-        ops: word_at(row, 1),
-        maps: word_at(row, 2),
-        edition: word_at(row, 3),
-        quota: word_at(row, 4),
+        vars: get_or(row, 0, 0),
+        ops: get_or(row, 1, 0),
+        maps: get_or(row, 2, 0),
+        edition: get_or(row, 3, 0),
+        quota: get_or(row, 4, 0),
     }
 }
 
@@ -68,6 +63,23 @@ fn facts_beside<'a>(row: &[u32], facts: &'a [u8]) -> &'a [u8]
     facts
 }
 
+// The task that C lends: its counts from the row, and the three tables.
+fn lent_task<'a>(
+    counts: &[u32],
+    facts: &'a [u8],
+    costs: &'a [u32],
+    shares: &'a [u32],
+) -> LentTables<'a>
+    ensures { held result ≡ lent_task counts facts costs shares }
+{
+    LentTables {
+        counts: counts_in(counts),
+        facts: facts_beside(counts, facts),
+        costs,
+        shares,
+    }
+}
+
 // READS a task text into the lent tables, and its counts (variables, operators, maps, edition, quota) into a lent row of at least 5 places.
 // `read_unique`.
 #[unsafe(no_mangle)]
@@ -81,41 +93,33 @@ pub extern "C" fn desk_read(
     ensures { read_left result counts.new facts.new costs.new shares.new ≡ read_handed (was task) counts.old facts.old costs.old shares.old }
 {
     if counts.len() < COUNTS_ROW {
-        return refused_word(Refusal::TableTooShort);
+        return Refusal::TableTooShort.word();
     }
-    let r = desk::read(task, facts, costs, shares);
-    match r {
-        Reading::Accepted(c) => {
-            put_counts(counts, c);
-            word(DONE, 0)
-        }
-        Reading::Refused(f) => refused_word(f),
-    }
+    let reading = desk::read(task, facts, costs, shares);
+    hand_reading(reading, counts)
 }
 
 // Hands back a reading: its counts go into the lent row if it was accepted.
-fn hand_reading(r: Reading, counts: &mut [u32]) -> u64
+fn hand_reading(r: Result<Counts, Refusal>, counts: &mut [u32]) -> u64
     requires { counts_row ≤ length counts.old }
     ensures { (result ≡ reading_word r) × (counts.new ≡ counts_after r counts.old) }
 {
     match r {
-        Reading::Accepted(c) => {
+        Ok(c) => {
             put_counts(counts, c);
             word(DONE, 0)
         }
-        Reading::Refused(f) => refused_word(f),
+        Err(f) => f.word(),
     }
 }
 
 // Ends the text in lent words if it has ended now and had not before.
+#[tactic(auto, unfolding(crate::specs::Pieces::ended_by))]
 fn hand_ended(before: bool, ended: bool, text: &mut [u32])
     requires { text_words ≤ length text.old }
     ensures { text.new ≡ ended_by before ended text.old }
 {
-    if before {
-        return;
-    }
-    if ended {
+    if ended && !before {
         put_ended(text);
     }
 }
@@ -127,7 +131,7 @@ pub extern "C" fn desk_begin_text(text: &mut [u32]) -> u64
     ensures { begin_after result text.new ≡ begin_text_handed text.old }
 {
     if text_short(text) {
-        return refused_word(Refusal::TableTooShort);
+        return Refusal::TableTooShort.word();
     }
     put_text(desk::begin_text(), text);
     word(DONE, 0)
@@ -140,15 +144,13 @@ pub extern "C" fn desk_take_piece(text: &mut [u32], area: &mut [u8], piece: &[u8
     ensures { piece_after result text.new area.new ≡ take_piece_handed text.old area.old (was piece) }
 {
     if text_short(text) {
-        return refused_word(Refusal::TableTooShort);
+        return Refusal::TableTooShort.word();
     }
-    let t = desk::take_piece(text_in(text), area, piece);
-    let found = t.found;
-    let on = t.text;
-    if let Found::Clean = found {
-        put_text(on, text);
+    let taken = desk::take_piece(text_in(text), area, piece);
+    if let Ok(()) = taken.found {
+        put_text(taken.text, text);
     }
-    found_word(found)
+    taken.found.word()
 }
 
 // ENDS THE TEXT in lent words, and answers as `desk_read` does.
@@ -165,18 +167,15 @@ pub extern "C" fn desk_end_text(
     ensures { end_after (read_left result counts.new facts.new costs.new shares.new) text.new ≡ end_text_handed text.old (was area) counts.old facts.old costs.old shares.old }
 {
     if text_short(text) {
-        return refused_word(Refusal::TableTooShort);
+        return Refusal::TableTooShort.word();
     }
     if counts.len() < COUNTS_ROW {
-        return refused_word(Refusal::TableTooShort);
+        return Refusal::TableTooShort.word();
     }
-    let s = text_in(text);
-    let before = s.ended;
-    let e = desk::end_text(s, area, facts, costs, shares);
-    let on = e.text;
-    let r = e.reading;
-    hand_ended(before, on.ended, text);
-    hand_reading(r, counts)
+    let so_far = text_in(text);
+    let ended = desk::end_text(so_far, area, facts, costs, shares);
+    hand_ended(so_far.ended, ended.text.ended, text);
+    hand_reading(ended.reading, counts)
 }
 
 // WRITES the text of handed-in tables into a lent buffer of at least 16,384 bytes; the word tells how many bytes it has.
@@ -191,9 +190,8 @@ pub extern "C" fn desk_write(
 ) -> u64
     ensures { write_left result buffer.new ≡ write_handed (lent_task counts facts costs shares) buffer.old }
 {
-    let c = counts_in(counts);
-    let f = facts_beside(counts, facts);
-    written_word(desk::write(c, f, costs, shares, buffer))
+    let task = lent_task(counts, facts, costs, shares);
+    desk::write(task, buffer).word()
 }
 
 // CHECKS handed-in tables.
@@ -202,9 +200,8 @@ pub extern "C" fn desk_write(
 pub extern "C" fn desk_check(counts: &[u32], facts: &[u8], costs: &[u32], shares: &[u32]) -> u64
     ensures { result ≡ found_word (tables_fault (lent_task counts facts costs shares)) }
 {
-    let c = counts_in(counts);
-    let f = facts_beside(counts, facts);
-    found_word(desk::check(c, f, costs, shares))
+    let task = lent_task(counts, facts, costs, shares);
+    desk::check(task).word()
 }
 
 // The DISTANCES and BEST STEPS of a map into two lent tables of at least 4,096 places; the word tells the rounds.
@@ -221,9 +218,8 @@ pub extern "C" fn desk_distances(
 ) -> u64
     ensures { DistancesHanded (lent_task counts facts costs shares) map out.old best.old result out.new best.new }
 {
-    let c = counts_in(counts);
-    let f = facts_beside(counts, facts);
-    distances_word(desk::distances(c, f, costs, shares, map, out, best))
+    let task = lent_task(counts, facts, costs, shares);
+    desk::distances(task, map, out, best).word()
 }
 
 // The DISTANCE of a state's image in one map, or none.
@@ -239,9 +235,8 @@ pub extern "C" fn desk_distance_at(
 ) -> u64
     ensures { DistanceHanded (lent_task counts facts costs shares) map (was state) result }
 {
-    let c = counts_in(counts);
-    let f = facts_beside(counts, facts);
-    distance_word(desk::distance_at(c, f, costs, shares, map, state))
+    let task = lent_task(counts, facts, costs, shares);
+    desk::distance_at(task, map, state).word()
 }
 
 // The BEST STEP of a state's image in one map, or none.
@@ -257,9 +252,8 @@ pub extern "C" fn desk_best_at(
 ) -> u64
     ensures { BestHanded (lent_task counts facts costs shares) map (was state) result }
 {
-    let c = counts_in(counts);
-    let f = facts_beside(counts, facts);
-    best_word(desk::best_at(c, f, costs, shares, map, state))
+    let task = lent_task(counts, facts, costs, shares);
+    desk::best_at(task, map, state).word()
 }
 
 // The summed BOUND of a state, or none: exactly if some map says none.
@@ -274,9 +268,8 @@ pub extern "C" fn desk_bound(
 ) -> u64
     ensures { BoundHanded (lent_task counts facts costs shares) (was state) result }
 {
-    let c = counts_in(counts);
-    let f = facts_beside(counts, facts);
-    bound_word(desk::bound(c, f, costs, shares, state))
+    let task = lent_task(counts, facts, costs, shares);
+    desk::bound(task, state).word()
 }
 
 // JUDGES a sequence of operators from a state; the word tells its cost.
@@ -292,9 +285,8 @@ pub extern "C" fn desk_judge(
 ) -> u64
     ensures { result ≡ judged_word (judged_of (lent_task counts facts costs shares) (was state) (was list)) }
 {
-    let c = counts_in(counts);
-    let f = facts_beside(counts, facts);
-    judged_word(desk::judge(c, f, costs, shares, state, list))
+    let task = lent_task(counts, facts, costs, shares);
+    desk::judge(task, state, list).word()
 }
 
 // The CHEAPER of two lists of operators, with its cost.
@@ -311,9 +303,8 @@ pub extern "C" fn desk_cheaper(
 ) -> u64
     ensures { result ≡ cheaper_word (cheaper_of (lent_task counts facts costs shares) (was state) (was a) (was b)) }
 {
-    let c = counts_in(counts);
-    let f = facts_beside(counts, facts);
-    cheaper_word(desk::cheaper(c, f, costs, shares, state, a, b))
+    let task = lent_task(counts, facts, costs, shares);
+    desk::cheaper(task, state, a, b).word()
 }
 
 // The OPENING PART of the cheaper list: of which list, and how many steps from its start. A part of the caller's own list doesn't cross as one; its place and its
@@ -331,9 +322,8 @@ pub extern "C" fn desk_opening(
 ) -> u64
     ensures { result ≡ opening_word (chosen_of (lent_task counts facts costs shares) (was state) (was a) (was b)) }
 {
-    let c = counts_in(counts);
-    let f = facts_beside(counts, facts);
-    opening_word(choice_of(c, f, costs, shares, state, a, b))
+    let task = lent_task(counts, facts, costs, shares);
+    opening_word(choice_of(task, state, a, b))
 }
 
 // BEGINS a run from a state, in lent memory.
@@ -351,11 +341,10 @@ pub extern "C" fn desk_begin(
     ensures { run_left result bytes.new words.new ≡ begin_handed (lent_task counts facts costs shares) (was start) bytes.old words.old }
 {
     if run_short(bytes, words) {
-        return refused_word(Refusal::TableTooShort);
+        return Refusal::TableTooShort.word();
     }
-    let c = counts_in(counts);
-    let f = facts_beside(counts, facts);
-    let o = desk::begin(c, f, costs, shares, start);
+    let task = lent_task(counts, facts, costs, shares);
+    let o = desk::begin(task, start);
     hand_back(o, bytes, words)
 }
 
@@ -375,11 +364,10 @@ pub extern "C" fn desk_offer(
     ensures { run_left result bytes.new words.new ≡ offer_handed (lent_task counts facts costs shares) bytes.old words.old number op }
 {
     if run_short(bytes, words) {
-        return refused_word(Refusal::TableTooShort);
+        return Refusal::TableTooShort.word();
     }
-    let c = counts_in(counts);
-    let f = facts_beside(counts, facts);
+    let task = lent_task(counts, facts, costs, shares);
     let run = run_in(bytes, words);
-    let o = desk::offer(run, c, f, costs, shares, number, OpNo(op));
+    let o = desk::offer(run, task, number, OpNo(op));
     hand_back(o, bytes, words)
 }

@@ -1,39 +1,39 @@
 // The formatter: a task text on standard input; the text of the task that it spells on standard output, or the refusal.
 #![tactic(auto)]
 
-use console::{TASK_ROOM, read_full, say_bytes, say_refused};
+use console::{TASK_ROOM, read_full, say_refused};
 use desk::{read, write};
-use grammar::{Reading, Written};
 use meaning::limits::BYTES_MOST;
 use std::io;
-use tables::Counts;
+use tables::LentTables;
 use tables::readers::{COSTS_ROOM, FACTS_ROOM, SHARES_ROOM};
 
 // The text of the tables.
-fn say_text(
-    rt: &impl Print,
-    c: Counts,
-    facts: &[u8],
-    costs: &[u32],
-    shares: &[u32],
-) -> io::Result<()> {
+fn say_text(rt: &impl Print, task: LentTables) -> io::Result<()> {
     let mut buffer = [0u8; BYTES_MOST];
-    let answer = write(c, facts, costs, shares, &mut buffer);
-    match answer {
-        Written::Length(n) => say_bytes(rt, &buffer, n as usize),
-        Written::Refused(r) => say_refused(rt, r),
+    match write(task, &mut buffer) {
+        Ok(n) => rt.write_all(&buffer[..BYTES_MOST.min(n as usize)]),
+        Err(r) => say_refused(rt, r),
     }
 }
 
+// The tables are read here and in desk_program alike: `console` holds nothing of the desk.
 fn main(rt: HostRuntime) -> io::Result<()> {
-    let mut task = [0u8; TASK_ROOM];
-    let n = read_full(&mut rt.stdin(), &mut task)?;
+    let mut text = [0u8; TASK_ROOM];
+    let n = read_full(&mut rt.stdin(), &mut text)?;
     let mut facts = [0u8; FACTS_ROOM];
     let mut costs = [0u32; COSTS_ROOM];
     let mut shares = [0u32; SHARES_ROOM];
-    let answer = read(&task[..n], &mut facts, &mut costs, &mut shares);
-    match answer {
-        Reading::Accepted(c) => say_text(&rt, c, &facts, &costs, &shares),
-        Reading::Refused(r) => say_refused(&rt, r),
+    match read(&text[..n], &mut facts, &mut costs, &mut shares) {
+        Ok(counts) => say_text(
+            &rt,
+            LentTables {
+                counts,
+                facts: &facts,
+                costs: &costs,
+                shares: &shares,
+            },
+        ),
+        Err(r) => say_refused(&rt, r),
     }
 }

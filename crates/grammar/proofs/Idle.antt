@@ -10,6 +10,8 @@ use mathlib.Core.Bool.{Bool, true, false, not}
 use mathlib.Core.Logic.{◌⊎◌, inl, inr, ⊎_elim}
 use lib.Dec.{eqb, leb}
 use borrow.Author.Tests.{le-leb, lt-leb}
+use Rattle.std.specs.Prelude.{Err}
+use Rattle.scan.specs.Found.{clean}
 use Rattle.refusals.specs.declared.Refusal.{Refusal}
 use Rattle.refusals.specs.declared.Refusal.TheVariants.{OffForm, OutOfRange, IdleOperator}
 use Rattle.meaning.specs.Limits.{most_cost, most_mark}
@@ -22,7 +24,6 @@ use Rattle.tables.specs.Layout.{Tables, pre_place, eff_place}
 use Rattle.tables.specs.Editions.{has_quota}
 use Rattle.tables.specs.Task.{sas_of}
 use Rattle.tables.proofs.Laws.{every_false}
-use Rattle.scan.specs.declared.Found.TheVariants.{Clean, Fault}
 use Rattle.scan.specs.Scan.{unless, ◌then◌, facts_fault}
 use Rattle.scan.proofs.Rules.{FactsOk}
 use Rattle.scan.proofs.Walks.{one_rule}
@@ -38,7 +39,7 @@ use Rattle.grammar.proofs.SpellOperator.{semicolon_ends, pre_change, eff_change,
 use Rattle.grammar.proofs.SpellOperator.{mark_part, second_told, Ended, all_told, Fresh, not_idle, idle_told}
 
 -- three rules with one refusal, of which the second or the third is broken
-one_broken : (r : Refusal) (a b c : Bool) → (b ≡ false) ⊎ (c ≡ false) → (unless a r then unless b r) then unless c r ≡ Fault r
+one_broken : (r : Refusal) (a b c : Bool) → (b ≡ false) ⊎ (c ≡ false) → (unless a r then unless b r) then unless c r ≡ Err r
 one_broken r false b c q = refl
 one_broken r true false c q = refl
 one_broken r true true false q = refl
@@ -66,19 +67,19 @@ module _ (τ : Task) where
   idle_in_range o p i v h = ⊎_elim (λ z. omega arith) (λ z. omega (arith, p v h)) (i v h)
 
   module _ (o l : ℕ) where
-    pre_clean : τ.sas.cost o ≤ most_cost → FactsOk τ (τ.sas.pre o) → pre_fault τ o l ≡ Clean
+    pre_clean : τ.sas.cost o ≤ most_cost → FactsOk τ (τ.sas.pre o) → pre_fault τ o l ≡ clean
     pre_clean c p = rw (le-leb (τ.sas.cost o) most_cost c, facts_rule (τ.sas.pre o) l, in_range_lem (τ.sas.pre o) p) refl
 
-    eff_clean : τ.sas.cost o ≤ most_cost → FactsOk τ (τ.sas.pre o) → FactsOk τ (τ.sas.eff o) → eff_fault τ o l ≡ Clean
+    eff_clean : τ.sas.cost o ≤ most_cost → FactsOk τ (τ.sas.pre o) → FactsOk τ (τ.sas.eff o) → eff_fault τ o l ≡ clean
     eff_clean c p q = rw (pre_clean c p, facts_rule (τ.sas.eff o) l, in_range_lem (τ.sas.eff o) q) refl
 
-    eff_broken : (v : ℕ) → v < τ.sas.vars → (τ.sas.dom v < τ.sas.pre o v) ⊎ (τ.sas.dom v < τ.sas.eff o v) → eff_fault τ o l ≡ Fault (OutOfRange l)
+    eff_broken : (v : ℕ) → v < τ.sas.vars → (τ.sas.dom v < τ.sas.pre o v) ⊎ (τ.sas.dom v < τ.sas.eff o v) → eff_fault τ o l ≡ Err (OutOfRange l)
     eff_broken v h out =
         rw (facts_rule (τ.sas.pre o) l, facts_rule (τ.sas.eff o) l)
         (one_broken (OutOfRange l) (leb (τ.sas.cost o) most_cost) (in_range (τ.sas.pre o)) (in_range (τ.sas.eff o))
         (⊎_elim (λ g. inl (out_of_range (τ.sas.pre o) v h g)) (λ g. inr (out_of_range (τ.sas.eff o) v h g)) out))
 
-    mark_broken : eff_fault τ o l ≡ Clean → most_mark < τ.mark o → all_fault τ o l ≡ Fault (OutOfRange l)
+    mark_broken : eff_fault τ o l ≡ clean → most_mark < τ.mark o → all_fault τ o l ≡ Err (OutOfRange l)
     mark_broken c h = rw (c, lt-leb (τ.mark o) most_mark h) refl
 
 -- ---- with no effects it is idle, whatever it asks for

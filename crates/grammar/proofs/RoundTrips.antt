@@ -9,18 +9,17 @@ use lib.Dec.{eqb}
 use lib.ListN.{length, get_or}
 use lib.Seq.{ext_get_or}
 use borrow.Author.Tests.{le-leb, eqb-true, eqb-false}
+use Rattle.std.specs.Prelude.{Ok}
+use Rattle.scan.specs.Found.{clean}
 use Rattle.meaning.proofs.Facts.{by_cases, by_order}
 use Rattle.tables.specs.declared.Counts.{Counts}
 use Rattle.tables.specs.Layout.{Tables, facts_room, costs_room, shares_room, dom_place, init_place, goal_place, pre_place, eff_place, class_place, mark_place, share_place, mark_at, quota_of}
 use Rattle.tables.specs.Editions.{read_in}
 use Rattle.tables.specs.Task.{tables, task_of}
 use Rattle.tables.proofs.Editions.{has_read}
-use Rattle.scan.specs.declared.Found.TheVariants.{Clean}
 use Rattle.scan.specs.Scan.{roomy, tables_fault}
 use Rattle.scan.specs.Own.{SameCounts, OwnSame}
 use Rattle.scan.proofs.Unread.{own_alike}
-use Rattle.grammar.specs.declared.Reading.TheVariants.{Accepted}
-use Rattle.grammar.specs.declared.Written.TheVariants.{Length}
 use Rattle.grammar.specs.Fields.{Outcome, leaves}
 use Rattle.grammar.specs.Grammar.{outcome, read_text}
 use Rattle.grammar.specs.Spelling.{text_of, tables_of, canon}
@@ -49,7 +48,7 @@ tables_left n o = tables n o.facts o.costs o.shares
 
 -- ---- WRITING WHAT WAS READ
 
-module _ (x f c s : List ℕ) (n : Counts) (h : (read_text x f c s).answer ≡ Accepted n) where
+module _ (x f c s : List ℕ) (n : Counts) (h : (read_text x f c s).answer ≡ Ok n) where
   abbrev o : Outcome
   o = read_text x f c s
 
@@ -99,7 +98,7 @@ module _ (x f c s : List ℕ) (n : Counts) (h : (read_text x f c s).answer ≡ A
       }
 
   -- they are accepted, and spell the text
-  pub left_clean : tables_fault (tables_left n o) ≡ Clean
+  pub left_clean : tables_fault (tables_left n o) ≡ clean
   left_clean =
       let R = read_accepted f c s x n h in
       (own_alike (tables_left n o) spelt left_own).fault ∙ accepted_clean x spelt (spells_accepted x spelt R.spells)
@@ -107,8 +106,8 @@ module _ (x f c s : List ℕ) (n : Counts) (h : (read_text x f c s).answer ≡ A
   pub left_text : text_of (tables_left n o) ≡ x
   left_text = own_text (tables_left n o) spelt left_own ∙ (read_accepted f c s x n h).spells.text
 
-  pub write_read : (b : List ℕ) → text_room ≤ length b → write_text (tables_left n o) b ≡ page (Length (length x)) (over x b)
-  write_read b l = tables_written (tables_left n o) b l left_clean ∙ ap (λ (y : List ℕ). page (Length (length y)) (over y b)) left_text
+  pub write_read : (b : List ℕ) → text_room ≤ length b → write_text (tables_left n o) b ≡ page (Ok (length x)) (over x b)
+  write_read b l = tables_written (tables_left n o) b l left_clean ∙ ap (λ (y : List ℕ). page (Ok (length y)) (over y b)) left_text
 
 -- ---- READING WHAT WAS WRITTEN
 
@@ -154,12 +153,12 @@ module _ (t : Tables) (f c s : List ℕ) (o : Outcome) (N : Named (task_of t) f 
       (λ k. N.shares_beyond p k ∙ sym (U.shares p k))
 
   pub same_bytes : length f ≡ length t.facts → length c ≡ length t.costs → length s ≡ length t.shares
-      → o ≡ leaves (Accepted t.counts) t.facts t.costs t.shares
+      → o ≡ leaves (Ok t.counts) t.facts t.costs t.shares
   unfolding tables_of
   same_bytes p q r =
       let e = t.counts.edition in
       let whole : read_in e (read_in e t.counts.quota) ≡ t.counts.quota = read_own e _ _ (read_whole e _ U.quota) U.quota in
-      let answer : o.answer ≡ Accepted t.counts = N.answer ∙ ap (λ (y : ℕ). Accepted (with_quota y)) whole in
+      let answer : o.answer ≡ Ok t.counts = N.answer ∙ ap (λ (y : ℕ). Ok (with_quota y)) whole in
       let x : o.facts ≡ t.facts = ext_get_or 0 o.facts t.facts (N.facts_length ∙ p) (λ i l. same_fact i) in
       let y : o.costs ≡ t.costs = ext_get_or 0 o.costs t.costs (N.costs_length ∙ q) (λ i l. same_cost i) in
       let z : o.shares ≡ t.shares = ext_get_or 0 o.shares t.shares (N.shares_length ∙ r) (λ i l. same_share i) in
@@ -169,8 +168,8 @@ module _ (t : Tables) (f c s : List ℕ) (o : Outcome) (N : Named (task_of t) f 
       with_quota y = record { vars = t.counts.vars; ops = t.counts.ops; maps = t.counts.maps; edition = t.counts.edition; quota = y }
 
 -- a clean task's text, read into tables of enough room
-module _ (t : Tables) (p : tables_fault t ≡ Clean) (f c s : List ℕ) (a : facts_room ≤ length f) (b : costs_room ≤ length c) (d : shares_room ≤ length s) where
-  read_answer : (read_text (text_of t) f c s).answer ≡ Accepted (canon t).counts
+module _ (t : Tables) (p : tables_fault t ≡ clean) (f c s : List ℕ) (a : facts_room ≤ length f) (b : costs_room ≤ length c) (d : shares_room ≤ length s) where
+  read_answer : (read_text (text_of t) f c s).answer ≡ Ok (canon t).counts
   unfolding outcome
   read_answer = ap (λ (o : Outcome). o.answer) (read_spelled f c s t p a b d)
 
@@ -180,5 +179,5 @@ module _ (t : Tables) (p : tables_fault t ≡ Clean) (f c s : List ℕ) (a : fac
 
   -- where the unused places were 0 already, exactly the same tables
   pub spelled_same : UnusedZero t → length f ≡ length t.facts → length c ≡ length t.costs → length s ≡ length t.shares
-      → read_text (text_of t) f c s ≡ leaves (Accepted t.counts) t.facts t.costs t.shares
+      → read_text (text_of t) f c s ≡ leaves (Ok t.counts) t.facts t.costs t.shares
   spelled_same U = same_bytes t f c s (read_text (text_of t) f c s) spelled_named U

@@ -6,10 +6,10 @@ use mathlib.Core.Path.{◌≡◌, refl, sym, ap, ◌∙◌}
 use mathlib.Core.List.{List, ◌∷◌, ◌++◌}
 use mathlib.Core.Bool.{true}
 use lib.ListN.{length, get_or, length-replicate}
+use Rattle.std.specs.Prelude.{Ok, Err}
+use Rattle.scan.specs.Found.{Found, clean}
 use Rattle.refusals.specs.declared.Refusal.TheVariants.{TableTooShort}
 use Rattle.meaning.specs.Split.{Task, Valid}
-use Rattle.scan.specs.declared.Found.{Found}
-use Rattle.scan.specs.declared.Found.TheVariants.{Clean, Fault}
 use Rattle.tables.specs.Layout.{
   Tables,
   facts_room,
@@ -50,7 +50,7 @@ use Rattle.grammar.proofs.SpellBackTask.{accepted_task}
 
 -- ---- a clean task is small
 
-pub clean_small : (τ : Task) → task_fault τ ≡ Clean → Small τ
+pub clean_small : (τ : Task) → task_fault τ ≡ clean → Small τ
 clean_small τ p =
     let q = (task_is τ).0 p in
     let head = q.0.1 in
@@ -189,9 +189,9 @@ tables_spell τ s by = agree_spelled (task_of (tables_of τ)) τ refl refl refl 
 
 -- ---- the theorems
 
-pub judged_accepted : (f : Found) (U T : Tables) → judged f (accepted U) ≡ accepted T → (f ≡ Clean) × (U ≡ T)
-judged_accepted Clean U T p = (refl, cc)
-judged_accepted (Fault r) U T p = not_refused p
+pub judged_accepted : (f : Found) (U T : Tables) → judged f (accepted U) ≡ accepted T → (f ≡ clean) × (U ≡ T)
+judged_accepted (Ok tt) U T p = (refl, cc)
+judged_accepted (Err r) U T p = not_refused p
 
 -- the tables of a task have room
 roomy_of : (t : Tables) → length t.facts ≡ facts_room → length t.costs ≡ costs_room → length t.shares ≡ shares_room → roomy t ≡ true
@@ -218,7 +218,7 @@ own_roomy T p = ap roomy p ∙ canon_roomy T
 record Left (x : List ℕ) (T : Tables) : Type 0 where
   text : text_of T ≡ x
   own : T ≡ canon T
-  clean : task_fault (task_of T) ≡ Clean
+  clean : task_fault (task_of T) ≡ clean
 
 left : (x : List ℕ) (T : Tables) → verdict x ≡ accepted T → Left x T
 left x T h =
@@ -229,7 +229,7 @@ left x T h =
     let i = judged_accepted (task_fault (task_of T)) (canon T) T (sym (scan_is_grammar T) ∙ ap verdict p ∙ h) in
     record { text = p; own = sym i.1; clean = i.0 }
 
-pub accepted_clean : (x : List ℕ) (T : Tables) → verdict x ≡ accepted T → tables_fault T ≡ Clean
+pub accepted_clean : (x : List ℕ) (T : Tables) → verdict x ≡ accepted T → tables_fault T ≡ clean
 unfolding tables_fault
 accepted_clean x T h = let l = left x T h in rw (own_roomy T l.own) l.clean
 
@@ -246,10 +246,10 @@ spells_accepted x T s =
 -- ---- one text a task
 
 -- only the task's own places are spelled
-pub own_places_spelled : (t : Tables) → task_fault (task_of t) ≡ Clean → text_of (canon t) ≡ text_of t
+pub own_places_spelled : (t : Tables) → task_fault (task_of t) ≡ clean → text_of (canon t) ≡ text_of t
 own_places_spelled t p = tables_spell (task_of t) (clean_small (task_of t) p) (tables_by_edition t)
 
 -- tables with one text are those of one task
-pub one_text : (t u : Tables) → task_fault (task_of t) ≡ Clean → text_of t ≡ text_of u → canon t ≡ canon u
+pub one_text : (t u : Tables) → task_fault (task_of t) ≡ clean → text_of t ≡ text_of u → canon t ≡ canon u
 one_text t u p e =
     sym (judged_accepted (task_fault (task_of u)) (canon u) (canon t) (sym (scan_is_grammar u) ∙ ap verdict (sym e) ∙ clean_accepted t p)).1

@@ -5,11 +5,11 @@ use native.Mathlib.Omega.{arith}
 use mathlib.Core.Path.{◌≡◌, refl, ap, ap₂, ◌∙◌}
 use mathlib.Core.Bool.{Bool, ◌||◌}
 use lib.Dec.{eqb}
+use Rattle.scan.specs.Found.{Found}
 use Rattle.meaning.specs.Numbering.{size}
 use Rattle.meaning.specs.Views.{every}
 use Rattle.meaning.specs.Split.{count_of, sum}
 use Rattle.meaning.proofs.Facts.{every_same}
-use Rattle.scan.specs.declared.Found.{Found}
 use Rattle.scan.specs.Scan.{◌then◌, each}
 use Rattle.tables.specs.Classes.{some_has, none_missing}
 

@@ -9,6 +9,9 @@ use mathlib.Core.Bool.{true, false}
 use mathlib.Core.List.{List, ◌++◌}
 use lib.ListN.{length, get_or, replicate, length-replicate}
 use borrow.Author.Tests.{lt-leb}
+use Rattle.grammar.specs.Readings.{Reading}
+use Rattle.std.specs.Prelude.{Ok, Err}
+use Rattle.scan.specs.Found.{clean}
 use Rattle.refusals.specs.declared.Refusal.TheVariants.{OutOfRange}
 use Rattle.meaning.specs.Limits.{most_edition, most_quota}
 use Rattle.meaning.specs.Split.{Task, Valid}
@@ -18,12 +21,10 @@ use Rattle.tables.specs.Editions.{has_quota}
 use Rattle.tables.specs.Lines.{line_of_edition, line_of_quota}
 use Rattle.tables.specs.Task.{tables}
 use Rattle.tables.proofs.Editions.{has_none}
-use Rattle.scan.specs.declared.Found.TheVariants.{Clean, Fault}
 use Rattle.scan.specs.Scan.{roomy, tables_fault, within as scanWithin}
 use Rattle.scan.specs.Own.{OwnSame}
 use Rattle.scan.proofs.Validity.{clean_valid}
 use Rattle.scan.proofs.Walks.{broken}
-use Rattle.grammar.specs.declared.Reading.TheVariants.{Accepted}
 use Rattle.grammar.specs.Fields.{bytes_of}
 use Rattle.grammar.specs.Grammar.{refused, Rest, ◌▸◌, keep, fits, numeral, text_line, put_edition, put_quota, edition_line, quota_line, task_lines, no_task, verdict, read_text}
 use Rattle.grammar.specs.Spelling.{digits, text_of, tables_of}
@@ -51,7 +52,7 @@ unfolding verdict task_lines edition_line ◌▸◌
 edition_first e h u s = line_out "edition=" 1 (most_edition + 1) e put_edition u s (within_range e 1 most_edition ∙ h) line_of_edition no_task _
 
 -- the lines before it being clean
-pub quota_first : (τ : Task) → has_quota τ.edition ≡ true → front_fault τ ≡ Clean → most_quota < τ.quota → (u : List ℕ) → Stop u
+pub quota_first : (τ : Task) → has_quota τ.edition ≡ true → front_fault τ ≡ clean → most_quota < τ.quota → (u : List ℕ) → Stop u
     → verdict (front_text τ (bytes_of "quota=" ++ (digits τ.quota ++ u))) ≡ refused (OutOfRange line_of_quota)
 unfolding verdict no_task quota_line ◌▸◌
 quota_first τ second front h u s =
@@ -59,13 +60,13 @@ quota_first τ second front h u s =
     let q = τ.quota in
     let out = within_most q most_quota ∙ lt-leb q most_quota h in
     front_judged τ (replicate facts_room 0) (replicate costs_room 0) (replicate shares_room 0) (length-replicate {A = ℕ} facts_room 0) (zeros facts_room)
-    (length-replicate {A = ℕ} costs_room 0) (length-replicate {A = ℕ} shares_room 0) _ (Fault r) (refused r)
+    (length-replicate {A = ℕ} costs_room 0) (length-replicate {A = ℕ} shares_room 0) _ (Err r) (refused r)
     (λ e. second_reads _ _ line_of_quota _ _ second ∙ line_out "quota=" 0 (most_quota + 1) q put_quota u s out line_of_quota _ _)
     ∙ rw front refl
 
 -- ---- EDITION 1 SAYS NEITHER QUOTA NOR MARKS: accepted tables with another quota, and anything from the marks' first place on, have the same text
 
-module _ (t : Tables) (clean : tables_fault t ≡ Clean) (first : t.counts.edition ≡ 1) (q : ℕ) (f : List ℕ) (long : length f ≡ length t.facts)
+module _ (t : Tables) (clean : tables_fault t ≡ clean) (first : t.counts.edition ≡ 1) (q : ℕ) (f : List ℕ) (long : length f ≡ length t.facts)
     (same : (p : ℕ) → p < mark_place 0 → get_or f p 0 ≡ get_or t.facts p 0) where
   abbrev other : Tables
   other = tables (record { vars = t.counts.vars; ops = t.counts.ops; maps = t.counts.maps; edition = t.counts.edition; quota = q }) f t.costs t.shares
@@ -114,7 +115,7 @@ first_not_own τ k h o =
       mark = λ i l s e. clash s h;
     }
 
-pub first_read_zero : (x f c s : List ℕ) (n : Counts) → (read_text x f c s).answer ≡ Accepted n → n.edition ≡ 1
+pub first_read_zero : (x f c s : List ℕ) (n : Counts) → (read_text x f c s).answer ≡ Ok n → n.edition ≡ 1
     → (n.quota ≡ 0) × ((o : ℕ) → mark_at (read_text x f c s).facts o ≡ 0)
 unfolding tables_of
 first_read_zero x f c s n h e =
@@ -127,5 +128,5 @@ first_read_zero x f c s n h e =
       λ o. N.facts_beyond (mark_place o) (first_not_own τ t.2 first o),
     )
   where
-    counts_of : {a b : Counts} → Accepted a ≡ Accepted b → a ≡ b
+    counts_of : {a b : Counts} → ◌≡◌ {A = Reading} (Ok a) (Ok b) → a ≡ b
     counts_of p = cc

@@ -10,11 +10,11 @@ use lib.Dec.{eqb, leb, ltb, leb-suc-suc}
 use lib.ListN.{set}
 use lib.Seq.{get_or-set_other}
 use borrow.Author.Tests.{ne_eqb, le-leb, lt-leb, lt-ltb}
+use Rattle.scan.specs.Found.{Found}
 use Rattle.refusals.specs.declared.Refusal.{Refusal}
 use Rattle.refusals.specs.declared.Refusal.TheVariants.{OutOfRange, NotRising}
 use Rattle.meaning.specs.Limits.{most_vars}
 use Rattle.meaning.specs.Sas.{Facts}
-use Rattle.scan.specs.declared.Found.{Found}
 use Rattle.tables.specs.Layout.{Tables, dom_place, dom_at}
 use Rattle.scan.specs.Scan.{unless, ◌then◌, each}
 use Rattle.grammar.specs.Fields.{is_digit, comma, dash, colon}

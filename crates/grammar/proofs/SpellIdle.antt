@@ -9,6 +9,8 @@ use mathlib.Core.List.{List, ◌∷◌, ◌++◌}
 use mathlib.Core.Bool.{true, false}
 use mathlib.Core.Logic.{◌⊎◌}
 use lib.ListN.{replicate, length-replicate}
+use Rattle.std.specs.Prelude.{Err}
+use Rattle.scan.specs.Found.{clean}
 use Rattle.refusals.specs.declared.Refusal.{Refusal}
 use Rattle.refusals.specs.declared.Refusal.TheVariants.{OffForm, OutOfRange, IdleOperator}
 use Rattle.meaning.specs.Limits.{most_cost, most_mark}
@@ -17,7 +19,6 @@ use Rattle.meaning.specs.Split.{Task}
 use Rattle.tables.specs.Layout.{Tables, facts_room, costs_room, shares_room}
 use Rattle.tables.specs.Editions.{has_quota}
 use Rattle.tables.specs.Lines.{line_of_op}
-use Rattle.scan.specs.declared.Found.TheVariants.{Clean, Fault}
 use Rattle.scan.specs.Scan.{each, operator_fault}
 use Rattle.scan.specs.Inside.Parts.{head_fault}
 use Rattle.scan.proofs.Rules.{few_vars, few_ops, FactsOk}
@@ -37,7 +38,7 @@ use Rattle.grammar.proofs.Idle.{Lacks, mark_before_idle, no_mark_before_idle, un
 abbrev pub up_to : Task → ℕ → List ℕ → List ℕ
 up_to τ o x = head_text τ (stacked (op_line τ) o 0 ++ (bytes_of "op=" ++ x))
 
-module _ (τ : Task) (by : ByEdition τ) (o : ℕ) (head : head_fault τ ≡ Clean) (own : o < τ.sas.ops) (before : each (operator_fault τ) o 0 ≡ Clean) where
+module _ (τ : Task) (by : ByEdition τ) (o : ℕ) (head : head_fault τ ≡ clean) (own : o < τ.sas.ops) (before : each (operator_fault τ) o 0 ≡ clean) where
   abbrev line : ℕ
   line = line_of_op τ.edition o
 
@@ -69,7 +70,7 @@ module _ (τ : Task) (by : ByEdition τ) (o : ℕ) (head : head_fault τ ≡ Cle
         let lf = length-replicate {A = ℕ} facts_room 0 in
         let lc = length-replicate {A = ℕ} costs_room 0 in
         let lh = length-replicate {A = ℕ} shares_room 0 in
-        head_judged τ f c h lf (zeros facts_room) lc lh by (stacked (op_line τ) o 0 ++ (bytes_of "op=" ++ x)) (Fault r) (refused r)
+        head_judged τ f c h lf (zeros facts_room) lc lh by (stacked (op_line τ) o 0 ++ (bytes_of "op=" ++ x)) (Err r) (refused r)
         (λ e. lines_refused _ (fresh_ops τ f c h lf (zeros facts_room) lc lh (few_vars τ head) (few_ops τ head)) refl _)
         ∙ rw head refl
 

@@ -7,6 +7,8 @@ use mathlib.Core.Bool.{Bool, true, false, cond}
 use mathlib.Core.List.{List, [], ◌∷◌, ◌++◌}
 use lib.Dec.{ltb}
 use lib.ListN.{length, get_or, replicate, length-append, length-replicate}
+use Rattle.std.specs.Prelude.{Ok, Err}
+use Rattle.scan.specs.Found.{clean}
 use Rattle.refusals.specs.declared.Refusal.TheVariants.{TextTooLong, TableTooShort}
 use Rattle.meaning.specs.Limits.{most_bytes}
 use Rattle.meaning.specs.Split.{Task, Valid}
@@ -15,9 +17,7 @@ use Rattle.tables.specs.declared.Counts.{Counts}
 use Rattle.tables.specs.Layout.{Tables, facts_room, costs_room, shares_room, dom_place, init_place, goal_place, pre_place, eff_place, class_place, mark_place, share_place}
 use Rattle.tables.specs.Editions.{read_in}
 use Rattle.tables.specs.Task.{tables, task_of}
-use Rattle.scan.specs.declared.Found.TheVariants.{Clean}
 use Rattle.scan.specs.Scan.{task_fault}
-use Rattle.grammar.specs.declared.Reading.TheVariants.{Accepted, Refused}
 use Rattle.grammar.specs.Fields.{Outcome, leaves, filled, admitted}
 use Rattle.grammar.specs.Grammar.{Verdict, accepted, refused, outcome, verdict, read_text}
 use Rattle.grammar.specs.Spelling.{spelled, tables_of}
@@ -64,7 +64,7 @@ module _ (τ : Task) where
 -- what a text names: for the task τ that it spells the counts, its number in each of its own places, 0 in every other place of the lent tables, beyond the room
 -- of the largest task too, and each table as long as it was
 pub record Named (τ : Task) (f c s : List ℕ) (o : Outcome) : Type 0 where
-  pub answer : o.answer ≡ Accepted (tables_of τ).counts
+  pub answer : o.answer ≡ Ok (tables_of τ).counts
   pub own : Agree (task_of (tables (tables_of τ).counts o.facts o.costs o.shares)) τ
   pub facts_beyond : (p : ℕ) → NotOwn τ p → get_or o.facts p 0 ≡ 0
   pub costs_beyond : (i : ℕ) → τ.sas.ops ≤ i → get_or o.costs i 0 ≡ 0
@@ -75,9 +75,9 @@ pub record Named (τ : Task) (f c s : List ℕ) (o : Outcome) : Type 0 where
 
 -- ---- what is accepted was lent with room
 
-module _ (x f c s : List ℕ) (n : Counts) (h : (read_text x f c s).answer ≡ Accepted n) where
+module _ (x f c s : List ℕ) (n : Counts) (h : (read_text x f c s).answer ≡ Ok n) where
   -- the outcome has this answer, whatever it is shown to be
-  so : (o : Outcome) → read_text x f c s ≡ o → o.answer ≡ Accepted n
+  so : (o : Outcome) → read_text x f c s ≡ o → o.answer ≡ Ok n
   so o e = ap (λ (u : Outcome). u.answer) (sym e) ∙ h
 
   pub rooms : (facts_room ≤ length f) × (costs_room ≤ length c) × (shares_room ≤ length s)
@@ -88,7 +88,7 @@ module _ (x f c s : List ℕ) (n : Counts) (h : (read_text x f c s).answer ≡ A
 
   -- ---- THE TASK THAT THE TEXT SPELLS
   module _ (τ : Task) (e : x ≡ spelled τ) (by : ByEdition τ) where
-    spelled_own : (task_fault τ ≡ Clean) × (verdict x ≡ accepted (tables_of τ))
+    spelled_own : (task_fault τ ≡ clean) × (verdict x ≡ accepted (tables_of τ))
     spelled_own =
         let R = read_accepted f c s x n h in
         let v = spells_accepted x R.tables R.spells in
@@ -130,12 +130,12 @@ module _ (x f c s : List ℕ) (n : Counts) (h : (read_text x f c s).answer ≡ A
         subst (Named τ f c s) (sym (accepted_outcome x f c s n h ∙ ap (λ (v : Verdict). outcome v f c s) spelled_own.1)) named_left
 
 -- there is such a task, and it is valid: an accepted text spells one, and so has at most 10,588 bytes
-pub accepted_task_of : (x f c s : List ℕ) (n : Counts) → (read_text x f c s).answer ≡ Accepted n → (τ : Task) × (x ≡ spelled τ) × Valid τ × ByEdition τ
+pub accepted_task_of : (x f c s : List ℕ) (n : Counts) → (read_text x f c s).answer ≡ Ok n → (τ : Task) × (x ≡ spelled τ) × Valid τ × ByEdition τ
 accepted_task_of x f c s n h =
     let R = read_accepted f c s x n h in
     (task_of R.tables, sym R.spells.text, R.spells.valid, tables_by_edition R.tables)
 
-pub accepted_short : (x f c s : List ℕ) (n : Counts) → (read_text x f c s).answer ≡ Accepted n → length x ≤ 10588
+pub accepted_short : (x f c s : List ℕ) (n : Counts) → (read_text x f c s).answer ≡ Ok n → length x ≤ 10588
 accepted_short x f c s n h =
     let t = accepted_task_of x f c s n h in
     subst (λ (y : List ℕ). length y ≤ 10588) (sym t.1) (spelled_short t.0 t.2)
@@ -150,10 +150,10 @@ module _ (x f f' c c' s s' : List ℕ) (p : length f ≡ length f') (q : length 
 
   -- by the four tests before the text
   tested_answer : (a b d e : Bool) (o u : Outcome) → o.answer ≡ u.answer
-      → (cond a (leaves (Refused TableTooShort) f c s)
-      (cond b (leaves (Refused TableTooShort) f c s) (cond d (leaves (Refused TableTooShort) f c s) (cond e (leaves (Refused TextTooLong) f c s) o)))).answer
-      ≡ (cond a (leaves (Refused TableTooShort) f' c' s')
-      (cond b (leaves (Refused TableTooShort) f' c' s') (cond d (leaves (Refused TableTooShort) f' c' s') (cond e (leaves (Refused TextTooLong) f' c' s') u)))).answer
+      → (cond a (leaves (Err TableTooShort) f c s)
+      (cond b (leaves (Err TableTooShort) f c s) (cond d (leaves (Err TableTooShort) f c s) (cond e (leaves (Err TextTooLong) f c s) o)))).answer
+      ≡ (cond a (leaves (Err TableTooShort) f' c' s')
+      (cond b (leaves (Err TableTooShort) f' c' s') (cond d (leaves (Err TableTooShort) f' c' s') (cond e (leaves (Err TextTooLong) f' c' s') u)))).answer
   tested_answer true b d e o u h = refl
   tested_answer false true d e o u h = refl
   tested_answer false false true e o u h = refl
@@ -167,7 +167,7 @@ module _ (x f f' c c' s s' : List ℕ) (p : length f ≡ length f') (q : length 
       (tested_answer (ltb (length f') facts_room) (ltb (length c') costs_room) (ltb (length s') shares_room) (ltb most_bytes (length x)) (outcome (verdict x) f c s) (outcome (verdict x) f' c' s')
       (outcome_answer (verdict x)))
 
-  pub read_accepted_same : (n : Counts) → (read_text x f c s).answer ≡ Accepted n → read_text x f c s ≡ read_text x f' c' s'
+  pub read_accepted_same : (n : Counts) → (read_text x f c s).answer ≡ Ok n → read_text x f c s ≡ read_text x f' c' s'
   unfolding outcome filled
   read_accepted_same n h =
       let R = read_accepted f c s x n h in

@@ -8,10 +8,10 @@ use mathlib.Core.List.{List, [], ◌∷◌, ◌++◌}
 use mathlib.Core.Bool.{Bool, true, false, ◌&&◌, not, cond}
 use lib.Dec.{leb, ltb, leb-suc-suc}
 use lib.ListN.{set}
+use Rattle.scan.specs.Found.{Found}
 use Rattle.refusals.specs.declared.Refusal.TheVariants.{OutOfRange, IdleOperator}
 use Rattle.meaning.specs.Views.{idle}
 use Rattle.meaning.specs.Split.{Task}
-use Rattle.scan.specs.declared.Found.{Found}
 use Rattle.tables.specs.Layout.{Tables, dom_at, dom_place, init_place, goal_place, share_place}
 use Rattle.scan.specs.Scan.{unless, ◌then◌, each, facts_fault, operator_fault, map_fault, shares_fault, within as scanWithin}
 use Rattle.scan.proofs.Walks.{then_then}

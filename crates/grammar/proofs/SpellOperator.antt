@@ -8,6 +8,7 @@ use mathlib.Core.List.{List, [], ◌∷◌, ◌++◌}
 use mathlib.Core.Bool.{true, not}
 use lib.Dec.{leb}
 use lib.ListN.{length}
+use Rattle.scan.specs.Found.{Found}
 use Rattle.refusals.specs.declared.Refusal.TheVariants.{OutOfRange, IdleOperator}
 use Rattle.meaning.specs.Limits.{most_vars, most_cost, most_ops, most_mark}
 use Rattle.meaning.specs.Sas.{Facts}
@@ -17,7 +18,6 @@ use Rattle.meaning.proofs.Facts.{every_same, by_cases}
 use Rattle.tables.specs.Layout.{Tables, facts_room, pre_place, eff_place, mark_place, pre_at, eff_at}
 use Rattle.tables.specs.Editions.{has_quota}
 use Rattle.tables.specs.Task.{sas_of}
-use Rattle.scan.specs.declared.Found.{Found}
 use Rattle.scan.specs.Scan.{unless, ◌then◌, facts_fault}
 use Rattle.grammar.specs.Fields.{is_digit, dash, semicolon}
 use Rattle.grammar.specs.Grammar.{Rest, Part, ◌▸◌, nothing, ask, keep, demand, lit, choice, numeral, fact_list, put_fact, put_cost, mark_field}

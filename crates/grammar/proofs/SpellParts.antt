@@ -9,10 +9,10 @@ use mathlib.Core.Path.{◌≡◌, refl, sym, ap, ap₂, ◌∙◌, subst}
 use mathlib.Core.List.{List, [], ◌∷◌, ◌++◌, append_assoc}
 use mathlib.Core.Bool.{Bool, true, false}
 use borrow.Author.Tests.{eq-eqb}
+use Rattle.std.specs.Prelude.{Ok, Err}
+use Rattle.scan.specs.Found.{Found, clean}
 use Rattle.refusals.specs.declared.Refusal.{Refusal}
 use Rattle.refusals.specs.declared.Refusal.TheVariants.{OutOfRange}
-use Rattle.scan.specs.declared.Found.{Found}
-use Rattle.scan.specs.declared.Found.TheVariants.{Clean, Fault}
 use Rattle.tables.specs.Layout.{Tables}
 use Rattle.scan.specs.Scan.{unless, ◌then◌, each}
 use Rattle.grammar.specs.Fields.{is_digit, bytes_of, line_end, comma}
@@ -23,24 +23,24 @@ use Rattle.grammar.proofs.Decimal.{digits_read}
 
 -- the verdict where a rule comes first
 abbrev pub judged : Found → Verdict → Verdict
-judged Clean A = A
-judged (Fault r) A = refused r
+judged (Ok tt) A = A
+judged (Err r) A = refused r
 
 -- by what the rule is found to be
 pub judged_by : {f g : Found} (A : Verdict) → f ≡ g → judged f A ≡ judged g A
 judged_by A e = ap (λ (f : Found). judged f A) e
 
 -- what follows counts only if the rule holds
-pub judged_on : (f : Found) {A B : Verdict} → (f ≡ Clean → A ≡ B) → judged f A ≡ judged f B
-judged_on Clean h = h refl
-judged_on (Fault r) h = refl
+pub judged_on : (f : Found) {A B : Verdict} → (f ≡ clean → A ≡ B) → judged f A ≡ judged f B
+judged_on (Ok tt) h = h refl
+judged_on (Err r) h = refl
 
 pub judged_then : (f g : Found) (A : Verdict) → judged (f then g) A ≡ judged f (judged g A)
-judged_then Clean g A = refl
-judged_then (Fault r) g A = refl
+judged_then (Ok tt) g A = refl
+judged_then (Err r) g A = refl
 
 -- one rule, and then, if it holds, another
-pub next : {A B : Verdict} (f g : Found) (C : Verdict) → A ≡ judged f B → (f ≡ Clean → B ≡ judged g C) → A ≡ judged (f then g) C
+pub next : {A B : Verdict} (f g : Found) (C : Verdict) → A ≡ judged f B → (f ≡ clean → B ≡ judged g C) → A ≡ judged (f then g) C
 next f g C p q = p ∙ judged_on f q ∙ sym (judged_then f g C)
 
 -- the part p on xs and what follows it: the rule f, and if it holds what follows goes on with the tables U

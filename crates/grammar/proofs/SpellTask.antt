@@ -7,12 +7,12 @@ use mathlib.Core.List.{List, [], ◌++◌, append_assoc, append-nil}
 use mathlib.Core.Bool.{true}
 use lib.Dec.{leb, ltb}
 use lib.ListN.{length, get_or, set, replicate, length-replicate}
+use Rattle.std.specs.Prelude.{Ok, Err}
+use Rattle.scan.specs.Found.{Found, clean}
 use Rattle.meaning.specs.Limits.{most_vars, most_values, most_ops, most_maps, most_edition, most_quota}
 use Rattle.refusals.specs.declared.Refusal.{Refusal}
 use Rattle.refusals.specs.declared.Refusal.TheVariants.{OutOfRange, SharesAboveCost}
 use Rattle.meaning.specs.Split.{Task}
-use Rattle.scan.specs.declared.Found.{Found}
-use Rattle.scan.specs.declared.Found.TheVariants.{Clean, Fault}
 use Rattle.tables.specs.Layout.{Tables, facts_room, costs_room, shares_room, dom_place, init_place, goal_place, pre_place, eff_place, share_place, share_at}
 use Rattle.tables.specs.Editions.{read_in}
 use Rattle.tables.specs.Task.{task_of, tables}
@@ -39,8 +39,8 @@ use Rattle.tables.specs.Lines.{line_of_edition, line_of_vars, line_of_dom, line_
 
 settled_judged : (f : Found) (T : Tables) → settled f T ≡ judged f (accepted T)
 unfolding settled
-settled_judged Clean T = refl
-settled_judged (Fault r) T = refl
+settled_judged (Ok tt) T = refl
+settled_judged (Err r) T = refl
 
 -- ---- the lines of one kind
 
@@ -163,7 +163,7 @@ module _ (τ : Task) where
 
 -- ---- the whole text
 
-pub at_most : (least most x : ℕ) (r : Refusal) → unless (scanWithin least most x) r ≡ Clean → x ≤ most
+pub at_most : (least most x : ℕ) (r : Refusal) → unless (scanWithin least most x) r ≡ clean → x ≤ most
 at_most least most x r q = (within_says least most x (rule_held (scanWithin least most x) r q)).1
 
 -- what the scan says of each line before the operators
@@ -259,7 +259,7 @@ module _ (τ : Task) (f c h : List ℕ) (lf : length f ≡ facts_room) (none : (
   from_ops rest = (op_lines ▸ maps_line ▸ map_lines ▸ share_lines) rest (line_of_op τ.edition 0) (sofar τ τ.sas.ops 0 head_done c h) the_end
 
   -- the lines before it, whatever is judged then
-  pub front_judged : (rest : List ℕ) (F : Found) (A : Verdict) → (front_fault τ ≡ Clean → from_quota rest ≡ judged F A)
+  pub front_judged : (rest : List ℕ) (F : Found) (A : Verdict) → (front_fault τ ≡ clean → from_quota rest ≡ judged F A)
       → task_lines (front_text τ rest) line_of_edition (made 0 0 0 0 0 f c h) the_end ≡ judged (front_fault τ then F) A
   unfolding task_lines head_rows ◌▸◌
   front_judged rest F A ok =
@@ -276,7 +276,7 @@ module _ (τ : Task) (f c h : List ℕ) (lf : length f ≡ facts_room) (none : (
 
   module _ (by : ByEdition τ) where
     -- the lines before the operators
-    pub head_judged : (rest : List ℕ) (F : Found) (A : Verdict) → (head_fault τ ≡ Clean → from_ops rest ≡ judged F A)
+    pub head_judged : (rest : List ℕ) (F : Found) (A : Verdict) → (head_fault τ ≡ clean → from_ops rest ≡ judged F A)
         → task_lines (head_text τ rest) line_of_edition (made 0 0 0 0 0 f c h) the_end ≡ judged (head_fault τ then F) A
     unfolding head_fault ◌▸◌
     head_judged rest F A ok =
@@ -324,7 +324,7 @@ spelled_judged τ by =
 pub scan_is_grammar : (t : Tables) → verdict (text_of t) ≡ judged (task_fault (task_of t)) (accepted (canon t))
 scan_is_grammar t = spelled_judged (task_of t) (tables_by_edition t)
 
-pub clean_accepted : (t : Tables) → task_fault (task_of t) ≡ Clean → verdict (text_of t) ≡ accepted (canon t)
+pub clean_accepted : (t : Tables) → task_fault (task_of t) ≡ clean → verdict (text_of t) ≡ accepted (canon t)
 clean_accepted t p = scan_is_grammar t ∙ judged_by (accepted (canon t)) p
 
 -- with room for a task the whole judgement of handed-in tables is that of the text

@@ -5,15 +5,14 @@ use native.Mathlib.Omega.{arith}
 use mathlib.Core.Path.{◌≡◌, refl, sym, ap, ◌∙◌}
 use mathlib.Core.List.{List}
 use lib.ListN.{length}
+use Rattle.std.specs.Prelude.{Ok, Err}
+use Rattle.scan.specs.Found.{Found}
 use Rattle.meaning.proofs.Facts.{by_order}
 use Rattle.tables.specs.Layout.{Tables}
 use Rattle.tables.specs.Task.{task_of}
-use Rattle.scan.specs.declared.Found.{Found}
-use Rattle.scan.specs.declared.Found.TheVariants.{Clean, Fault}
 use Rattle.scan.specs.Scan.{tables_fault}
 use Rattle.scan.specs.Own.{OwnSame}
 use Rattle.scan.proofs.Unread.{own_alike}
-use Rattle.grammar.specs.declared.Written.TheVariants.{Length}
 use Rattle.grammar.specs.Spelling.{text_of}
 use Rattle.grammar.specs.Writing.{text_room, page, over, write_text}
 use Rattle.grammar.proofs.SpellAccepted.{Agree, agree_spelled}
@@ -50,6 +49,6 @@ module _ (t u : Tables) (O : OwnSame t u) where
       same = sym (own_alike t u O).fault
 
       found : text_room ≤ length b → (f : Found) → tables_fault t ≡ f → write_text t b ≡ write_text u b
-      found l Clean e =
-          tables_written t b l e ∙ ap (λ (x : List ℕ). page (Length (length x)) (over x b)) own_text ∙ sym (tables_written u b l (same ∙ e))
-      found l (Fault r) e = fault_told t b l r e ∙ sym (fault_told u b l r (same ∙ e))
+      found l (Ok tt) e =
+          tables_written t b l e ∙ ap (λ (x : List ℕ). page (Ok (length x)) (over x b)) own_text ∙ sym (tables_written u b l (same ∙ e))
+      found l (Err r) e = fault_told t b l r e ∙ sym (fault_told u b l r (same ∙ e))

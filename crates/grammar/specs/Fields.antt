@@ -1,12 +1,11 @@
 -- What the grammar of the task text and the spelling share: the bytes; and what a reading leaves behind.
-use Rattle.std.specs.Prelude.{ℕ, ◌-◌, List, [], ◌∷◌, ◌++◌, Bool, false, cond, length, replicate, ltb, leb}
+use Rattle.grammar.specs.Readings.{Reading}
+use Rattle.std.specs.Prelude.{ℕ, ◌-◌, List, [], ◌∷◌, ◌++◌, Bool, false, cond, length, replicate, ltb, leb, Err}
 use Prim.Native.Char.{code}
 use Prim.Native.String.{String, [] as []ˢ, ◌∷◌ as ◌∷ˢ◌}
 use Rattle.refusals.specs.declared.Refusal.TheVariants.{TextTooLong, TableTooShort}
 use Rattle.meaning.specs.Limits.{most_bytes}
 use Rattle.tables.specs.Layout.{facts_room, costs_room, shares_room}
-use Rattle.grammar.specs.declared.Reading.{Reading}
-use Rattle.grammar.specs.declared.Reading.TheVariants.{Refused}
 
 -- the bytes 0 to 9
 abbrev pub zero_digit : ℕ
@@ -60,9 +59,9 @@ filled room xs lent = xs ++ replicate (length lent - room) 0
 unfoldable pub admitted : List ℕ → List ℕ → List ℕ → List ℕ → Outcome → Outcome
 admitted text f c s o =
     cond (ltb (length f) facts_room)
-    (leaves (Refused TableTooShort) f c s)
+    (leaves (Err TableTooShort) f c s)
     (cond (ltb (length c) costs_room)
-    (leaves (Refused TableTooShort) f c s)
+    (leaves (Err TableTooShort) f c s)
     (cond (ltb (length s) shares_room)
-    (leaves (Refused TableTooShort) f c s)
-    (cond (ltb most_bytes (length text)) (leaves (Refused TextTooLong) f c s) o)))
+    (leaves (Err TableTooShort) f c s)
+    (cond (ltb most_bytes (length text)) (leaves (Err TextTooLong) f c s) o)))

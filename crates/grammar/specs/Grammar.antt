@@ -1,5 +1,6 @@
 -- The task text as a grammar, from left to right, the first fault deciding.
-use Rattle.std.specs.Prelude.{ℕ, zero, suc, ◌+◌, ◌-◌, ◌*◌, List, [], ◌∷◌, Bool, true, false, not, cond, get_or, set, take, drop, replicate, ltb, leb, eqb}
+use Rattle.scan.specs.Found.{Found}
+use Rattle.std.specs.Prelude.{ℕ, zero, suc, ◌+◌, ◌-◌, ◌*◌, List, [], ◌∷◌, Bool, true, false, not, cond, get_or, set, take, drop, replicate, ltb, leb, eqb, Ok, Err}
 use Prim.Native.String.{String}
 use Rattle.refusals.specs.declared.Refusal.{Refusal}
 use Rattle.refusals.specs.declared.Refusal.TheVariants.{
@@ -28,15 +29,12 @@ use Rattle.tables.specs.Layout.{
 }
 use Rattle.tables.specs.Editions.{has_quota}
 use Rattle.tables.specs.declared.Counts.{Counts}
-use Rattle.grammar.specs.declared.Reading.TheVariants.{Accepted, Refused}
 use Rattle.grammar.specs.Fields.{zero_digit, is_digit, bytes_of, line_end, comma, dash, slash, colon, semicolon, Outcome, leaves, filled, admitted}
 use Rattle.meaning.specs.Limits.{most_vars, most_values, most_ops, most_cost, most_maps, most_states, most_edition, most_quota, most_mark}
 use Rattle.meaning.specs.Views.{abstract_states, idle}
 use Rattle.meaning.specs.Split.{view}
 use Rattle.tables.specs.Task.{sas_of, task_of}
 use Rattle.tables.specs.Classes.{none_missing}
-use Rattle.scan.specs.declared.Found.{Found}
-use Rattle.scan.specs.declared.Found.TheVariants.{Clean, Fault}
 use Rattle.scan.specs.Scan.{each, split_fault}
 
 -- accepted with the task's tables, or refused
@@ -278,8 +276,8 @@ task_lines =
 
 -- after all else: no operator's shares total more than its cost
 unfoldable pub settled : Found → Tables → Verdict
-settled Clean T = accepted T
-settled (Fault r) T = refused r
+settled (Ok tt) T = accepted T
+settled (Err r) T = refused r
 
 -- after the last line nothing stands
 unfoldable pub the_end : Rest
@@ -302,8 +300,8 @@ verdict text = task_lines text 1 no_task the_end
 -- a refusal leaves every lent table as it was; an accepted task fills them
 unfoldable pub outcome : Verdict → List ℕ → List ℕ → List ℕ → Outcome
 outcome (accepted T) f c s =
-    leaves (Accepted T.counts) (filled facts_room T.facts f) (filled costs_room T.costs c) (filled shares_room T.shares s)
-outcome (refused r) f c s = leaves (Refused r) f c s
+    leaves (Ok T.counts) (filled facts_room T.facts f) (filled costs_room T.costs c) (filled shares_room T.shares s)
+outcome (refused r) f c s = leaves (Err r) f c s
 
 -- THE READER: what it answers to a text, and what it leaves in the lent tables
 unfoldable pub read_text : List ℕ → List ℕ → List ℕ → List ℕ → Outcome

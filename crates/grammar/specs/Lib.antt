@@ -1,3 +1,4 @@
+pub mod Readings
 pub mod Fields
 pub mod Grammar
 pub mod Spelling

@@ -1,13 +1,11 @@
 -- The text written back: what the writer answers to lent tables and a lent buffer, and what it leaves in the buffer.
-use Rattle.std.specs.Prelude.{ℕ, List, ◌++◌, length, drop, leb}
+use Rattle.grammar.specs.Readings.{Written}
+use Rattle.scan.specs.Found.{Found}
+use Rattle.std.specs.Prelude.{ℕ, List, ◌++◌, length, drop, leb, Ok, Err}
 use Rattle.refusals.specs.declared.Refusal.TheVariants.{TableTooShort}
 use Rattle.meaning.specs.Limits.{most_bytes}
 use Rattle.tables.specs.Layout.{Tables}
-use Rattle.scan.specs.declared.Found.{Found}
-use Rattle.scan.specs.declared.Found.TheVariants.{Clean, Fault}
 use Rattle.scan.specs.Scan.{unless, ◌then◌, tables_fault}
-use Rattle.grammar.specs.declared.Written.{Written}
-use Rattle.grammar.specs.declared.Written.TheVariants.{Length, Refused}
 use Rattle.grammar.specs.Spelling.{text_of}
 
 -- the places that a lent buffer needs, whatever the task: as many as a text may have bytes
@@ -32,8 +30,8 @@ write_fault t buffer = unless (leb text_room (length buffer)) TableTooShort then
 
 -- the text's length and the text in the buffer; a refusal leaves every place of it as it was
 unfoldable pub on_page : Found → List ℕ → List ℕ → Page
-on_page Clean text buffer = page (Length (length text)) (over text buffer)
-on_page (Fault r) text buffer = page (Refused r) buffer
+on_page (Ok tt) text buffer = page (Ok (length text)) (over text buffer)
+on_page (Err r) text buffer = page (Err r) buffer
 
 -- THE WRITER: what it answers to lent tables, and what it leaves in the lent buffer
 unfoldable pub write_text : Tables → List ℕ → Page

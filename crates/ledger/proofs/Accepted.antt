@@ -1,44 +1,39 @@
 -- What an answer follows from; that only the rules of the next number accept an offer or refuse it with 19; and what an accepted offer had. Assumes nothing.
 use Prim.Native.Nat.{ℕ, ◌+◌, ◌-◌, ◌≤◌, ◌<◌}
-use mathlib.Core.Path.{◌≡◌, refl, ap, sym, ◌∙◌}
+use mathlib.Core.Path.{◌≡◌, refl, ap, sym, ◌∙◌, subst}
 use mathlib.Core.Logic.{inl, inr}
 use mathlib.Core.Bool.{Bool, true, false, ◌||◌, cond, false≢true}
 use native.Mathlib.Omega.{arith}
 use lib.Dec.{ltb, leb, eqb}
 use lib.ListN.{get_or}
 use borrow.Author.Tests.{leb-false, ltb-false}
+use Rattle.scan.specs.Found.{Found, clean}
+use Rattle.std.specs.Prelude.{Result, Ok, Err}
 use Rattle.refusals.specs.declared.Refusal.{Refusal}
-use Rattle.refusals.specs.declared.Refusal.TheVariants.{NoSuchOperator, MayNotRun, NotTheNext, OtherOperator, RunFull, NotARun, BeyondQuota}
+use Rattle.refusals.specs.declared.Refusal.TheVariants.{NoSuchOperator, NotTheNext, OtherOperator, NotARun}
 use Rattle.refusals.specs.Listed.{number_of}
 use Rattle.meaning.specs.Limits.{most_steps}
-use Rattle.scan.specs.declared.Found.{Found}
-use Rattle.scan.specs.declared.Found.TheVariants.{Clean, Fault}
 use Rattle.scan.specs.Scan.{tables_fault}
 use Rattle.scan.proofs.Numbers.{OfTables, tables_refused}
 use Rattle.tables.specs.Layout.{Tables}
 use Rattle.ledger.specs.declared.Run.{Run}
 use Rattle.ledger.specs.declared.Answer.{Answer}
-use Rattle.ledger.specs.declared.Answer.TheVariants.{Accepted, Repeated, Refused}
-use Rattle.ledger.specs.Ledger.{can_run, within_quota, is_run, old_step, next_step, offer_judged, refused_or, answered, advanced, moved, offered}
+use Rattle.ledger.specs.declared.Answer.TheVariants.{Accepted, Repeated}
+use Rattle.ledger.specs.Ledger.{can_run, within_quota, is_run, old_step, next_step, offer_judged, refused_or, run_answered, answered, advanced, moved, offered}
 use Rattle.ledger.proofs.Answers.{next_cases, judged_next}
 
--- ---- answers told apart by a number
-
--- accepted is 0, a repeat 1, and a refusal the number on the list, which is more for all that an offer is refused with
-abbrev pub told : Answer → ℕ
-told Accepted = 0
-told Repeated = 1
-told (Refused f) = number_of f
-
-pub not_refused : (f : Refusal) → Refused f ≡ Accepted → ⊥
-not_refused f e = let z : ◌≡◌ {A = ℕ} 0 1 = cc in omega arith
-
 -- LATE: accepted, or refused with a number above all that tables, runs and old numbers get: only the rules of the next number answer so
-abbrev pub Late : Answer → Type 0
-Late w = 1 ≤ told w → 18 < told w
+abbrev pub Late : Result Answer Refusal → Type 0
+Late (Ok Accepted) = Unit {0}
+Late (Ok Repeated) = ⊥
+Late (Err f) = 18 < number_of f
 
-apart : (x w : Answer) → Late w → 1 ≤ told x → told x ≤ 18 → x ≡ w → ⊥
-apart x w late low high e = let h = ap told e in let g : 18 < told w = late (omega arith) in omega arith
+apart : (f : Refusal) (w : Result Answer Refusal) → Late w → number_of f ≤ 18 → Err f ≡ w → ⊥
+apart f (Ok a) late low e = cc
+apart f (Err g) late low e = let same : f ≡ g = cc in omega (arith, ap number_of same, late)
+
+not_repeated : (w : Result Answer Refusal) → Late w → Ok Repeated ≡ w → ⊥
+not_repeated w late e = subst Late (sym e) late
 
 -- what tables are refused with is neither late nor 17
 pub tables_other : (f : Refusal) → OfTables f → (1 ≤ number_of f) × (number_of f ≤ 18) × (number_of f ≡ 17 → ⊥)
@@ -51,15 +46,15 @@ tables_other f (inr (inr (inr (inr (inr e))))) = (omega arith, omega arith, λ q
 
 -- ---- a late answer passed by every rule before it
 
-no_fault : (x : Found) (a w : Answer) → ((f : Refusal) → x ≡ Fault f → Refused f ≡ w → ⊥) → refused_or x a ≡ w → (x ≡ Clean) × (a ≡ w)
-no_fault Clean a w not e = (refl, e)
-no_fault (Fault f) a w not e = absurd (not f refl e)
+no_fault : (x : Found) (a w : Result Answer Refusal) → ((f : Refusal) → x ≡ Err f → Err f ≡ w → ⊥) → refused_or x a ≡ w → (x ≡ clean) × (a ≡ w)
+no_fault (Ok tt) a w not e = (refl, e)
+no_fault (Err f) a w not e = absurd (not f refl e)
 
-held : (b : Bool) (a x w : Answer) → (x ≡ w → ⊥) → cond b a x ≡ w → (b ≡ true) × (a ≡ w)
+held : (b : Bool) (a x w : Result Answer Refusal) → (x ≡ w → ⊥) → cond b a x ≡ w → (b ≡ true) × (a ≡ w)
 held true a x w not e = (refl, e)
 held false a x w not e = absurd (not e)
 
-passed : (b : Bool) (x a w : Answer) → (x ≡ w → ⊥) → cond b x a ≡ w → (b ≡ false) × (a ≡ w)
+passed : (b : Bool) (x a w : Result Answer Refusal) → (x ≡ w → ⊥) → cond b x a ≡ w → (b ≡ false) × (a ≡ w)
 passed true x a w not e = absurd (not e)
 passed false x a w not e = (refl, e)
 
@@ -68,47 +63,51 @@ neither true b e = absurd (false≢true (sym e))
 neither false b e = e
 
 module _ (t : Tables) (r : Run) (number o : ℕ) where
-  pub answered_fault : (f : Refusal) → tables_fault t ≡ Fault f → Refused f ≡ answered t r number o
+  pub answered_fault : (f : Refusal) → tables_fault t ≡ Err f → Err f ≡ answered t r number o
   unfolding answered
   answered_fault f p = rw p refl
 
-  pub answered_not_a_run : tables_fault t ≡ Clean → is_run t r ≡ false → Refused NotARun ≡ answered t r number o
+  pub answered_clean : tables_fault t ≡ clean → run_answered t r number o ≡ answered t r number o
+  unfolding answered
+  answered_clean p = rw p refl
+
+  pub answered_not_a_run : tables_fault t ≡ clean → is_run t r ≡ false → Err NotARun ≡ answered t r number o
   unfolding answered
   answered_not_a_run p q = rw (p, q) refl
 
-  pub answered_judged : tables_fault t ≡ Clean → is_run t r ≡ true → offer_judged t.counts t.facts r number o ≡ answered t r number o
+  pub answered_judged : tables_fault t ≡ clean → is_run t r ≡ true → offer_judged t.counts t.facts r number o ≡ answered t r number o
   unfolding answered
   answered_judged p q = rw (p, q) refl
 
   -- what a late answer had, and what the next number was answered
-  pub record AtNext (w : Answer) : Type 0 where
-    pub clean : tables_fault t ≡ Clean
+  pub record AtNext (w : Result Answer Refusal) : Type 0 where
+    pub clean : tables_fault t ≡ clean
     pub run : is_run t r ≡ true
     pub exists : o < t.counts.ops
     pub next : number ≡ r.len + 1
     pub answer : next_step t.counts t.facts r number o ≡ w
 
-  old_apart : (w : Answer) → Late w → old_step r number o ≡ w → ⊥
+  old_apart : (w : Result Answer Refusal) → Late w → old_step r number o ≡ w → ⊥
   unfolding old_step
   old_apart w late e =
-      let other = held (eqb (get_or r.log (number - 1) 0) o) Repeated (Refused (OtherOperator number)) w
-      (apart (Refused (OtherOperator number)) w late (omega arith) (omega arith)) e in
-      apart Repeated w late (omega arith) (omega arith) other.1
+      let other = held (eqb (get_or r.log (number - 1) 0) o) (Ok Repeated) (Err (OtherOperator number)) w
+      (apart (OtherOperator number) w late (omega arith)) e in
+      not_repeated w late other.1
 
-  pub late_next : (w : Answer) → Late w → answered t r number o ≡ w → AtNext w
+  pub late_next : (w : Result Answer Refusal) → Late w → answered t r number o ≡ w → AtNext w
   unfolding answered offer_judged
   late_next w late e =
       let judged = offer_judged t.counts t.facts r number o in
       let next = next_step t.counts t.facts r number o in
       let old = cond (leb number r.len) (old_step r number o) next in
       let beyond = eqb number 0 || ltb (r.len + 1) number in
-      let early : (f : Refusal) → (1 ≤ number_of f) × (number_of f ≤ 18) → Refused f ≡ w → ⊥ = λ f h. apart (Refused f) w late h.0 h.1 in
-      let found = no_fault (tables_fault t) (cond (is_run t r) judged (Refused NotARun)) w (λ f p. let n = tables_other f (tables_refused t f p) in early f (n.0, n.1)) e in
-      let run = held (is_run t r) judged (Refused NotARun) w (early NotARun (omega arith, omega arith)) found.1 in
+      let early : (f : Refusal) → number_of f ≤ 18 → Err f ≡ w → ⊥ = λ f h. apart f w late h in
+      let found = no_fault (tables_fault t) (cond (is_run t r) judged (Err NotARun)) w (λ f p. early f (tables_other f (tables_refused t f p)).1) e in
+      let run = held (is_run t r) judged (Err NotARun) w (early NotARun (omega arith)) found.1 in
       let exists =
-      passed (leb t.counts.ops o) (Refused (NoSuchOperator number)) (cond beyond (Refused (NotTheNext number)) old) w
-      (early (NoSuchOperator number) (omega arith, omega arith)) run.1 in
-      let near = passed beyond (Refused (NotTheNext number)) old w (early (NotTheNext number) (omega arith, omega arith)) exists.1 in
+      passed (leb t.counts.ops o) (Err (NoSuchOperator number)) (cond beyond (Err (NotTheNext number)) old) w
+      (early (NoSuchOperator number) (omega arith)) run.1 in
+      let near = passed beyond (Err (NotTheNext number)) old w (early (NotTheNext number) (omega arith)) exists.1 in
       let new = passed (leb number r.len) (old_step r number o) next w (old_apart w late) near.1 in
       record {
         clean = found.0;
@@ -124,7 +123,7 @@ module _ (t : Tables) (r : Run) (number o : ℕ) where
       }
 
   -- the other way
-  pub next_late : (w : Answer) → AtNext w → w ≡ answered t r number o
+  pub next_late : (w : Result Answer Refusal) → AtNext w → w ≡ answered t r number o
   next_late w at =
       judged_next t.counts t.facts r number o at.exists (λ z. omega (arith, at.next)) w (omega (arith, at.next)) (omega (arith, at.next))
       (sym at.answer)
@@ -133,7 +132,7 @@ module _ (t : Tables) (r : Run) (number o : ℕ) where
   -- ---- what an accepted offer had
 
   pub record Had : Type 0 where
-    pub clean : tables_fault t ≡ Clean
+    pub clean : tables_fault t ≡ clean
     pub run : is_run t r ≡ true
     pub exists : o < t.counts.ops
     pub next : number ≡ r.len + 1
@@ -141,16 +140,15 @@ module _ (t : Tables) (r : Run) (number o : ℕ) where
     pub can : can_run t.counts t.facts r.now o ≡ true
     pub keeps : within_quota t.counts t.facts r.columns o ≡ true
 
-  pub accepted_had : answered t r number o ≡ Accepted → Had
+  pub accepted_had : answered t r number o ≡ Ok Accepted → Had
   accepted_had e =
-      let at = late_next Accepted (λ h. omega arith) e in
+      let at = late_next (Ok Accepted) tt e in
       let tests =
       next_cases t.counts t.facts r number o
       (λ x.
-      x ≡ Accepted
+      x ≡ Ok Accepted
       → (r.len < most_steps) × (can_run t.counts t.facts r.now o ≡ true) × (within_quota t.counts t.facts r.columns o ≡ true))
-      (λ g e. absurd (not_refused (RunFull number) e)) (λ l p e. absurd (not_refused (MayNotRun number) e))
-      (λ l p q e. absurd (not_refused (BeyondQuota number) e)) (λ l p q e. (l, p, q)) at.answer in
+      (λ g e. cc) (λ l p e. cc) (λ l p q e. cc) (λ l p q e. (l, p, q)) at.answer in
       record {
         clean = at.clean;
         run = at.run;
@@ -163,15 +161,15 @@ module _ (t : Tables) (r : Run) (number o : ℕ) where
 
   -- ---- the run that an offer hands back
 
-  pub offer_runs : answered t r number o ≡ Accepted → (offered t r number o).run ≡ advanced t r o
+  pub offer_runs : answered t r number o ≡ Ok Accepted → (offered t r number o).run ≡ advanced t r o
   unfolding offered
   offer_runs e = rw e refl
 
-  pub offer_stays : (answered t r number o ≡ Accepted → ⊥) → (offered t r number o).run ≡ r
+  pub offer_stays : (answered t r number o ≡ Ok Accepted → ⊥) → (offered t r number o).run ≡ r
   unfolding offered
   offer_stays h = stays (answered t r number o) h
     where
-      stays : (x : Answer) → (x ≡ Accepted → ⊥) → moved t r o x ≡ r
-      stays Accepted h = absurd (h refl)
-      stays Repeated h = refl
-      stays (Refused f) h = refl
+      stays : (x : Result Answer Refusal) → (x ≡ Ok Accepted → ⊥) → moved t r o x ≡ r
+      stays (Ok Accepted) h = absurd (h refl)
+      stays (Ok Repeated) h = refl
+      stays (Err f) h = refl

@@ -7,6 +7,8 @@ use native.Mathlib.Omega.{arith}
 use lib.Dec.{ltb, eqb}
 use lib.ListN.{get_or}
 use borrow.Author.Tests.{lt-ltb, le-ltb, le-leb, lt-leb, eq-eqb, ne_eqb}
+use Rattle.std.specs.Prelude.{Result, Ok, Err}
+use Rattle.refusals.specs.declared.Refusal.{Refusal}
 use Rattle.refusals.specs.declared.Refusal.TheVariants.{NoSuchOperator, MayNotRun, NotTheNext, OtherOperator, RunFull, BeyondQuota}
 use Rattle.meaning.specs.Columns.{stored_tests}
 use Rattle.meaning.specs.Quota.{may_store}
@@ -19,7 +21,7 @@ use Rattle.tables.proofs.Meant.{can_store_is}
 use Rattle.ledger.specs.declared.Run.{Run}
 use Rattle.ledger.specs.declared.replay.Standing.{Standing}
 use Rattle.ledger.specs.declared.Answer.{Answer}
-use Rattle.ledger.specs.declared.Answer.TheVariants.{Accepted, Repeated, Refused}
+use Rattle.ledger.specs.declared.Answer.TheVariants.{Accepted, Repeated}
 use Rattle.meaning.specs.Limits.{most_steps}
 use Rattle.ledger.specs.Ledger.{can_run, within_quota, can_follow, start_at, old_step, next_step, offer_judged}
 
@@ -77,39 +79,39 @@ module _ (c : Counts) (facts : List ℕ) (x : Standing) (o : ℕ) where
 -- ---- an old number, the next number
 
 module _ (r : Run) (number o : ℕ) where
-  pub old_same : get_or r.log (number - 1) 0 ≡ o → Repeated ≡ old_step r number o
+  pub old_same : get_or r.log (number - 1) 0 ≡ o → Ok Repeated ≡ old_step r number o
   unfolding old_step
   old_same e = rw (eq-eqb (get_or r.log (number - 1) 0) o e) refl
 
-  pub old_other : (get_or r.log (number - 1) 0 ≡ o → ⊥) → Refused (OtherOperator number) ≡ old_step r number o
+  pub old_other : (get_or r.log (number - 1) 0 ≡ o → ⊥) → Err (OtherOperator number) ≡ old_step r number o
   unfolding old_step
   old_other e = rw (ne_eqb (get_or r.log (number - 1) 0) o e) refl
 
 module _ (c : Counts) (facts : List ℕ) (r : Run) (number o : ℕ) where
   -- 15 whatever else; then 12, whatever is stored; then 19
-  pub next_full : most_steps ≤ r.len → Refused (RunFull number) ≡ next_step c facts r number o
+  pub next_full : most_steps ≤ r.len → Err (RunFull number) ≡ next_step c facts r number o
   unfolding next_step
   next_full h = rw (le-leb most_steps r.len h) refl
 
-  pub next_not : r.len < most_steps → can_run c facts r.now o ≡ false → Refused (MayNotRun number) ≡ next_step c facts r number o
+  pub next_not : r.len < most_steps → can_run c facts r.now o ≡ false → Err (MayNotRun number) ≡ next_step c facts r number o
   unfolding next_step
   next_not h e = rw (lt-leb most_steps r.len h, e) refl
 
   pub next_beyond : r.len < most_steps → can_run c facts r.now o ≡ true → within_quota c facts r.columns o ≡ false
-      → Refused (BeyondQuota number) ≡ next_step c facts r number o
+      → Err (BeyondQuota number) ≡ next_step c facts r number o
   unfolding next_step
   next_beyond h e q = rw (lt-leb most_steps r.len h, e, q) refl
 
   pub next_go : r.len < most_steps → can_run c facts r.now o ≡ true → within_quota c facts r.columns o ≡ true
-      → Accepted ≡ next_step c facts r number o
+      → Ok Accepted ≡ next_step c facts r number o
   unfolding next_step
   next_go h e q = rw (lt-leb most_steps r.len h, e, q) refl
 
   -- these are all: what holds of each holds of the answer
-  pub next_cases : (P : Answer → Type 0) → (most_steps ≤ r.len → P (Refused (RunFull number)))
-      → (r.len < most_steps → can_run c facts r.now o ≡ false → P (Refused (MayNotRun number)))
-      → (r.len < most_steps → can_run c facts r.now o ≡ true → within_quota c facts r.columns o ≡ false → P (Refused (BeyondQuota number)))
-      → (r.len < most_steps → can_run c facts r.now o ≡ true → within_quota c facts r.columns o ≡ true → P Accepted)
+  pub next_cases : (P : Result Answer Refusal → Type 0) → (most_steps ≤ r.len → P (Err (RunFull number)))
+      → (r.len < most_steps → can_run c facts r.now o ≡ false → P (Err (MayNotRun number)))
+      → (r.len < most_steps → can_run c facts r.now o ≡ true → within_quota c facts r.columns o ≡ false → P (Err (BeyondQuota number)))
+      → (r.len < most_steps → can_run c facts r.now o ≡ true → within_quota c facts r.columns o ≡ true → P (Ok Accepted))
       → P (next_step c facts r number o)
   next_cases P full stuck beyond go =
       by_order r.len most_steps
@@ -122,27 +124,27 @@ module _ (c : Counts) (facts : List ℕ) (r : Run) (number o : ℕ) where
 
   -- ---- the offer itself
 
-  pub judged_none : c.ops ≤ o → Refused (NoSuchOperator number) ≡ offer_judged c facts r number o
+  pub judged_none : c.ops ≤ o → Err (NoSuchOperator number) ≡ offer_judged c facts r number o
   unfolding offer_judged
   judged_none h = rw (le-leb c.ops o h) refl
 
   module _ (exists : o < c.ops) where
-    pub judged_zero : number ≡ 0 → Refused (NotTheNext number) ≡ offer_judged c facts r number o
+    pub judged_zero : number ≡ 0 → Err (NotTheNext number) ≡ offer_judged c facts r number o
     unfolding offer_judged
     judged_zero e = rw (lt-leb c.ops o exists, eq-eqb number 0 e) refl
 
     module _ (some : number ≡ 0 → ⊥) where
-      pub judged_beyond : r.len + 1 < number → Refused (NotTheNext number) ≡ offer_judged c facts r number o
+      pub judged_beyond : r.len + 1 < number → Err (NotTheNext number) ≡ offer_judged c facts r number o
       unfolding offer_judged
       judged_beyond h = rw (lt-leb c.ops o exists, ne_eqb number 0 some, lt-ltb (r.len + 1) number h) refl
 
-      pub judged_old : (x : Answer) → number ≤ r.len → x ≡ old_step r number o → x ≡ offer_judged c facts r number o
+      pub judged_old : (x : Result Answer Refusal) → number ≤ r.len → x ≡ old_step r number o → x ≡ offer_judged c facts r number o
       unfolding offer_judged
       judged_old x h e =
           let g : number ≤ r.len + 1 = omega arith in
           rw (lt-leb c.ops o exists, ne_eqb number 0 some, le-ltb (r.len + 1) number g, le-leb number r.len h) e
 
-      pub judged_next : (x : Answer) → number ≤ r.len + 1 → r.len < number → x ≡ next_step c facts r number o
+      pub judged_next : (x : Result Answer Refusal) → number ≤ r.len + 1 → r.len < number → x ≡ next_step c facts r number o
           → x ≡ offer_judged c facts r number o
       unfolding offer_judged
       judged_next x g h e =

@@ -6,6 +6,7 @@ use mathlib.Core.Bool.{true}
 use native.Mathlib.Omega.{arith}
 use lib.ListN.{length, replicate, length-replicate}
 use borrow.Author.Tests.{lt-ltb, eq-eqb}
+use Rattle.scan.specs.Found.{clean}
 use Rattle.meaning.specs.Limits.{most_vars}
 use Rattle.meaning.specs.Sas.{IsState}
 use Rattle.meaning.specs.Split.{Valid}
@@ -14,7 +15,6 @@ use Rattle.tables.specs.Layout.{Tables, dom_at}
 use Rattle.tables.specs.Task.{task_of, sas_of, state_of}
 use Rattle.tables.proofs.Laws.{filled_at, filled_later, length_filled}
 use Rattle.tables.specs.Steps.{copied}
-use Rattle.scan.specs.declared.Found.TheVariants.{Clean}
 use Rattle.scan.specs.Scan.{input_fault}
 use Rattle.ledger.specs.Ledger.{at_start, fresh, starts_at, start_in, started, begun}
 use Rattle.ledger.proofs.Answers.{start_within, start_beyond}
@@ -36,7 +36,7 @@ module _ (t : Tables) (s : List ℕ) (valid : Valid (task_of t)) where
   from_beyond v h = filled_later (state_of s) (replicate most_vars 0) t.counts.vars v h ∙ zeros_at most_vars v
 
   -- so a start that is accepted has 0 beyond the variables, whatever the lent list has there
-  pub begun_beyond : input_fault t s ≡ Clean → (v : ℕ) → t.counts.vars ≤ v → state_of (begun t s).run.start v ≡ 0
+  pub begun_beyond : input_fault t s ≡ clean → (v : ℕ) → t.counts.vars ≤ v → state_of (begun t s).run.start v ≡ 0
   unfolding begun started fresh at_start
   begun_beyond p v h = rw p (from_beyond v h)
 

@@ -5,17 +5,18 @@ use mathlib.Core.Path.{◌≡◌, refl, ap, sym, ◌∙◌, subst}
 use mathlib.Core.List.{List, [], ◌∷◌, ◌++◌, append_assoc, append-nil}
 use native.Mathlib.Omega.{arith}
 use lib.ListN.{get_or}
+use Rattle.scan.specs.Found.{clean}
 use Rattle.meaning.specs.Sas.{State, IsState, Runs, end, paid}
 use Rattle.meaning.specs.Split.{Task, Valid, sum}
 use Rattle.meaning.specs.Quota.{stored}
 use Rattle.meaning.proofs.Bounds.{end_state}
 use Rattle.meaning.proofs.Quota.{paid_parts, back_keeps}
-use Rattle.scan.specs.declared.Found.TheVariants.{Clean}
 use Rattle.scan.specs.Scan.{tables_fault}
 use Rattle.scan.proofs.Validity.{clean_valid}
 use Rattle.tables.specs.Layout.{Tables}
 use Rattle.tables.specs.Task.{task_of, sas_of, state_of}
 use Rattle.meaning.proofs.Facts.{by_cases}
+use Rattle.std.specs.Prelude.{Ok}
 use Rattle.ledger.specs.declared.Run.{Run}
 use Rattle.ledger.specs.declared.Answer.TheVariants.{Accepted}
 use Rattle.ledger.specs.Ledger.{fresh, offered, begun}
@@ -75,7 +76,7 @@ unfolding ran
 ran_append t r [] ys = refl
 ran_append t r (x ∷ xs) ys = ran_append t (offered t r x.number x.op).run xs ys
 
-module _ (t : Tables) (s : List ℕ) (clean : tables_fault t ≡ Clean) (state : IsState (sas_of t) (state_of s)) where
+module _ (t : Tables) (s : List ℕ) (clean : tables_fault t ≡ clean) (state : IsState (sas_of t) (state_of s)) where
   pub ran_told : (xs : List Offer) (done : List ℕ) (q : Run) → Told t s done q
       → Told t s (done ++ added (task_of t) (state_of s) done xs) (ran t q xs)
   unfolding ran added
@@ -112,7 +113,7 @@ module _ (t : Tables) (s : List ℕ) (clean : tables_fault t ≡ Clean) (state :
 
 -- ---- THE THEOREMS, of any accepted start and any offers, so at every moment
 
-module _ (t : Tables) (s : List ℕ) (accepted : (begun t s).answer ≡ Accepted) where
+module _ (t : Tables) (s : List ℕ) (accepted : (begun t s).answer ≡ Ok Accepted) where
   began : Began t s
   began = accepted_began t s accepted
 

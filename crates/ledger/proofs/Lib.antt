@@ -1,4 +1,6 @@
+pub mod Fitting
 pub mod Gains
+pub mod Booking
 pub mod Answers
 pub mod Runs
 pub mod Begun

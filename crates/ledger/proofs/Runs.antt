@@ -3,25 +3,28 @@
 use Prim.Native.Nat.{ℕ, zero, suc, ◌+◌, ◌-◌, ◌≤◌, ◌<◌}
 use mathlib.Core.Path.{◌≡◌, refl, ap, ap₂, sym, ◌∙◌}
 use mathlib.Core.List.{List, [], ◌∷◌}
-use mathlib.Core.Bool.{Bool, true, false, ◌&&◌, and-false}
+use mathlib.Core.Bool.{Bool, true, false, ◌&&◌, and-false, false≢true}
 use native.Mathlib.Numerals.{add-one}
 use native.Mathlib.Omega.{arith}
 use lib.Dec.{ltb, leb, eqb}
 use lib.ListN.{length, get_or, take, drop, drop_of_length-le, length-take, length-set, length-replicate}
-use lib.Seq.{drop-cons, get_or-take, get_or-drop}
-use borrow.Author.Tests.{lt-leb, le-leb, eq-eqb, ne_eqb, leb-true, eqb-true, ltb-true}
+use lib.Seq.{drop-cons, get_or-drop}
+use borrow.Author.Tests.{lt-leb, le-leb, eq-eqb, leb-true, eqb-true, ltb-true}
 use Rattle.meaning.specs.Limits.{most_vars, most_steps}
 use Rattle.meaning.specs.Split.{Valid}
-use Rattle.meaning.proofs.Facts.{and_left, and_right, every_true, true_every, by_cases}
+use Rattle.meaning.proofs.Facts.{and_left, and_right, by_cases}
 use Rattle.tables.specs.declared.Counts.{Counts}
 use Rattle.tables.specs.Layout.{Tables}
 use Rattle.tables.specs.Task.{task_of}
 use Rattle.tables.specs.Steps.{may_run, stepped}
 use Rattle.tables.proofs.Meant.{stepped_length}
+use Rattle.std.specs.Prelude.{Option, Some, None}
+use Rattle.std.specs.Option.{option_eq}
+use Rattle.std.specs.Str.{bytes_eq}
+use Rattle.std.proofs.lemmas.Slice.Eq.{bytes_eq-Decides}
 use Rattle.ledger.specs.declared.Run.{Run}
 use Rattle.ledger.specs.declared.replay.Standing.{Standing}
-use Rattle.ledger.specs.declared.replay.Tried.{Tried}
-use Rattle.ledger.specs.Ledger.{all_columns, booked, at_start, onward, standing, fresh, advanced, can_run, can_follow, replayed, given, start_in, zeros, same_at, same_to, alike, is_run}
+use Rattle.ledger.specs.Ledger.{all_columns, booked, at_start, onward, standing, fresh, advanced, can_run, can_follow, replayed, given, start_in, zeros, alike, is_run}
 use Rattle.ledger.specs.History.{Sized}
 use Rattle.ledger.specs.Inside.Bounded.{Bounded}
 use Rattle.ledger.proofs.Answers.{follow_parts}
@@ -40,40 +43,19 @@ four a b c d p =
     let q = three a b c (and_left (a && b && c) d p) in
     (q.0, q.1, q.2, and_right (a && b && c) d p)
 
-five : (a b c d e : Bool) → (a && b && c && d && e) ≡ true → (a ≡ true) × (b ≡ true) × (c ≡ true) × (d ≡ true) × (e ≡ true)
-five a b c d e p =
-    let q = four a b c d (and_left (a && b && c && d) e p) in
-    (q.0, q.1, q.2, q.3, and_right (a && b && c && d) e p)
-
--- ---- where two runs stand, part by part
-
-module _ (x y : Standing) where
-  pub now_differs : same_to most_vars x.now y.now ≡ false → false ≡ alike x y
-  unfolding alike
-  now_differs p = rw p refl
-
-  -- where the states are the same, the columns decide
-  pub columns_decide : (b : Bool) → same_to most_vars x.now y.now ≡ true → b ≡ same_to all_columns x.columns y.columns → b ≡ alike x y
-  unfolding alike
-  columns_decide b n e = rw n e
-
-  pub alike_parts : alike x y ≡ true → (same_to most_vars x.now y.now ≡ true) × (same_to all_columns x.columns y.columns ≡ true)
-  unfolding alike
-  alike_parts p =
-      let n = same_to most_vars x.now y.now in
-      let c = same_to all_columns x.columns y.columns in
-      (and_left n c p, and_right n c p)
-
-pub same_to_at : (k : ℕ) (xs ys : List ℕ) → same_to k xs ys ≡ true → (i : ℕ) → i < k → get_or xs i 0 ≡ get_or ys i 0
-unfolding same_to
-same_to_at k xs ys p i h = eqb-true (get_or xs i 0) (get_or ys i 0) (every_true (same_at xs ys) k p i h)
+-- ---- where two runs stand
 
 pub alike_refl : (x : Standing) → alike x x ≡ true
-unfolding same_to
-alike_refl x = sym (columns_decide x x true (self most_vars x.now) (sym (self all_columns x.columns)))
-  where
-    self : (k : ℕ) (xs : List ℕ) → same_to k xs xs ≡ true
-    self k xs = true_every (same_at xs xs) k (λ i h. eq-eqb (get_or xs i 0) (get_or xs i 0) refl)
+alike_refl x = rw ((bytes_eq-Decides x.now x.now).1 refl, (bytes_eq-Decides x.columns x.columns).1 refl) refl
+
+-- who stands alike stands at the same place
+stood : (x : Standing) (o : Option Standing) → option_eq alike o (Some x) ≡ true → o ≡ Some x
+stood x None p = absurd (false≢true p)
+stood x (Some y) p =
+    let n = bytes_eq y.now x.now in
+    let c = bytes_eq y.columns x.columns in
+    ap₂ (λ (s columns : List ℕ). Some (record { now = s; columns = columns })) ((bytes_eq-Decides y.now x.now).0 (and_left n c p))
+    ((bytes_eq-Decides y.columns x.columns).0 (and_right n c p))
 
 -- two runs have the same numbers at the places that count
 pub record SamePlaces (r q : Run) : Type 0 where
@@ -109,14 +91,10 @@ advanced_sized t r o sized =
 
 -- ---- unused places of a log
 
--- the first place that isn't 0 ends it; past the last one nothing is left
-pub zeros_stop : (l : List ℕ) (i : ℕ) → i < length l → (get_or l i 0 ≡ 0 → ⊥) → zeros (drop i l) ≡ false
+-- the next place and those after it; past the last one nothing is left
+pub zeros_next : (l : List ℕ) (i : ℕ) → i < length l → zeros (drop i l) ≡ (eqb (get_or l i 0) 0 && zeros (drop (i + 1) l))
 unfolding zeros
-zeros_stop l i h p = rw (drop-cons l i 0 h, ne_eqb (get_or l i 0) 0 p) refl
-
-pub zeros_on : (l : List ℕ) (i : ℕ) → i < length l → get_or l i 0 ≡ 0 → zeros (drop i l) ≡ zeros (drop (i + 1) l)
-unfolding zeros
-zeros_on l i h p = rw (add-one, drop-cons l i 0 h, eq-eqb (get_or l i 0) 0 p) refl
+zeros_next l i h = rw (add-one, drop-cons l i 0 h) refl
 
 pub zeros_end : (l : List ℕ) (i : ℕ) → length l ≤ i → zeros (drop i l) ≡ true
 unfolding zeros
@@ -158,7 +136,7 @@ module _ (t : Tables) where
   replayed_yes x o os p = rw (replayed, p) refl
 
   pub replayed_no : (x : Standing) (o : ℕ) (os : List ℕ) → can_follow t.counts t.facts x o ≡ false
-      → replayed t x (o ∷ os) ≡ record { ok = false; at = x }
+      → replayed t x (o ∷ os) ≡ None
   unfolding replayed
   replayed_no x o os p = rw (replayed, p) refl
 
@@ -168,31 +146,25 @@ module _ (t : Tables) where
   unfolding onward
   stepped_onward x o s columns p q = ap₂ (λ (s columns : List ℕ). record { now = s; columns = columns }) p q
 
-  -- the replaying loop: x is where the first i of the first k steps of the log lead from s
-  module _ (s log : List ℕ) (k : ℕ) (long : k ≤ length log) (x : Standing) (i : ℕ)
-      (so_far : replayed t (at_start s) (take k log) ≡ replayed t x (drop i (take k log))) where
-    left_over : i < k → replayed t x (drop i (take k log)) ≡ replayed t x (get_or log i 0 ∷ drop (i + 1) (take k log))
-    left_over h =
-        let g : i < length (take k log) = omega (arith, length-take k log) in
-        rw (add-one, drop-cons (take k log) i 0, get_or-take k log i 0 h) refl
+  -- the replaying loop: x is where the first i of the steps lead from s
+  module _ (s os : List ℕ) (x : Standing) (i : ℕ) (so_far : replayed t (at_start s) os ≡ replayed t x (drop i os)) where
+    left_over : i < length os → replayed t x (drop i os) ≡ replayed t x (get_or os i 0 ∷ drop (i + 1) os)
+    left_over h = rw (add-one, drop-cons os i 0 h) refl
 
-    pub given_next : (y : Standing) → i < k → can_follow t.counts t.facts x (get_or log i 0) ≡ true → y ≡ onward t x (get_or log i 0)
-        → replayed t (at_start s) (take k log) ≡ replayed t y (drop (i + 1) (take k log))
+    pub given_next : (y : Standing) → i < length os → can_follow t.counts t.facts x (get_or os i 0) ≡ true → y ≡ onward t x (get_or os i 0)
+        → replayed t (at_start s) os ≡ replayed t y (drop (i + 1) os)
     given_next y h p e =
         so_far
         ∙ left_over h
-        ∙ replayed_yes x (get_or log i 0) (drop (i + 1) (take k log)) p
-        ∙ ap (λ (z : Standing). replayed t z (drop (i + 1) (take k log))) (sym e)
+        ∙ replayed_yes x (get_or os i 0) (drop (i + 1) os) p
+        ∙ ap (λ (z : Standing). replayed t z (drop (i + 1) os)) (sym e)
 
-    pub given_stop : i < k → can_follow t.counts t.facts x (get_or log i 0) ≡ false
-        → record { ok = false; at = x } ≡ replayed t (at_start s) (take k log)
-    given_stop h p = sym (so_far ∙ left_over h ∙ replayed_no x (get_or log i 0) (drop (i + 1) (take k log)) p)
+    pub given_stop : i < length os → can_follow t.counts t.facts x (get_or os i 0) ≡ false → None ≡ replayed t (at_start s) os
+    given_stop h p = sym (so_far ∙ left_over h ∙ replayed_no x (get_or os i 0) (drop (i + 1) os) p)
 
-    pub given_end : k ≤ i → record { ok = true; at = x } ≡ replayed t (at_start s) (take k log)
+    pub given_end : length os ≤ i → Some x ≡ replayed t (at_start s) os
     unfolding replayed
-    given_end h =
-        let g : length (take k log) ≤ i = omega (arith, length-take k log) in
-        sym (so_far ∙ ap (replayed t x) (drop_of_length-le (take k log) g))
+    given_end h = sym (so_far ∙ ap (replayed t x) (drop_of_length-le os h))
 
   -- ---- no column has more than the steps can have paid
 
@@ -203,18 +175,16 @@ module _ (t : Tables) where
     bounded_step steps x y o g b e c h =
         rw e (omega (arith, booked_most (task_of t) x.columns o c h, gain_small (task_of t) valid o g c, b c h))
 
-    bounded_replayed : (os : List ℕ) (steps : ℕ) (x : Standing) → Bounded steps x.columns
-        → Bounded (steps + length os) (replayed t x os).at.columns
+    bounded_replayed : (os : List ℕ) (steps : ℕ) (x y : Standing) → replayed t x os ≡ Some y → Bounded steps x.columns
+        → Bounded (steps + length os) y.columns
     unfolding replayed
-    bounded_replayed [] steps x b = λ c h. omega (arith, b c h)
-    bounded_replayed (o ∷ os) steps x b =
+    bounded_replayed [] steps x y e b = let same : x ≡ y = cc in rw (← same) (λ c h. omega (arith, b c h))
+    bounded_replayed (o ∷ os) steps x y e b =
         by_cases (can_follow t.counts t.facts x o)
-        (λ p.
-        rw (replayed_yes x o os p)
-        (λ c h.
+        (λ p c h.
         let next = bounded_step steps x (onward t x o) o (follow_exists t.counts t.facts x o p) b refl in
-        omega (arith, bounded_replayed os (steps + 1) (onward t x o) next c h)))
-        (λ p. rw (replayed_no x o os p) (λ c h. omega (arith, b c h)))
+        omega (arith, bounded_replayed os (steps + 1) (onward t x o) y (sym (replayed_yes x o os p) ∙ e) next c h))
+        (λ p. absurd (let q = sym (replayed_no x o os p) ∙ e in cc))
 
   -- ---- what a run has that is what its start and log give
 
@@ -223,23 +193,22 @@ module _ (t : Tables) where
       pub len : r.len ≤ most_steps
       pub inside : start_in t.counts t.facts r.start ≡ true
       pub unused : zeros (drop r.len r.log) ≡ true
-      pub ran : (given t r).ok ≡ true
-      pub same : alike (standing r) (given t r).at ≡ true
+      pub same : given t r ≡ Some (standing r)
 
     pub run_tested : is_run t r ≡ true → Tested
     unfolding is_run
     run_tested p =
         let i = start_in t.counts t.facts r.start in
         let z = zeros (drop r.len r.log) in
-        let h = five (leb r.len most_steps) i z (given t r).ok (alike (standing r) (given t r).at) p in
-        record { len = leb-true r.len most_steps h.0; inside = h.1; unused = h.2; ran = h.3; same = h.4 }
+        let h = four (leb r.len most_steps) i z (option_eq alike (given t r) (Some (standing r))) p in
+        record { len = leb-true r.len most_steps h.0; inside = h.1; unused = h.2; same = stood (standing r) (given t r) h.3 }
 
     pub run_bounded : Valid (task_of t) → is_run t r ≡ true → Bounded r.len r.columns
     unfolding given
     run_bounded valid p c h =
-        let e = same_to_at all_columns r.columns (given t r).at.columns (alike_parts (standing r) (given t r).at (run_tested p).same).1 c h in
         let os = take r.len r.log in
-        omega (arith, e, bounded_replayed valid os 0 (at_start r.start) (start_bounded r.start) c h, length-take r.len r.log)
+        let most = bounded_replayed valid os 0 (at_start r.start) (standing r) (run_tested p).same (start_bounded r.start) c h in
+        omega (arith, most, length-take r.len r.log)
 
     -- ---- its tests, one after another
 
@@ -255,14 +224,9 @@ module _ (t : Tables) where
     unfolding is_run
     run_used p = rw (p, and-false) refl
 
-    module _ (x : Tried) (e : x ≡ given t r) where
-      pub run_stuck : x.ok ≡ false → false ≡ is_run t r
-      unfolding is_run
-      run_stuck p = rw (← e, p, and-false) refl
-
-      pub run_stands : (b : Bool) → r.len ≤ most_steps → start_in t.counts t.facts r.start ≡ true
-          → zeros (drop r.len r.log) ≡ true → x.ok ≡ true
-          → b ≡ alike (standing r) x.at
-          → b ≡ is_run t r
-      unfolding is_run
-      run_stands b h s z p d = rw (← e, le-leb r.len most_steps h, s, z, p) d
+    pub run_stands : (b : Bool) → r.len ≤ most_steps → start_in t.counts t.facts r.start ≡ true
+        → zeros (drop r.len r.log) ≡ true
+        → b ≡ option_eq alike (given t r) (Some (standing r))
+        → b ≡ is_run t r
+    unfolding is_run
+    run_stands b h s z d = rw (le-leb r.len most_steps h, s, z) d

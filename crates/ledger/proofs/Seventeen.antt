@@ -4,12 +4,13 @@ use Prim.Native.Nat.{ℕ, ◌+◌, ◌-◌}
 use mathlib.Core.Path.{◌≡◌, refl, ap, sym, ◌∙◌}
 use mathlib.Core.Logic.{◌↔◌}
 use mathlib.Core.Bool.{Bool, true, false, cond, ◌||◌, false≢true}
-use native.Mathlib.Omega.{arith}
 use lib.Dec.{leb, ltb, eqb}
 use lib.ListN.{get_or}
+use Rattle.scan.specs.Found.{Found, clean}
+use Rattle.std.specs.Prelude.{Result, Ok, Err}
+use Rattle.refusals.specs.declared.Refusal.{Refusal}
 use Rattle.refusals.specs.declared.Refusal.TheVariants.{NoSuchOperator, NotTheNext, OtherOperator, NotARun}
-use Rattle.scan.specs.declared.Found.{Found}
-use Rattle.scan.specs.declared.Found.TheVariants.{Clean, Fault}
+use Rattle.refusals.specs.Listed.{number_of}
 use Rattle.scan.specs.Scan.{tables_fault}
 use Rattle.scan.proofs.Numbers.{tables_refused}
 use Rattle.meaning.proofs.Facts.{by_cases}
@@ -17,20 +18,20 @@ use Rattle.tables.specs.Layout.{Tables}
 use Rattle.tables.specs.Task.{task_of}
 use Rattle.ledger.specs.declared.Run.{Run}
 use Rattle.ledger.specs.declared.Answer.{Answer}
-use Rattle.ledger.specs.declared.Answer.TheVariants.{Repeated, Refused}
+use Rattle.ledger.specs.declared.Answer.TheVariants.{Repeated}
 use Rattle.ledger.specs.Ledger.{is_run, old_step, next_step, offer_judged, answered, offered}
 use Rattle.ledger.specs.History.{GivenByStartAndLog, Sized}
 use Rattle.ledger.proofs.Answers.{next_cases}
-use Rattle.ledger.proofs.Accepted.{told, tables_other, answered_fault, answered_not_a_run, answered_judged}
+use Rattle.ledger.proofs.Accepted.{tables_other, answered_fault, answered_not_a_run, answered_judged}
 use Rattle.ledger.proofs.Sound.{given_told, run_exactly}
 use Rattle.ledger.proofs.Told.{offer_told}
 
--- an answer that has another number
-abbrev Other : Answer → Type 0
-Other x = told x ≡ 17 → ⊥
+-- any other answer
+abbrev Other : Result Answer Refusal → Type 0
+Other x = x ≡ Err NotARun → ⊥
 
 -- one of two, by a test
-either : (b : Bool) (x y : Answer) → Other x → Other y → Other (cond b x y)
+either : (b : Bool) (x y : Result Answer Refusal) → Other x → Other y → Other (cond b x y)
 either true x y p q = p
 either false x y p q = q
 
@@ -38,33 +39,34 @@ either false x y p q = q
 module _ (t : Tables) (r : Run) (number o : ℕ) where
   old_other : Other (old_step r number o)
   unfolding old_step
-  old_other = either (eqb (get_or r.log (number - 1) 0) o) Repeated (Refused (OtherOperator number)) (λ e. omega arith) (λ e. omega arith)
+  old_other = either (eqb (get_or r.log (number - 1) 0) o) (Ok Repeated) (Err (OtherOperator number)) (λ e. cc) (λ e. cc)
 
   next_other : Other (next_step t.counts t.facts r number o)
   next_other =
-      next_cases t.counts t.facts r number o Other (λ g e. omega arith) (λ l p e. omega arith) (λ l p q e. omega arith) (λ l p q e. omega arith)
+      next_cases t.counts t.facts r number o Other (λ g e. cc) (λ l p e. cc) (λ l p q e. cc) (λ l p q e. cc)
 
   judged_other : Other (offer_judged t.counts t.facts r number o)
   unfolding offer_judged
   judged_other =
-      either (leb t.counts.ops o) (Refused (NoSuchOperator number)) _ (λ e. omega arith)
-      (either (eqb number 0 || ltb (r.len + 1) number) (Refused (NotTheNext number)) _ (λ e. omega arith)
+      either (leb t.counts.ops o) (Err (NoSuchOperator number)) _ (λ e. cc)
+      (either (eqb number 0 || ltb (r.len + 1) number) (Err (NotTheNext number)) _ (λ e. cc)
       (either (leb number r.len) (old_step r number o) (next_step t.counts t.facts r number o) old_other next_other))
 
   -- nor are the tables, so 17 comes from its own test
-  seventeen_so : answered t r number o ≡ Refused NotARun → (tables_fault t ≡ Clean) × (is_run t r ≡ false)
+  seventeen_so : answered t r number o ≡ Err NotARun → (tables_fault t ≡ clean) × (is_run t r ≡ false)
   seventeen_so e = at (tables_fault t) refl
     where
-      at : (f : Found) → tables_fault t ≡ f → (tables_fault t ≡ Clean) × (is_run t r ≡ false)
-      at Clean c =
+      at : (f : Found) → tables_fault t ≡ f → (tables_fault t ≡ clean) × (is_run t r ≡ false)
+      at (Ok tt) c =
           by_cases (is_run t r)
-          (λ p. absurd (judged_other (ap told (answered_judged t r number o c p ∙ e))))
+          (λ p. absurd (judged_other (answered_judged t r number o c p ∙ e)))
           (λ p. (c, p))
-      at (Fault f) c =
-          absurd ((tables_other f (tables_refused t f c)).2 (ap told (answered_fault t r number o f c ∙ e)))
+      at (Err f) c =
+          let same : f ≡ NotARun = (let p = answered_fault t r number o f c ∙ e in cc) in
+          absurd ((tables_other f (tables_refused t f c)).2 (ap number_of same))
 
   pub seventeen_exactly : Sized r
-      → ((offered t r number o).answer ≡ Refused NotARun) ↔ ((tables_fault t ≡ Clean) × (GivenByStartAndLog (task_of t) r → ⊥))
+      → ((offered t r number o).answer ≡ Err NotARun) ↔ ((tables_fault t ≡ clean) × (GivenByStartAndLog (task_of t) r → ⊥))
   unfolding offered
   seventeen_exactly sized = (
     λ e.
@@ -76,7 +78,7 @@ module _ (t : Tables) (r : Run) (number o : ℕ) where
   )
 
   -- ANY OTHER ANSWER: the run handed in is what its start and log give, and so is the run handed back
-  pub not_seventeen : tables_fault t ≡ Clean → Sized r → ((offered t r number o).answer ≡ Refused NotARun → ⊥)
+  pub not_seventeen : tables_fault t ≡ clean → Sized r → ((offered t r number o).answer ≡ Err NotARun → ⊥)
       → GivenByStartAndLog (task_of t) r × GivenByStartAndLog (task_of t) (offered t r number o).run
   unfolding offered
   not_seventeen clean sized other =

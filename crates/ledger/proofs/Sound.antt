@@ -9,24 +9,24 @@ use native.Mathlib.Omega.{arith}
 use lib.ListN.{length, get_or, take, length-append, length-take}
 use lib.Seq.{ext_get_or, get_or-take}
 use borrow.Author.Tests.{lt-ltb, eqb-true, ltb-true}
+use Rattle.scan.specs.Found.{clean}
 use Rattle.meaning.specs.Limits.{most_vars, most_steps}
 use Rattle.meaning.specs.Sas.{State, IsState, Runs, end}
 use Rattle.meaning.specs.Split.{Task, Valid}
 use Rattle.meaning.specs.Quota.{stored, KeepsQuota}
 use Rattle.meaning.proofs.Quota.{paid_parts, stores_within}
 use Rattle.meaning.proofs.Facts.{every_true, true_complies, by_cases, by_order}
-use Rattle.scan.specs.declared.Found.TheVariants.{Clean}
 use Rattle.scan.specs.Scan.{tables_fault}
 use Rattle.scan.proofs.Validity.{clean_valid}
 use Rattle.tables.specs.Layout.{Tables, dom_at}
 use Rattle.tables.specs.Task.{task_of, sas_of, state_of}
+use Rattle.std.specs.Prelude.{Option, Some, None}
 use Rattle.ledger.specs.declared.Run.{Run}
 use Rattle.ledger.specs.declared.replay.Standing.{Standing}
-use Rattle.ledger.specs.declared.replay.Tried.{Tried}
-use Rattle.ledger.specs.Ledger.{all_columns, at_start, standing, fresh, advanced, can_follow, replayed, given, starts_at, start_in, alike, is_run}
+use Rattle.ledger.specs.Ledger.{all_columns, at_start, standing, fresh, advanced, can_follow, replayed, given, starts_at, start_in, is_run}
 use Rattle.ledger.specs.History.{may_follow, Tells, GivenByStartAndLog, Sized}
 use Rattle.ledger.proofs.Answers.{start_within, start_beyond}
-use Rattle.ledger.proofs.Runs.{SamePlaces, Tested, advanced_stands, alike_parts, same_to_at, zeros_unused, replayed_yes, replayed_no, run_tested}
+use Rattle.ledger.proofs.Runs.{SamePlaces, Tested, advanced_stands, zeros_unused, replayed_yes, replayed_no, run_tested}
 use Rattle.ledger.proofs.Begun.{start_of, from_at, from_beyond, from_size}
 use Rattle.ledger.proofs.Sequences.{end_append}
 use Rattle.ledger.proofs.Told.{Told, fresh_told, step_told, follow_is, is_run_lem}
@@ -76,14 +76,14 @@ module _ (T : Task) (s : State) (done : List ℕ) (r q : Run) (a : Tells T s don
 
 -- ---- replaying steps: each can be the next and the run then tells them; or they may not run one after another, or don't keep the quota
 
-module _ (t : Tables) (s : List ℕ) (clean : tables_fault t ≡ Clean) (state : IsState (sas_of t) (state_of s)) where
+module _ (t : Tables) (s : List ℕ) (clean : tables_fault t ≡ clean) (state : IsState (sas_of t) (state_of s)) where
   -- some run tells them all and stands where they lead
   abbrev TellsAll : List ℕ → List ℕ → Run → Type 0
-  TellsAll done os q = (z : Run) × (replayed t (standing q) os ≡ record { ok = true; at = standing z }) × Told t s (done ++ os) z
+  TellsAll done os q = (z : Run) × (replayed t (standing q) os ≡ Some (standing z)) × Told t s (done ++ os) z
 
   abbrev Stops : List ℕ → List ℕ → Run → Type 0
   Stops done os q =
-      ((replayed t (standing q) os).ok ≡ false) × (Runs (sas_of t) os (end (sas_of t) done (state_of s)) → KeepsQuota (task_of t) (done ++ os) → ⊥)
+      (replayed t (standing q) os ≡ None) × (Runs (sas_of t) os (end (sas_of t) done (state_of s)) → KeepsQuota (task_of t) (done ++ os) → ⊥)
 
   module _ (done : List ℕ) (q : Run) (told : Told t s done q) (o : ℕ) (os : List ℕ) where
     abbrev more : List ℕ
@@ -98,7 +98,7 @@ module _ (t : Tables) (s : List ℕ) (clean : tables_fault t ≡ Clean) (state :
     replay_on p (inl (z, k, on)) = inl (z, after p ∙ k, subst (λ (l : List ℕ). Told t s l z) (append_assoc done (o ∷ []) os) on)
     replay_on p (inr (k, never)) =
         inr (
-          ap (λ (x : Tried). x.ok) (after p) ∙ k,
+          after p ∙ k,
           λ h keeps.
               never (subst (Runs (sas_of t) os) (sym (end_append (sas_of t) done (o ∷ []) (state_of s))) h.2)
               (subst (KeepsQuota (task_of t)) (sym (append_assoc done (o ∷ []) os)) keeps),
@@ -107,7 +107,7 @@ module _ (t : Tables) (s : List ℕ) (clean : tables_fault t ≡ Clean) (state :
     replay_not : can_follow t.counts t.facts (standing q) o ≡ false → Stops done (o ∷ os) q
     unfolding may_follow
     replay_not p = (
-      ap (λ (x : Tried). x.ok) (replayed_no t (standing q) o os p),
+      replayed_no t (standing q) o os p,
       λ h keeps.
           let may = true_complies (sas_of t) ((sas_of t).pre o) (end (sas_of t) done (state_of s)) h.1 in
           let within = stores_within (task_of t) (stored (task_of t) done) o (omega (arith, paid_parts (task_of t).mark done (o ∷ os))) in
@@ -127,12 +127,12 @@ module _ (t : Tables) (s : List ℕ) (clean : tables_fault t ≡ Clean) (state :
       (λ p. inr (replay_not done q told o os p))
 
   -- from the fresh run
-  abbrev replay : List ℕ → Tried
+  abbrev replay : List ℕ → Option Standing
   replay os = replayed t (at_start (start_of t s)) os
 
   from_fresh : {A : Type 0} (os : List ℕ) → length os ≤ most_steps
-      → ((z : Run) → replay os ≡ record { ok = true; at = standing z } → Told t s os z → A)
-      → (((replay os).ok ≡ false) × (Runs (sas_of t) os (state_of s) → KeepsQuota (task_of t) os → ⊥) → A)
+      → ((z : Run) → replay os ≡ Some (standing z) → Told t s os z → A)
+      → ((replay os ≡ None) × (Runs (sas_of t) os (state_of s) → KeepsQuota (task_of t) os → ⊥) → A)
       → A
   unfolding fresh
   from_fresh os l on off =
@@ -163,15 +163,14 @@ module _ (t : Tables) (valid : Valid (task_of t)) (s : List ℕ) (wide : length 
 
 -- a run that passes has, at every place, what the run has that replaying its own log leads to
 replayed_places : {t : Tables} (r z : Run) → Sized r → Tested t r → Told t r.start (take r.len r.log) z → start_of t r.start ≡ r.start
-    → alike (standing r) (standing z) ≡ true
+    → standing r ≡ standing z
     → SamePlaces r z
 replayed_places {t} r z sized tested told self same =
     let done = take r.len r.log in
     let many : length done ≡ r.len = omega (arith, length-take r.len r.log, sized.log, tested.len) in
-    let parts = alike_parts (standing r) (standing z) same in
     record {
       start = λ v h. ap (λ (l : List ℕ). get_or l v 0) (sym (told.from ∙ self));
-      now = same_to_at most_vars r.now z.now parts.0;
+      now = λ v h. ap (λ (x : Standing). get_or x.now v 0) same;
       len = sym (told.tells.len ∙ many);
       log =
           λ i h.
@@ -181,12 +180,12 @@ replayed_places {t} r z sized tested told self same =
           ∙ ap (λ (l : List ℕ). get_or l i 0) (sym told.tells.log)
           ∙ get_or-take (length done) z.log i 0 (omega arith))
           (λ l. zeros_unused r.log r.len tested.unused i l ∙ sym (told.tells.log_unused i (omega arith)));
-      columns = same_to_at all_columns r.columns z.columns parts.1;
+      columns = λ c h. ap (λ (x : Standing). get_or x.columns c 0) same;
     }
 
 -- ---- THE THEOREM
 
-module _ (t : Tables) (clean : tables_fault t ≡ Clean) (r : Run) (sized : Sized r) where
+module _ (t : Tables) (clean : tables_fault t ≡ clean) (r : Run) (sized : Sized r) where
   abbrev TellsSteps : Type 0
   TellsSteps = (done : List ℕ) × Tells (task_of t) (state_of r.start) done r
 
@@ -201,11 +200,10 @@ module _ (t : Tables) (clean : tables_fault t ≡ Clean) (r : Run) (sized : Size
         state,
         from_fresh t r.start clean state done (omega (arith, length-take r.len r.log, tested.len))
             (λ z leads told.
-            let same : alike (standing r) (standing z) ≡ true =
-            subst (λ (x : Tried). alike (standing r) x.at ≡ true) (sym again ∙ leads) tested.same in
+            let same : standing r ≡ standing z = (let e = sym tested.same ∙ sym again ∙ leads in cc) in
             let one : r ≡ z = same_equal r z sized told.sized (replayed_places r z sized tested told self same) in
             (done, subst (Tells (task_of t) (state_of r.start) done) (sym one) told.tells))
-            (λ off. absurd (false≢true (sym off.0 ∙ ap (λ (x : Tried). x.ok) again ∙ tested.ran))),
+            (λ off. let e = sym tested.same ∙ sym again ∙ off.0 in cc),
       )
 
   -- a run that is what its start and log give tells its steps, and is the run that replaying them gives

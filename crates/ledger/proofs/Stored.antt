@@ -9,6 +9,8 @@ use mathlib.Core.List.{List, [], ◌∷◌}
 use native.Mathlib.Omega.{arith}
 use lib.Dec.{ltb, eqb}
 use lib.ListN.{length, get_or}
+use Rattle.scan.specs.Found.{clean}
+use Rattle.std.specs.Prelude.{Result, Ok, Err}
 use Rattle.refusals.specs.declared.Refusal.{Refusal}
 use Rattle.refusals.specs.declared.Refusal.TheVariants.{NotARun}
 use Rattle.meaning.specs.Limits.{most_mark}
@@ -19,7 +21,6 @@ use Rattle.meaning.specs.Columns.{stored_tests}
 use Rattle.meaning.specs.Quota.{stored}
 use Rattle.meaning.proofs.Columns.{gain_stored}
 use Rattle.meaning.proofs.Quota.{stores_within, nothing_stored}
-use Rattle.scan.specs.declared.Found.TheVariants.{Clean}
 use Rattle.scan.specs.Scan.{tables_fault}
 use Rattle.scan.proofs.Validity.{clean_valid}
 use Rattle.tables.specs.Layout.{Tables}
@@ -27,7 +28,7 @@ use Rattle.tables.specs.Task.{task_of, sas_of, state_of}
 use Rattle.tables.proofs.Meant.{first_stores_nothing, first_has_no_quota}
 use Rattle.ledger.specs.declared.Run.{Run}
 use Rattle.ledger.specs.declared.Answer.{Answer}
-use Rattle.ledger.specs.declared.Answer.TheVariants.{Accepted, Repeated, Refused}
+use Rattle.ledger.specs.declared.Answer.TheVariants.{Accepted, Repeated}
 use Rattle.ledger.specs.Ledger.{advanced, onward, offered, begun}
 use Rattle.ledger.specs.History.{Offer, may_follow, added, really_run, ran, run_after, Tells, GivenByStartAndLog, Sized}
 use Rattle.ledger.specs.History.{stored_in, steps_in, storing_steps, TellsStored, stored_by, stored_by_all}
@@ -73,15 +74,15 @@ tells_stores T valid s done r tells =
 -- ---- EACH OFFER, to any run at all: a repeat never raises the stored tests and a refusal neither; an accepted offer raises them by its operator's mark
 
 module _ (t : Tables) (r : Run) (number o : ℕ) where
-  pub repeat_stores_nothing : (offered t r number o).answer ≡ Repeated → stored_in (offered t r number o).run ≡ stored_in r
+  pub repeat_stores_nothing : (offered t r number o).answer ≡ Ok Repeated → stored_in (offered t r number o).run ≡ stored_in r
   unfolding offered
   repeat_stores_nothing e = rw e refl
 
-  pub refused_stores_nothing : (f : Refusal) → (offered t r number o).answer ≡ Refused f → stored_in (offered t r number o).run ≡ stored_in r
+  pub refused_stores_nothing : (f : Refusal) → (offered t r number o).answer ≡ Err f → stored_in (offered t r number o).run ≡ stored_in r
   unfolding offered
   refused_stores_nothing f e = rw e refl
 
-  pub accepted_stores : Sized r → (offered t r number o).answer ≡ Accepted → stored_in (offered t r number o).run ≡ stored_in r + (task_of t).mark o
+  pub accepted_stores : Sized r → (offered t r number o).answer ≡ Ok Accepted → stored_in (offered t r number o).run ≡ stored_in r + (task_of t).mark o
   unfolding offered advanced onward
   accepted_stores sized e =
       let maps = (clean_valid t (accepted_had t r number o e).clean).maps.1 in
@@ -93,10 +94,10 @@ module _ (t : Tables) (r : Run) (number o : ℕ) where
   pub offer_stores : Sized r → stored_in (offered t r number o).run ≡ stored_in r + stored_by (task_of t) o (offered t r number o).answer
   offer_stores sized = by_answer (offered t r number o).answer refl
     where
-      by_answer : (x : Answer) → (offered t r number o).answer ≡ x → stored_in (offered t r number o).run ≡ stored_in r + stored_by (task_of t) o x
-      by_answer Accepted e = accepted_stores sized e
-      by_answer Repeated e = omega (arith, repeat_stores_nothing e)
-      by_answer (Refused f) e = omega (arith, refused_stores_nothing f e)
+      by_answer : (x : Result Answer Refusal) → (offered t r number o).answer ≡ x → stored_in (offered t r number o).run ≡ stored_in r + stored_by (task_of t) o x
+      by_answer (Ok Accepted) e = accepted_stores sized e
+      by_answer (Ok Repeated) e = omega (arith, repeat_stores_nothing e)
+      by_answer (Err f) e = omega (arith, refused_stores_nothing f e)
 
 -- so after any offers, by their answers alone
 pub offers_store : (t : Tables) (xs : List Offer) (r : Run) → Sized r → stored_in (ran t r xs) ≡ stored_in r + stored_by_all t r xs
@@ -108,7 +109,7 @@ offers_store t (x ∷ xs) r sized =
 
 -- ---- AT EVERY MOMENT of a run that was begun, since after any offers
 
-module _ (t : Tables) (s : List ℕ) (accepted : (begun t s).answer ≡ Accepted) where
+module _ (t : Tables) (s : List ℕ) (accepted : (begun t s).answer ≡ Ok Accepted) where
   pub begun_stores : (xs : List Offer) → TellsStored (task_of t) (really_run (task_of t) (state_of s) xs) (run_after t s xs)
   begun_stores xs =
       tells_stores (task_of t) (clean_valid t (accepted_began t s accepted).clean) (state_of s) (really_run (task_of t) (state_of s) xs) (run_after t s xs)
@@ -133,22 +134,22 @@ first_edition_follows t first s done o =
 
 -- ---- ANY RUN THAT ISN'T 17, whoever kept it: by its own log, as it was handed in and as it is handed back
 
-pub given_stores : (t : Tables) → tables_fault t ≡ Clean → (r : Run) → GivenByStartAndLog (task_of t) r → TellsStored (task_of t) (steps_in r) r
+pub given_stores : (t : Tables) → tables_fault t ≡ clean → (r : Run) → GivenByStartAndLog (task_of t) r → TellsStored (task_of t) (steps_in r) r
 given_stores t clean r (state, (done, tells)) =
     rw (tells_steps (task_of t) (state_of r.start) done r tells) (tells_stores (task_of t) (clean_valid t clean) (state_of r.start) done r tells)
 
-module _ (t : Tables) (clean : tables_fault t ≡ Clean) (r : Run) (sized : Sized r) (number o : ℕ) where
-  pub not_seventeen_stores : ((offered t r number o).answer ≡ Refused NotARun → ⊥)
+module _ (t : Tables) (clean : tables_fault t ≡ clean) (r : Run) (sized : Sized r) (number o : ℕ) where
+  pub not_seventeen_stores : ((offered t r number o).answer ≡ Err NotARun → ⊥)
       → TellsStored (task_of t) (steps_in r) r × TellsStored (task_of t) (steps_in (offered t r number o).run) (offered t r number o).run
   not_seventeen_stores other =
       let given = not_seventeen t r number o clean sized other in
       (given_stores t clean r given.0, given_stores t clean (offered t r number o).run given.1)
 
   -- a wrong count is 17, and so is a log past the quota
-  pub wrong_count : (stored_in r ≡ storing_steps (task_of t) (steps_in r) → ⊥) → (offered t r number o).answer ≡ Refused NotARun
+  pub wrong_count : (stored_in r ≡ storing_steps (task_of t) (steps_in r) → ⊥) → (offered t r number o).answer ≡ Err NotARun
   wrong_count wrong = (seventeen_exactly t r number o sized).1 (clean, λ g. wrong (given_stores t clean r g).counted)
 
-  pub past_quota : (task_of t).quota < storing_steps (task_of t) (steps_in r) → (offered t r number o).answer ≡ Refused NotARun
+  pub past_quota : (task_of t).quota < storing_steps (task_of t) (steps_in r) → (offered t r number o).answer ≡ Err NotARun
   past_quota past =
       (seventeen_exactly t r number o sized).1
       (clean, λ g. omega (arith, (given_stores t clean r g).counted, (given_stores t clean r g).within))

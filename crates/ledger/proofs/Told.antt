@@ -9,6 +9,7 @@ use lib.Dec.{ltb, eqb}
 use lib.ListN.{length, set, take, length-append}
 use lib.Seq.{take-suc-set, get_or-set_other}
 use borrow.Author.Tests.{lt-ltb, le-leb, eq-eqb, eqb-true, ltb-true}
+use Rattle.scan.specs.Found.{clean}
 use Rattle.meaning.specs.Limits.{most_steps}
 use Rattle.meaning.specs.Sas.{State, IsState, end}
 use Rattle.meaning.specs.Views.{complies}
@@ -19,16 +20,15 @@ use Rattle.meaning.proofs.Columns.{gain_stored}
 use Rattle.meaning.proofs.Quota.{paid_parts, may_store_lem}
 use Rattle.meaning.proofs.Facts.{and_right, complies_true, complies_same, by_cases}
 use Rattle.meaning.proofs.Space.{after_same}
-use Rattle.scan.specs.declared.Found.TheVariants.{Clean}
 use Rattle.scan.specs.Scan.{tables_fault}
 use Rattle.scan.proofs.Validity.{clean_valid}
 use Rattle.tables.specs.Layout.{Tables}
 use Rattle.tables.specs.Task.{task_of, sas_of, state_of}
 use Rattle.tables.specs.Steps.{stepped}
 use Rattle.tables.proofs.Meant.{may_run_is, stepped_is, stepped_beyond}
+use Rattle.std.specs.Prelude.{Some, Ok}
 use Rattle.ledger.specs.declared.Run.{Run}
 use Rattle.ledger.specs.declared.replay.Standing.{Standing}
-use Rattle.ledger.specs.declared.replay.Tried.{Tried}
 use Rattle.ledger.specs.declared.Answer.TheVariants.{Accepted}
 use Rattle.ledger.specs.Ledger.{all_columns, at_start, onward, standing, fresh, advanced, can_run, within_quota, can_follow, replayed, given, start_in, is_run, answered, offered}
 use Rattle.ledger.specs.History.{Offer, may_follow, really_runs, Tells, Sized, stored_in, steps_in}
@@ -43,20 +43,20 @@ length_snoc : (done : List ℕ) (o : ℕ) → length (done ++ (o ∷ [])) ≡ le
 length_snoc done o = length-append done (o ∷ [])
 
 -- a step more that can follow is replayed after the others
-replayed_snoc : (t : Tables) (os : List ℕ) (x y : Standing) (o : ℕ) → replayed t x os ≡ record { ok = true; at = y }
+replayed_snoc : (t : Tables) (os : List ℕ) (x y : Standing) (o : ℕ) → replayed t x os ≡ Some y
     → can_follow t.counts t.facts y o ≡ true
-    → replayed t x (os ++ (o ∷ [])) ≡ record { ok = true; at = onward t y o }
+    → replayed t x (os ++ (o ∷ [])) ≡ Some (onward t y o)
 unfolding replayed
 replayed_snoc t [] x y o e c =
-    let h : x ≡ y = ap (λ (z : Tried). z.at) e in
+    let h : x ≡ y = cc in
     let c' : can_follow t.counts t.facts x o ≡ true = rw h c in
-    replayed_yes t x o [] c' ∙ ap (λ (z : Standing). record { ok = true; at = onward t z o }) h
+    replayed_yes t x o [] c' ∙ ap (λ (z : Standing). Some (onward t z o)) h
 replayed_snoc t (p ∷ os) x y o e c =
     by_cases (can_follow t.counts t.facts x p)
     (λ can.
     replayed_yes t x p (os ++ (o ∷ [])) can
     ∙ replayed_snoc t os (onward t x p) y o (sym (replayed_yes t x p os can) ∙ e) c)
-    (λ not. absurd (false≢true (ap (λ (z : Tried). z.ok) (sym (replayed_no t x p os not) ∙ e))))
+    (λ not. let q = sym (replayed_no t x p os not) ∙ e in cc)
 
 -- the log has the steps done and no more
 pub tells_steps : (T : Task) (s : State) (done : List ℕ) (r : Run) → Tells T s done r → steps_in r ≡ done
@@ -73,9 +73,9 @@ pub record Told (t : Tables) (s done : List ℕ) (q : Run) : Type 0 where
   pub tells : Tells (task_of t) (state_of s) done q
   pub sized : Sized q
   pub from : q.start ≡ start_of t s
-  pub given : replayed t (at_start (start_of t s)) done ≡ record { ok = true; at = standing q }
+  pub given : replayed t (at_start (start_of t s)) done ≡ Some (standing q)
 
-module _ (t : Tables) (s : List ℕ) (clean : tables_fault t ≡ Clean) (state : IsState (sas_of t) (state_of s)) where
+module _ (t : Tables) (s : List ℕ) (clean : tables_fault t ≡ clean) (state : IsState (sas_of t) (state_of s)) where
   valid : Valid (task_of t)
   valid = clean_valid t clean
 
@@ -189,12 +189,12 @@ module _ (t : Tables) (s : List ℕ) (clean : tables_fault t ≡ Clean) (state :
               from = told.from;
               given =
                   replayed_snoc t done (at_start (start_of t s)) (standing q) o told.given can
-                  ∙ ap (λ (x : Standing). record { ok = true; at = x }) (sym (advanced_stands t q o));
+                  ∙ ap Some (sym (advanced_stands t q o));
             }
 
     -- ---- it is a run, and an offer to it is accepted exactly if it is a step really run
 
-    told_given : given t q ≡ record { ok = true; at = standing q }
+    told_given : given t q ≡ Some (standing q)
     unfolding given
     told_given =
         ap₂ (λ (x l : List ℕ). replayed t (at_start x) l) told.from (tells_steps (task_of t) (state_of s) done q told.tells) ∙ told.given
@@ -223,12 +223,12 @@ module _ (t : Tables) (s : List ℕ) (clean : tables_fault t ≡ Clean) (state :
       pub runs_follow : Runs → can_follow t.counts t.facts (standing q) x.op ≡ true
       runs_follow p = follow_is x.op ∙ (runs_tests p).2
 
-      runs_accepted : Runs → answered t q x.number x.op ≡ Accepted
+      runs_accepted : Runs → answered t q x.number x.op ≡ Ok Accepted
       runs_accepted p =
           let parts = follow_parts t.counts t.facts (standing q) x.op (runs_follow p) in
           let room : q.len < most_steps = omega (arith, runs_room p, told.tells.len) in
           sym
-          (next_late t q x.number x.op Accepted
+          (next_late t q x.number x.op (Ok Accepted)
           (record {
             clean = clean;
             run = is_run_lem;
@@ -237,7 +237,7 @@ module _ (t : Tables) (s : List ℕ) (clean : tables_fault t ≡ Clean) (state :
             answer = sym (next_go t.counts t.facts q x.number x.op room parts.0 parts.1);
           }))
 
-      accepted_runs : answered t q x.number x.op ≡ Accepted → Runs
+      accepted_runs : answered t q x.number x.op ≡ Ok Accepted → Runs
       unfolding really_runs
       accepted_runs e =
           let had = accepted_had t q x.number x.op e in

@@ -21,11 +21,13 @@ use Rattle.tables.proofs.Meant.{may_run_is}
 use Rattle.scan.specs.Own.{OwnState}
 use Rattle.scan.proofs.Unread.{unless_same, ReadAlike, input_same}
 use Rattle.sequences.proofs.Passing.{input_clean}
+use Rattle.std.specs.Option.{option_eq}
+use Rattle.std.specs.Prelude.{Option, Some, Result, Ok, Err}
+use Rattle.refusals.specs.declared.Refusal.{Refusal}
 use Rattle.ledger.specs.declared.Run.{Run}
 use Rattle.ledger.specs.declared.replay.Standing.{Standing}
-use Rattle.ledger.specs.declared.replay.Tried.{Tried}
 use Rattle.ledger.specs.declared.Answer.{Answer}
-use Rattle.ledger.specs.declared.Answer.TheVariants.{Accepted, Repeated, Refused}
+use Rattle.ledger.specs.declared.Answer.TheVariants.{Accepted, Repeated}
 use Rattle.ledger.specs.Ledger.{all_columns, booked_at, booked, at_start, onward, standing, fresh, advanced, can_run, within_quota, can_follow, replayed, given, start_at, starts_at}
 use Rattle.ledger.specs.Ledger.{start_in, zeros, alike, is_run}
 use Rattle.ledger.specs.Ledger.{old_step, next_step, offer_judged, refused_or, answered, moved, offered, started, begun}
@@ -111,7 +113,7 @@ module _ (t u : Tables) (E : SameTask (task_of t) (task_of u)) where
   run_alike : (r : Run) → is_run t r ≡ is_run u r
   unfolding is_run given
   run_alike r =
-      ap₂ (λ (b : Bool) (x : Tried). leb r.len most_steps && b && zeros (drop r.len r.log) && x.ok && alike (standing r) x.at)
+      ap₂ (λ (b : Bool) (x : Option Standing). leb r.len most_steps && b && zeros (drop r.len r.log) && option_eq alike x (Some (standing r)))
       (start_alike r.start) (replayed_alike (take r.len r.log) (at_start r.start))
 
   next_alike : (r : Run) (number o : ℕ) → next_step t.counts t.facts r number o ≡ next_step u.counts u.facts r number o
@@ -128,9 +130,9 @@ module _ (t u : Tables) (E : SameTask (task_of t) (task_of u)) where
   unfolding offer_judged
   judged_alike r number o =
       ap₂
-      (λ (n : ℕ) (next : Answer).
-      cond (leb n o) (Refused (NoSuchOperator number))
-      (cond (eqb number 0 || ltb (r.len + 1) number) (Refused (NotTheNext number)) (cond (leb number r.len) (old_step r number o) next)))
+      (λ (n : ℕ) (next : Result Answer Refusal).
+      cond (leb n o) (Err (NoSuchOperator number))
+      (cond (eqb number 0 || ltb (r.len + 1) number) (Err (NotTheNext number)) (cond (leb number r.len) (old_step r number o) next)))
       E.sas.ops (next_alike r number o)
 
 -- ---- the entries
@@ -140,21 +142,21 @@ module _ {t u : Tables} (E : ReadAlike t u) where
   unfolding answered
   answered_alike r number o =
       unless_same refused_or (λ r x y. refl) _ _ _ _ E.fault
-      (λ e. ap₂ (λ (b : Bool) (x : Answer). cond b x (Refused NotARun)) (run_alike t u (E.task e) r) (judged_alike t u (E.task e) r number o))
+      (λ e. ap₂ (λ (b : Bool) (x : Result Answer Refusal). cond b x (Err NotARun)) (run_alike t u (E.task e) r) (judged_alike t u (E.task e) r number o))
 
   -- the run that an offer hands back: advanced alike, or as it was
-  moved_alike : (r : Run) (number o : ℕ) (x : Answer) → answered t r number o ≡ x → moved t r o x ≡ moved u r o x
-  moved_alike r number o Accepted e =
+  moved_alike : (r : Run) (number o : ℕ) (x : Result Answer Refusal) → answered t r number o ≡ x → moved t r o x ≡ moved u r o x
+  moved_alike r number o (Ok Accepted) e =
       let had = accepted_had t r number o e in
       advanced_alike t u (E.task had.clean) r o had.exists
-  moved_alike r number o Repeated e = refl
-  moved_alike r number o (Refused f) e = refl
+  moved_alike r number o (Ok Repeated) e = refl
+  moved_alike r number o (Err f) e = refl
 
   pub offered_alike : (r : Run) (number o : ℕ) → offered t r number o ≡ offered u r number o
   unfolding offered
   offered_alike r number o =
       ap (λ (q : Run). record { run = q; answer = answered t r number o }) (moved_alike r number o (answered t r number o) refl)
-      ∙ ap (λ (x : Answer). record { run = moved u r o x; answer = x }) (answered_alike r number o)
+      ∙ ap (λ (x : Result Answer Refusal). record { run = moved u r o x; answer = x }) (answered_alike r number o)
 
   pub begun_alike : (s z : List ℕ) → OwnState t.counts s z → begun t s ≡ begun u z
   unfolding begun started copied

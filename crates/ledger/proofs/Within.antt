@@ -6,19 +6,20 @@ use mathlib.Core.Path.{◌≡◌, refl}
 use mathlib.Core.List.{List}
 use native.Mathlib.Omega.{arith}
 use lib.ListN.{get_or}
+use Rattle.scan.specs.Found.{clean}
 use Rattle.refusals.specs.declared.Refusal.TheVariants.{NotARun}
 use Rattle.meaning.specs.Limits.{most_cost, most_steps}
 use Rattle.meaning.specs.Sas.{State}
 use Rattle.meaning.specs.Split.{Task, Valid, sum}
 use Rattle.meaning.specs.Columns.{cost_columns, gain}
 use Rattle.meaning.proofs.Columns.{gain_small}
-use Rattle.scan.specs.declared.Found.TheVariants.{Clean}
 use Rattle.scan.specs.Scan.{tables_fault}
 use Rattle.scan.proofs.Validity.{clean_valid}
 use Rattle.tables.specs.Layout.{Tables}
 use Rattle.tables.specs.Task.{task_of, state_of}
+use Rattle.std.specs.Prelude.{Ok, Err}
 use Rattle.ledger.specs.declared.Run.{Run}
-use Rattle.ledger.specs.declared.Answer.TheVariants.{Accepted, Refused}
+use Rattle.ledger.specs.declared.Answer.TheVariants.{Accepted}
 use Rattle.ledger.specs.Ledger.{all_columns, offered, begun}
 use Rattle.ledger.specs.History.{Offer, run_after, Tells, GivenByStartAndLog, Sized, WithinSteps}
 use Rattle.ledger.proofs.Entries.{accepted_began}
@@ -51,18 +52,18 @@ module _ (r : Run) (within : WithinSteps r) where
   pub together_limit : sum (λ c. get_or r.columns c 0) cost_columns ≤ 1024000000
   together_limit = omega (arith, within.together, within.steps, most_paid)
 
-pub given_within : (t : Tables) → tables_fault t ≡ Clean → (r : Run) → GivenByStartAndLog (task_of t) r → WithinSteps r
+pub given_within : (t : Tables) → tables_fault t ≡ clean → (r : Run) → GivenByStartAndLog (task_of t) r → WithinSteps r
 given_within t clean r (state, (done, tells)) = tells_within (task_of t) (clean_valid t clean) (state_of r.start) done r tells
 
-module _ (t : Tables) (clean : tables_fault t ≡ Clean) (r : Run) where
+module _ (t : Tables) (clean : tables_fault t ≡ clean) (r : Run) where
   -- A RUN THAT ISN'T 17, as it was handed in and as it is handed back
-  pub not_seventeen_within : Sized r → (number o : ℕ) → ((offered t r number o).answer ≡ Refused NotARun → ⊥)
+  pub not_seventeen_within : Sized r → (number o : ℕ) → ((offered t r number o).answer ≡ Err NotARun → ⊥)
       → WithinSteps r × WithinSteps (offered t r number o).run
   not_seventeen_within sized number o other =
       let given = not_seventeen t r number o clean sized other in
       (given_within t clean r given.0, given_within t clean (offered t r number o).run given.1)
 
 -- every moment of a run that was begun
-pub begun_within : (t : Tables) (s : List ℕ) → (begun t s).answer ≡ Accepted → (xs : List Offer) → WithinSteps (run_after t s xs)
+pub begun_within : (t : Tables) (s : List ℕ) → (begun t s).answer ≡ Ok Accepted → (xs : List Offer) → WithinSteps (run_after t s xs)
 begun_within t s accepted xs =
     tells_within (task_of t) (clean_valid t (accepted_began t s accepted).clean) (state_of s) _ (run_after t s xs) (history t s accepted xs)

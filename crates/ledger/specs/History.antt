@@ -1,5 +1,6 @@
 -- What the offers alone say was really run, and what a run must tell of it at every moment.
-use Rattle.std.specs.Prelude.{ℕ, ◌+◌, ◌*◌, ◌≤◌, ◌<◌, ◌≡◌, ◌↔◌, Bool, ◌&&◌, cond, List, [], ◌∷◌, ◌++◌, ltb, eqb, length, get_or, take}
+use Rattle.std.specs.Prelude.{ℕ, ◌+◌, ◌*◌, ◌≤◌, ◌<◌, ◌≡◌, ◌↔◌, Bool, ◌&&◌, cond, List, [], ◌∷◌, ◌++◌, Result, Ok, Err, ltb, eqb, length, get_or, take}
+use Rattle.refusals.specs.declared.Refusal.{Refusal}
 use Rattle.meaning.specs.Sas.{State, IsState, MayRun, Runs, end, paid}
 use Rattle.meaning.specs.Views.{complies}
 use Rattle.meaning.specs.Split.{Task, sum}
@@ -7,7 +8,7 @@ use Rattle.tables.specs.Layout.{Tables}
 use Rattle.tables.specs.Task.{task_of, state_of}
 use Rattle.ledger.specs.declared.Run.{Run}
 use Rattle.ledger.specs.declared.Answer.{Answer}
-use Rattle.ledger.specs.declared.Answer.TheVariants.{Accepted, Repeated, Refused}
+use Rattle.ledger.specs.declared.Answer.TheVariants.{Accepted, Repeated}
 use Rattle.meaning.specs.Limits.{most_vars, most_cost, most_steps}
 use Rattle.ledger.specs.Ledger.{all_columns, offered, begun}
 use Rattle.meaning.specs.Columns.{cost_columns, stored_tests, gain}
@@ -110,10 +111,10 @@ pub record TellsStored (T : Task) (done : List ℕ) (r : Run) : Type 0 where
   pub met : QuotaMet T r ↔ (storing_steps T done ≡ T.quota)
 
 -- what an offer of operator o stores, by its answer: an accepted one its mark, a repeated or refused one nothing; and what offers stored, by their answers alone
-abbrev pub stored_by : Task → ℕ → Answer → ℕ
-stored_by T o Accepted = T.mark o
-stored_by T o Repeated = 0
-stored_by T o (Refused f) = 0
+abbrev pub stored_by : Task → ℕ → Result Answer Refusal → ℕ
+stored_by T o (Ok Accepted) = T.mark o
+stored_by T o (Ok Repeated) = 0
+stored_by T o (Err f) = 0
 
 unfoldable pub stored_by_all : Tables → Run → List Offer → ℕ
 stored_by_all t r [] = 0

@@ -1,12 +1,15 @@
 -- The run and its ledger: what a step changes, what a start and a log give, and what an offer is answered and leaves behind.
-use Rattle.std.specs.Prelude.{ℕ, ◌+◌, ◌-◌, Bool, true, false, ◌&&◌, ◌||◌, cond, List, [], ◌∷◌, ltb, leb, eqb, get_or, set, take, drop, replicate}
+use Rattle.scan.specs.Found.{Found}
+use Rattle.std.specs.Prelude.{ℕ, ◌+◌, ◌-◌, Bool, ◌&&◌, ◌||◌, cond, List, [], ◌∷◌, Option, Some, None, Result, Ok, Err, ltb, leb, eqb, get_or, set, take, drop, replicate}
+use Rattle.std.specs.Cmp.Lexicographic.{pointwise}
+use Rattle.std.specs.List.{list_all}
+use Rattle.std.specs.Option.{option_eq}
+use Rattle.refusals.specs.declared.Refusal.{Refusal}
 use Rattle.refusals.specs.declared.Refusal.TheVariants.{NoSuchOperator, MayNotRun, NotTheNext, OtherOperator, RunFull, NotARun, BeyondQuota}
 use Rattle.meaning.specs.Views.{every}
 use Rattle.meaning.specs.Split.{Task}
 use Rattle.meaning.specs.Columns.{cost_columns, stored_tests, gain}
 use Rattle.tables.specs.declared.Counts.{Counts}
-use Rattle.scan.specs.declared.Found.{Found}
-use Rattle.scan.specs.declared.Found.TheVariants.{Clean, Fault}
 use Rattle.tables.specs.Layout.{Tables, dom_at}
 use Rattle.tables.specs.Task.{task_of}
 use Rattle.tables.specs.Steps.{may_run, can_store, overwritten, stepped, copied}
@@ -14,9 +17,8 @@ use Rattle.scan.specs.Scan.{tables_fault, input_fault}
 use Rattle.meaning.specs.Limits.{most_vars, most_steps}
 use Rattle.ledger.specs.declared.Run.{Run}
 use Rattle.ledger.specs.declared.replay.Standing.{Standing}
-use Rattle.ledger.specs.declared.replay.Tried.{Tried}
 use Rattle.ledger.specs.declared.Answer.{Answer}
-use Rattle.ledger.specs.declared.Answer.TheVariants.{Accepted, Repeated, Refused}
+use Rattle.ledger.specs.declared.Answer.TheVariants.{Accepted, Repeated}
 use Rattle.ledger.specs.declared.Offered.{Offered}
 
 -- all columns that a run has: those of the cost, and that of the stored tests, which is no payment
@@ -69,13 +71,13 @@ within_quota c facts columns o = can_store c facts (get_or columns stored_tests 
 unfoldable pub can_follow : Counts → List ℕ → Standing → ℕ → Bool
 can_follow c facts x o = can_run c facts x.now o && within_quota c facts x.columns o
 
--- where a list of steps leads, as far as each can be the next
-unfoldable pub replayed : Tables → Standing → List ℕ → Tried
-replayed t x [] = record { ok = true; at = x }
-replayed t x (o ∷ os) = cond (can_follow t.counts t.facts x o) (replayed t (onward t x o) os) (record { ok = false; at = x })
+-- where a list of steps leads; nowhere, if one of them can't be the next
+unfoldable pub replayed : Tables → Standing → List ℕ → Option Standing
+replayed t x [] = Some x
+replayed t x (o ∷ os) = cond (can_follow t.counts t.facts x o) (replayed t (onward t x o) os) None
 
 -- what a run's start and log give
-unfoldable pub given : Tables → Run → Tried
+unfoldable pub given : Tables → Run → Option Standing
 given t r = replayed t (at_start r.start) (take r.len r.log)
 
 -- a start: each value x in its variable v, and 0 beyond the variables
@@ -90,59 +92,54 @@ start_in c facts s = every (starts_at c facts s) most_vars
 
 -- every number is 0
 unfoldable pub zeros : List ℕ → Bool
-zeros [] = true
-zeros (x ∷ xs) = eqb x 0 && zeros xs
+zeros xs = list_all (λ x. eqb x 0) xs
 
--- two lists have the same numbers at the first k places; two stand alike
-abbrev pub same_at : List ℕ → List ℕ → ℕ → Bool
-same_at xs ys i = eqb (get_or xs i 0) (get_or ys i 0)
-
-unfoldable pub same_to : ℕ → List ℕ → List ℕ → Bool
-same_to k xs ys = every (same_at xs ys) k
-
-unfoldable pub alike : Standing → Standing → Bool
-alike x y = same_to most_vars x.now y.now && same_to all_columns x.columns y.columns
+-- two stand alike: in the same state, with the same columns
+abbrev pub alike : Standing → Standing → Bool
+alike x y = pointwise eqb x.now y.now && pointwise eqb x.columns y.columns
 
 -- the run is what its start and log give: the log isn't too long, the start is one, unused places of the log are 0, each step can run and keeps the quota, and
 -- the run stands where they lead
 unfoldable pub is_run : Tables → Run → Bool
 is_run t r =
-    leb r.len most_steps && start_in t.counts t.facts r.start && zeros (drop r.len r.log) && (given t r).ok
-    && alike (standing r) (given t r).at
+    leb r.len most_steps && start_in t.counts t.facts r.start && zeros (drop r.len r.log)
+    && option_eq alike (given t r) (Some (standing r))
 
 -- an old number: repeated with the logged operator, and 14 with another
-unfoldable pub old_step : Run → ℕ → ℕ → Answer
-old_step r number o = cond (eqb (get_or r.log (number - 1) 0) o) Repeated (Refused (OtherOperator number))
+unfoldable pub old_step : Run → ℕ → ℕ → Result Answer Refusal
+old_step r number o = cond (eqb (get_or r.log (number - 1) 0) o) (Ok Repeated) (Err (OtherOperator number))
 
 -- the next number: 15 if full, 12 if it may not run, 19 if it stores beyond the quota, else accepted
-unfoldable pub next_step : Counts → List ℕ → Run → ℕ → ℕ → Answer
+unfoldable pub next_step : Counts → List ℕ → Run → ℕ → ℕ → Result Answer Refusal
 next_step c facts r number o =
-    cond (leb most_steps r.len) (Refused (RunFull number))
-    (cond (can_run c facts r.now o) (cond (within_quota c facts r.columns o) Accepted (Refused (BeyondQuota number)))
-    (Refused (MayNotRun number)))
+    cond (leb most_steps r.len) (Err (RunFull number))
+    (cond (can_run c facts r.now o) (cond (within_quota c facts r.columns o) (Ok Accepted) (Err (BeyondQuota number)))
+    (Err (MayNotRun number)))
 
 -- an offer to a run: 10, then 13 at number 0 or beyond the next, then old or next
-unfoldable pub offer_judged : Counts → List ℕ → Run → ℕ → ℕ → Answer
+unfoldable pub offer_judged : Counts → List ℕ → Run → ℕ → ℕ → Result Answer Refusal
 offer_judged c facts r number o =
-    cond (leb c.ops o) (Refused (NoSuchOperator number))
-    (cond (eqb number 0 || ltb (r.len + 1) number) (Refused (NotTheNext number))
+    cond (leb c.ops o) (Err (NoSuchOperator number))
+    (cond (eqb number 0 || ltb (r.len + 1) number) (Err (NotTheNext number))
     (cond (leb number r.len) (old_step r number o) (next_step c facts r number o)))
 
 -- a fault refuses, before all that comes after it
-abbrev pub refused_or : Found → Answer → Answer
-refused_or Clean a = a
-refused_or (Fault f) a = Refused f
+abbrev pub refused_or : Found → Result Answer Refusal → Result Answer Refusal
+refused_or (Ok tt) a = a
+refused_or (Err f) a = Err f
 
 -- the answer to an offer: tables, then 17, then the offer itself
-unfoldable pub answered : Tables → Run → ℕ → ℕ → Answer
-answered t r number o =
-    refused_or (tables_fault t) (cond (is_run t r) (offer_judged t.counts t.facts r number o) (Refused NotARun))
+abbrev pub run_answered : Tables → Run → ℕ → ℕ → Result Answer Refusal
+run_answered t r number o = cond (is_run t r) (offer_judged t.counts t.facts r number o) (Err NotARun)
+
+unfoldable pub answered : Tables → Run → ℕ → ℕ → Result Answer Refusal
+answered t r number o = refused_or (tables_fault t) (run_answered t r number o)
 
 -- only an accepted offer moves the run
-abbrev pub moved : Tables → Run → ℕ → Answer → Run
-moved t r o Accepted = advanced t r o
-moved t r o Repeated = r
-moved t r o (Refused f) = r
+abbrev pub moved : Tables → Run → ℕ → Result Answer Refusal → Run
+moved t r o (Ok Accepted) = advanced t r o
+moved t r o (Ok Repeated) = r
+moved t r o (Err f) = r
 
 -- AN OFFER: the run after it together with the answer
 unfoldable pub offered : Tables → Run → ℕ → ℕ → Offered
@@ -150,8 +147,8 @@ offered t r number o = record { run = moved t r o (answered t r number o); answe
 
 -- a refused start hands back a run of zeros
 unfoldable pub started : Found → Run → Offered
-started Clean r = record { run = r; answer = Accepted }
-started (Fault f) r = record { run = fresh (replicate most_vars 0); answer = Refused f }
+started (Ok tt) r = record { run = r; answer = Ok Accepted }
+started (Err f) r = record { run = fresh (replicate most_vars 0); answer = Err f }
 
 -- A START: tables, then the state; the run starts from the lent state's values, with 0 beyond the variables
 unfoldable pub begun : Tables → List ℕ → Offered

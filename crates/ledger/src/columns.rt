@@ -1,39 +1,30 @@
 // What a step books.
 ghost use Rattle.std.specs.Prelude.{◌≡◌, ◌<◌};
-ghost use Rattle.tables.specs.Task.{task_of, tables, lent};
-ghost use Rattle.scan.specs.declared.Found.TheVariants.{Clean};
-ghost use Rattle.scan.specs.Scan.{tables_fault};
+ghost use Rattle.tables.specs.Task.{task_of, was};
 ghost use Rattle.ledger.specs.Ledger.{booked};
 ghost use Rattle.ledger.specs.Inside.Bounded.{HasRoom};
+ghost use Rattle.ledger.specs.Inside.Judged.{its_tables};
 
+use crate::judged::Judged;
 use crate::{COLUMNS, STORED, UNSHARED};
 use meaning::OpNo;
-use tables::Counts;
 use tables::readers::mark_of;
 
-// Adds the operator's share to each map's column, what it costs beyond its shares to the unshared one, and its mark to the stored tests. The tables are lent
-// whole, as the promise speaks of the task that they spell.
-pub fn book(
-    c: Counts,
-    facts: &[u8],
-    costs: &[u32],
-    shares: &[u32],
-    columns: &mut [u32; COLUMNS],
-    op: OpNo,
-)
-    requires { (tables_fault (tables c facts.now costs.now shares.now) ≡ Clean) × (op.0 < c.ops) × HasRoom columns.old }
-    ensures { columns.new ≡ booked (task_of (lent c facts costs shares)) columns.old op.0 }
-{
-    let o = op.0 as usize;
-    let mut shared: u32 = 0;
-    let mut m: u32 = 0;
-    while m < c.maps {
-        let at = m as usize;
-        let share = shares[at * 64 + o];
-        columns[at] = columns[at] + share;
-        shared += share;
-        m += 1;
+impl Judged<'_> {
+    // Adds the operator's share to each map's column, what it costs beyond its shares to the unshared one, and its mark to the stored tests.
+    pub fn book(&self, columns: &mut [u32; COLUMNS], op: OpNo)
+        requires { (op.0 < self.now.tables.counts.ops) × HasRoom columns.old }
+        ensures { columns.new ≡ booked (task_of (its_tables (was self))) columns.old op.0 }
+    {
+        let o = usize::from(op);
+        let maps = self.tables.counts.maps as usize;
+        let mut shared = 0;
+        for (m, column) in columns[..maps].iter_mut().enumerate() {
+            let share = self.tables.shares[m * 64 + o];
+            *column += share;
+            shared += share;
+        }
+        columns[UNSHARED] += self.tables.costs[o] - shared;
+        columns[STORED] += mark_of(self.tables.counts, self.tables.facts, op);
     }
-    columns[UNSHARED] = columns[UNSHARED] + (costs[o] - shared);
-    columns[STORED] = columns[STORED] + mark_of(c, facts, op);
 }

@@ -1,30 +1,26 @@
 // The run and its ledger: a run goes in by value and comes back advanced or unchanged, with the answer beside it.
 #![tactic(auto)]
 
-ghost use Rattle.std.specs.Prelude.{◌≡◌, ◌≤◌, ◌<◌, length};
-ghost use Rattle.meaning.specs.Limits.{most_vars, most_ops, most_steps};
-ghost use Rattle.tables.specs.Layout.{facts_room};
-ghost use Rattle.tables.specs.Task.{tables, lent, was};
-ghost use Rattle.scan.specs.declared.Found.TheVariants.{Clean};
-ghost use Rattle.scan.specs.Scan.{tables_fault};
-ghost use Rattle.ledger.specs.Ledger.{fresh, advanced, standing, alike, is_run, old_step, next_step, offer_judged, answered, offered, begun};
+ghost use Rattle.std.specs.Prelude.{◌≡◌, ◌≤◌, ◌<◌};
+ghost use Rattle.meaning.specs.Limits.{most_steps};
+ghost use Rattle.tables.specs.Task.{lent, was};
+ghost use Rattle.ledger.specs.Ledger.{fresh, advanced, standing, zeros, is_run, old_step, next_step, offer_judged, run_answered, moved, offered, begun};
 ghost use Rattle.ledger.specs.Inside.Bounded.{Bounded};
+ghost use Rattle.ledger.specs.Inside.Judged.{its_tables};
 
 mod columns;
-mod compare;
+mod judged;
 mod replay;
 mod starts;
 
-use crate::columns::book;
-use crate::compare::{same_bytes, same_words, zeros_from};
-use crate::replay::{Standing, can_run, replay, step, within_quota};
-use crate::starts::start_in;
+use crate::judged::Judged;
+use crate::replay::Standing;
 use meaning::OpNo;
 use meaning::limits::STEPS_MOST;
 use refusals::Refusal;
-use scan::{Found, input_fault, tables_fault};
+use scan::input_fault;
 use sequences::stepping::copy;
-use tables::Counts;
+use tables::LentTables;
 
 // The unshared column, after those of 8 maps.
 pub const UNSHARED: usize = 8;
@@ -37,7 +33,8 @@ pub const STORED: usize = COST_COLUMNS;
 
 pub const COLUMNS: usize = COST_COLUMNS + 1;
 
-// A run: its start, the operators of its steps, how many they are, the state now, and the columns. Unused places are 0.
+// A run: its start, the operators of its steps, how many they are, the state now, and the columns. Unused places are 0. A length beside the log, since C lends the
+// two so, and hands in what it likes (`run_in`).
 #[derive(Clone, Copy)]
 pub struct Run {
     pub start: [u8; 8],
@@ -47,19 +44,30 @@ pub struct Run {
     pub columns: [u32; COLUMNS],
 }
 
-// What an offer, or a start, is answered.
-#[derive(Clone, Copy)]
+// What an offer, or a start, is answered that isn't refused.
+#[derive(Clone, Copy, PartialEq, Eq)]
 pub enum Answer {
     Accepted,
     Repeated,
-    Refused(Refusal),
 }
 
 // The run after an offer or a start, with the answer.
 #[derive(Clone, Copy)]
 pub struct Offered {
     pub run: Run,
-    pub answer: Answer,
+    pub answer: Result<Answer, Refusal>,
+}
+
+// No number but 0 stands there. Each is looked at whatever stood before it, since so several can be at once: by `all`, which stops, an offer to a fresh run took
+// 18 % longer.
+fn all_zero(words: &[u32]) -> bool
+    ensures { result ≡ zeros (was words) }
+{
+    let mut zero = true;
+    for x in words {
+        zero &= *x == 0;
+    }
+    zero
 }
 
 impl Run {
@@ -69,188 +77,147 @@ impl Run {
     {
         Run {
             start,
-            log: [0u32; STEPS_MOST],
+            log: [0; STEPS_MOST],
             len: 0,
             now: start,
-            columns: [0u32; COLUMNS],
+            columns: [0; COLUMNS],
+        }
+    }
+
+    // Where the run stands.
+    fn standing(&self) -> Standing
+        ensures { result ≡ standing (was self) }
+    {
+        Standing {
+            now: self.now,
+            columns: self.columns,
         }
     }
 
     // The run with the operator run once more.
-    fn advance(mut self, c: Counts, facts: &[u8], costs: &[u32], shares: &[u32], op: OpNo) -> Run
-        requires { (tables_fault (tables c facts.now costs.now shares.now) ≡ Clean) × (op.0 < c.ops) × (self.len < most_steps) × Bounded self.len self.columns }
-        ensures { result ≡ advanced (lent c facts costs shares) self op.0 }
+    fn advance(mut self, t: &Judged<'_>, op: OpNo) -> Run
+        requires { (op.0 < t.now.tables.counts.ops) × (self.len < most_steps) × Bounded self.len self.columns }
+        ensures { result ≡ advanced (its_tables (was t)) self op.0 }
     {
-        let at = self.len as usize;
-        let mut state = self.now;
-        let mut columns = self.columns;
-        step(c, facts, &mut state, op);
-        book(c, facts, costs, shares, &mut columns, op);
-        self.log[at] = op.0;
-        self.len = self.len + 1;
-        self.now = state;
-        self.columns = columns;
-        self
-    }
-
-    // The run stands where replaying its log led.
-    fn stands_at(self, at: Standing) -> bool
-        ensures { result ≡ alike (standing self) at }
-    {
-        if !same_bytes(&self.now, &at.now) {
-            return false;
+        let mut at = self.standing();
+        t.go_on(&mut at, op);
+        self.log[self.len as usize] = op.0;
+        Run {
+            len: self.len + 1,
+            now: at.now,
+            columns: at.columns,
+            ..self
         }
-        same_words(&self.columns, &at.columns, COLUMNS)
     }
 
     // The run is what its start and log give.
-    fn is_run(self, c: Counts, facts: &[u8], costs: &[u32], shares: &[u32]) -> bool
-        requires { tables_fault (tables c facts.now costs.now shares.now) ≡ Clean }
-        ensures { result ≡ is_run (lent c facts costs shares) self }
+    fn is_run(&self, t: &Judged<'_>) -> bool
+        ensures { result ≡ is_run (its_tables (was t)) (was self) }
     {
         let len = self.len as usize;
-        if STEPS_MOST < len {
+        if STEPS_MOST < len || !t.has_start(&self.start) {
             return false;
         }
-        let start = self.start;
-        if !start_in(c, facts, start) {
-            return false;
-        }
-        if !zeros_from(&self.log, len) {
-            return false;
-        }
-        let t = replay(c, facts, costs, shares, start, &self.log, len);
-        if !t.ok {
-            return false;
-        }
-        self.stands_at(t.at)
+        let (steps, unused) = self.log.split_at(len);
+        all_zero(unused) && t.replay(self.start, steps) == Some(self.standing())
     }
 
     // An old number: repeated with the logged operator, refused with another.
-    fn old_step(self, number: u32, op: OpNo) -> Answer
-        requires { (1 ≤ number) × (number ≤ self.len) × (self.len ≤ most_steps) }
-        ensures { result ≡ old_step self number op.0 }
+    fn old_step(&self, number: u32, op: OpNo) -> Result<Answer, Refusal>
+        requires { (1 ≤ number) × (number ≤ self.now.len) × (self.now.len ≤ most_steps) }
+        ensures { result ≡ old_step (was self) number op.0 }
     {
-        let at = (number - 1) as usize;
-        if self.log[at] == op.0 {
-            return Answer::Repeated;
+        if self.log[number as usize - 1] != op.0 {
+            return Err(Refusal::OtherOperator(number));
         }
-        Answer::Refused(Refusal::OtherOperator(number))
+        Ok(Answer::Repeated)
     }
 
     // The next number: refused if the run is full, the operator may not run, or it stores beyond the quota, else accepted.
-    fn next_step(self, c: Counts, facts: &[u8], number: u32, op: OpNo) -> Answer
-        requires { (c.vars ≤ most_vars) × (c.ops ≤ most_ops) × (facts_room ≤ length facts.now) }
-        ensures { result ≡ next_step c (was facts) self number op.0 }
+    fn next_step(&self, t: &Judged<'_>, number: u32, op: OpNo) -> Result<Answer, Refusal>
+        ensures { result ≡ next_step (was t).tables.counts (was t).tables.facts.now (was self) number op.0 }
     {
         if STEPS_MOST <= self.len as usize {
-            return Answer::Refused(Refusal::RunFull(number));
+            return Err(Refusal::RunFull(number));
         }
-        if !can_run(c, facts, &self.now, op) {
-            return Answer::Refused(Refusal::MayNotRun(number));
+        if !t.can_run(&self.now, op) {
+            return Err(Refusal::MayNotRun(number));
         }
-        if within_quota(c, facts, &self.columns, op) {
-            return Answer::Accepted;
+        if !t.within_quota(&self.columns, op) {
+            return Err(Refusal::BeyondQuota(number));
         }
-        Answer::Refused(Refusal::BeyondQuota(number))
+        Ok(Answer::Accepted)
     }
 
     // What an offer to a run is answered.
-    fn judge(self, c: Counts, facts: &[u8], number: u32, op: OpNo) -> Answer
-        requires { (c.vars ≤ most_vars) × (c.ops ≤ most_ops) × (facts_room ≤ length facts.now) × (self.len ≤ most_steps) }
-        ensures { result ≡ offer_judged c (was facts) self number op.0 }
+    fn judge(&self, t: &Judged<'_>, number: u32, op: OpNo) -> Result<Answer, Refusal>
+        requires { self.now.len ≤ most_steps }
+        ensures { result ≡ offer_judged (was t).tables.counts (was t).tables.facts.now (was self) number op.0 }
     {
-        if c.ops <= op.0 {
-            return Answer::Refused(Refusal::NoSuchOperator(number));
+        if t.tables.counts.ops <= op.0 {
+            return Err(Refusal::NoSuchOperator(number));
         }
-        if number == 0 {
-            return Answer::Refused(Refusal::NotTheNext(number));
-        }
-        if self.len + 1 < number {
-            return Answer::Refused(Refusal::NotTheNext(number));
+        if number == 0 || self.len + 1 < number {
+            return Err(Refusal::NotTheNext(number));
         }
         if number <= self.len {
             return self.old_step(number, op);
         }
-        self.next_step(c, facts, number, op)
+        self.next_step(t, number, op)
     }
 
-    // The answer to an offer: tables, then 17, then the offer itself.
-    fn answer(
-        self,
-        c: Counts,
-        facts: &[u8],
-        costs: &[u32],
-        shares: &[u32],
-        number: u32,
-        op: OpNo,
-    ) -> Answer
-        ensures { result ≡ answered (lent c facts costs shares) self number op.0 }
+    // The answer to an offer once the tables were judged: 17, then the offer itself.
+    fn answer(&self, t: &Judged<'_>, number: u32, op: OpNo) -> Result<Answer, Refusal>
+        ensures { result ≡ run_answered (its_tables (was t)) (was self) number op.0 }
     {
-        let found = tables_fault(c, facts, costs, shares);
-        match found {
-            Found::Clean => {
-                if !self.is_run(c, facts, costs, shares) {
-                    return Answer::Refused(Refusal::NotARun);
-                }
-                self.judge(c, facts, number, op)
+        if !self.is_run(t) {
+            return Err(Refusal::NotARun);
+        }
+        self.judge(t, number, op)
+    }
+
+    // The run after an offer, once the tables were judged. Only an accepted offer moves it.
+    fn offer_to(mut self, t: &Judged<'_>, number: u32, op: OpNo) -> Offered
+        ensures { result ≡ offered (its_tables (was t)) self number op.0 }
+    {
+        let answer = self.answer(t, number, op);
+        // Each answer has an arm of its own, as in `moved`: where two share one, the proof isn't told which was taken.
+        match answer {
+            Ok(Answer::Accepted) => {
+                self = self.advance(t, op);
+                Offered { run: self, answer }
             }
-            Found::Fault(f) => Answer::Refused(f),
+            Ok(Answer::Repeated) => Offered { run: self, answer },
+            Err(_) => Offered { run: self, answer },
         }
     }
 
-    // An offer of a step: the run after it together with the answer. Only an accepted offer moves the run.
-    pub fn offer(
-        mut self,
-        c: Counts,
-        facts: &[u8],
-        costs: &[u32],
-        shares: &[u32],
-        number: u32,
-        op: OpNo,
-    ) -> Offered
-        ensures { result ≡ offered (lent c facts costs shares) self number op.0 }
+    // An offer of a step: the run after it together with the answer.
+    pub fn offer(self, t: LentTables, number: u32, op: OpNo) -> Offered
+        ensures { result ≡ offered (lent t) self number op.0 }
     {
-        let a = self.answer(c, facts, costs, shares, number, op);
-        match a {
-            Answer::Accepted => {
-                self = self.advance(c, facts, costs, shares, op);
-                Offered {
-                    run: self,
-                    answer: a,
-                }
-            }
-            Answer::Repeated => Offered {
+        match Judged::new(t) {
+            Ok(judged) => self.offer_to(&judged, number, op),
+            Err(f) => Offered {
                 run: self,
-                answer: a,
-            },
-            Answer::Refused(_) => Offered {
-                run: self,
-                answer: a,
+                answer: Err(f),
             },
         }
     }
 
     // A fresh run from a lent state; or a run of zeros beside the refusal.
-    pub fn begin(c: Counts, facts: &[u8], costs: &[u32], shares: &[u32], start: &[u8]) -> Offered
-        ensures { result ≡ begun (lent c facts costs shares) (was start) }
+    pub fn begin(t: LentTables, start: &[u8]) -> Offered
+        ensures { result ≡ begun (lent t) (was start) }
     {
-        let found = input_fault(c, facts, costs, shares, start);
-        match found {
-            Found::Clean => {
-                let run = Run::fresh(copy(c.vars, start));
-                Offered {
-                    run,
-                    answer: Answer::Accepted,
-                }
-            }
-            Found::Fault(f) => {
-                let run = Run::fresh([0u8; 8]);
-                Offered {
-                    run,
-                    answer: Answer::Refused(f),
-                }
-            }
+        match input_fault(t, start) {
+            Ok(()) => Offered {
+                run: Run::fresh(copy(t.counts.vars, start)),
+                answer: Ok(Answer::Accepted),
+            },
+            Err(f) => Offered {
+                run: Run::fresh([0; 8]),
+                answer: Err(f),
+            },
         }
     }
 }

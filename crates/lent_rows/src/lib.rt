@@ -1,4 +1,4 @@
-// Judging by the first records of a row that is held by value. A row has 80 records, more than there may be operators, so that rows that are too long can be lent too.
+// Judging by the first records of a row that is held by value. The row may have more records than there may be operators, so that rows that are too long can be lent too.
 #![tactic(auto)]
 
 ghost use Rattle.std.specs.Prelude.{◌≡◌, ◌≤◌, take};
@@ -7,21 +7,21 @@ ghost use Rattle.records.specs.Records.{records_tables};
 ghost use Rattle.tables.specs.Task.{was};
 
 use records::{OpRecord, judge_records};
-use sequences::judging::Judged;
+use refusals::Refusal;
 use tables::Counts;
 
-// Judging by the first n records of a row, which are lent here: whoever calls this one holds no reference to a record.
-pub fn judge_first<'a>(
+// Judging by the first n records of a row, which are lent here.
+pub fn judge_first<const N: usize>(
     c: Counts,
-    facts: &'a [u8],
-    shares: &'a [u32],
-    rows: [OpRecord; 80],
+    facts: &[u8],
+    shares: &[u32],
+    rows: [OpRecord; N],
     n: usize,
-    s: &'a [u8],
-    ops: &'a [u32],
-) -> Judged
-    requires { n ≤ 80 }
-    ensures { result ≡ judged_of (records_tables c (was facts) (was shares) (take n rows)) (was s) (was ops) }
+    s: &[u8],
+    ops: &[u32],
+) -> Result<u32, Refusal>
+    requires { n ≤ N }
+    ensures { result ≡ judged_of (records_tables c (was facts) (was shares) (take n rows.entry)) (was s) (was ops) }
 {
     judge_records(c, facts, shares, &rows[..n], s, ops)
 }

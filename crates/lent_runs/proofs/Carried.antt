@@ -8,20 +8,22 @@ use mathlib.Core.Logic.{◌↔◌}
 use native.Mathlib.Omega.{arith}
 use lib.ListN.{length, get_or, set, length-set}
 use lib.Seq.{get_or-set_same, get_or-set_other, set-get_or}
+use Rattle.scan.specs.Found.{clean}
+use Rattle.std.specs.Prelude.{Result, Ok, Err}
+use Rattle.refusals.specs.declared.Refusal.{Refusal}
 use Rattle.refusals.specs.declared.Refusal.TheVariants.{TableTooShort, NotARun}
 use Rattle.meaning.proofs.Facts.{by_cases}
-use Rattle.scan.specs.declared.Found.TheVariants.{Clean}
 use Rattle.tables.specs.Layout.{Tables}
 use Rattle.tables.specs.Task.{task_of, state_of}
 use Rattle.scan.specs.Scan.{tables_fault}
 use Rattle.meaning.specs.Limits.{most_vars, most_steps}
 use Rattle.ledger.specs.declared.Run.{Run}
 use Rattle.ledger.specs.declared.Answer.{Answer}
-use Rattle.ledger.specs.declared.Answer.TheVariants.{Accepted, Repeated, Refused}
+use Rattle.ledger.specs.declared.Answer.TheVariants.{Accepted, Repeated}
 use Rattle.ledger.specs.declared.Offered.{Offered}
 use Rattle.ledger.specs.Ledger.{all_columns, begun, offered}
 use Rattle.ledger.specs.History.{Offer, really_run, ran, run_after, Tells, GivenByStartAndLog, Sized, WithinSteps, steps_in, TellsStored}
-use Rattle.ledger.proofs.Accepted.{not_refused, offer_stays}
+use Rattle.ledger.proofs.Accepted.{offer_stays}
 use Rattle.ledger.proofs.Entries.{offered_sized}
 use Rattle.ledger.proofs.History.{history}
 use Rattle.ledger.proofs.Seventeen.{seventeen_exactly, not_seventeen}
@@ -115,13 +117,10 @@ lengths_kept r bytes words =
 abbrev pub run_lent : RunLeft → Run
 run_lent m = run_in m.bytes m.words
 
-not_repeated : Repeated ≡ Accepted → ⊥
-not_repeated e = let z : ◌≡◌ {A = ℕ} 0 1 = cc in omega arith
-
-either_way : {A : Type 0} (a : Answer) → (a ≡ Accepted → A) → ((a ≡ Accepted → ⊥) → A) → A
-either_way Accepted f g = f refl
-either_way Repeated f g = g not_repeated
-either_way (Refused r) f g = g (not_refused r)
+either_way : {A : Type 0} (a : Result Answer Refusal) → (a ≡ Ok Accepted → A) → ((a ≡ Ok Accepted → ⊥) → A) → A
+either_way (Ok Accepted) f g = f refl
+either_way (Ok Repeated) f g = g (λ e. cc)
+either_way (Err r) f g = g (λ e. cc)
 
 -- ---- an answer that is handed back through lent memory
 
@@ -129,13 +128,13 @@ either_way (Refused r) f g = g (not_refused r)
 -- run's as they were, in memory as long as before
 pub record Carried (bytes words : List ℕ) (o : Offered) (left : RunLeft) : Type 0 where
   pub told : left.word ≡ answer_word o.answer
-  pub run : o.answer ≡ Accepted → run_lent left ≡ o.run
-  pub still : (o.answer ≡ Accepted → ⊥) → (left.bytes ≡ bytes) × (left.words ≡ words)
+  pub run : o.answer ≡ Ok Accepted → run_lent left ≡ o.run
+  pub still : (o.answer ≡ Ok Accepted → ⊥) → (left.bytes ≡ bytes) × (left.words ≡ words)
   pub beyond : (k : ℕ) → (run_bytes ≤ k → get_or left.bytes k 0 ≡ get_or bytes k 0) × (run_words ≤ k → get_or left.words k 0 ≡ get_or words k 0)
   pub lengths : (length left.bytes ≡ length bytes) × (length left.words ≡ length words)
 
 module _ (bytes words : List ℕ) (long-bytes : run_bytes ≤ length bytes) (long-words : run_words ≤ length words) where
-  kept_carried : (a : Answer) (r : Run) → (a ≡ Accepted → ⊥)
+  kept_carried : (a : Result Answer Refusal) (r : Run) → (a ≡ Ok Accepted → ⊥)
       → Carried bytes words (record { run = r; answer = a }) (run_left (answer_word a) bytes words)
   kept_carried a r h =
       record {
@@ -146,9 +145,9 @@ module _ (bytes words : List ℕ) (long-bytes : run_bytes ≤ length bytes) (lon
         lengths = (refl, refl);
       }
 
-  answer_carried : (a : Answer) (r : Run) → Sized r
+  answer_carried : (a : Result Answer Refusal) (r : Run) → Sized r
       → Carried bytes words (record { run = r; answer = a }) (left_by a r bytes words)
-  answer_carried Accepted r sized =
+  answer_carried (Ok Accepted) r sized =
       record {
         told = refl;
         run = λ e. taken_back r sized bytes words long-bytes long-words;
@@ -156,8 +155,8 @@ module _ (bytes words : List ℕ) (long-bytes : run_bytes ≤ length bytes) (lon
         beyond = beyond_kept r bytes words;
         lengths = lengths_kept r bytes words;
       }
-  answer_carried Repeated r sized = kept_carried Repeated r not_repeated
-  answer_carried (Refused f) r sized = kept_carried (Refused f) r (not_refused f)
+  answer_carried (Ok Repeated) r sized = kept_carried (Ok Repeated) r (λ e. cc)
+  answer_carried (Err f) r sized = kept_carried (Err f) r (λ e. cc)
 
   unless_short_carried : (o : Offered) → Sized o.run → Carried bytes words o (unless_short o bytes words)
   unfolding handed
@@ -202,7 +201,7 @@ memory_ran t (x ∷ xs) m b w =
 
 -- THE HISTORY IN LENT MEMORY: after an accepted start and any offers, the run there is the one that the desk's theorems speak of, and tells the steps really run
 module _ (t : Tables) (s bytes words : List ℕ) (long-bytes : run_bytes ≤ length bytes) (long-words : run_words ≤ length words)
-    (accepted : (begun t s).answer ≡ Accepted) where
+    (accepted : (begun t s).answer ≡ Ok Accepted) where
   pub memory_after : (xs : List Offer) → run_lent (offers_handed t (begin_handed t s bytes words) xs) ≡ run_after t s xs
   memory_after xs =
       let carried = begins_carried bytes words long-bytes long-words t s in
@@ -223,10 +222,10 @@ module _ (t : Tables) (s bytes words : List ℕ) (long-bytes : run_bytes ≤ len
 module _ (t : Tables) (bytes words : List ℕ) (number o : ℕ) where
   abbrev Seventeen : Type 0
   Seventeen =
-      (run_bytes ≤ length bytes) × (run_words ≤ length words) × (tables_fault t ≡ Clean) × (GivenByStartAndLog (task_of t) (run_in bytes words) → ⊥)
+      (run_bytes ≤ length bytes) × (run_words ≤ length words) × (tables_fault t ≡ clean) × (GivenByStartAndLog (task_of t) (run_in bytes words) → ⊥)
 
-  exactly : ((offered t (run_in bytes words) number o).answer ≡ Refused NotARun)
-      ↔ ((tables_fault t ≡ Clean) × (GivenByStartAndLog (task_of t) (run_in bytes words) → ⊥))
+  exactly : ((offered t (run_in bytes words) number o).answer ≡ Err NotARun)
+      ↔ ((tables_fault t ≡ clean) × (GivenByStartAndLog (task_of t) (run_in bytes words) → ⊥))
   exactly = seventeen_exactly t (run_in bytes words) number o (run_in_lengths bytes words)
 
   told_so : (offer_handed t bytes words number o).word ≡ refused_word NotARun → Seventeen
@@ -239,7 +238,7 @@ module _ (t : Tables) (bytes words : List ℕ) (number o : ℕ) where
       (λ p.
       let long = long_enough bytes words p in
       let told = (offers_carried bytes words long.0 long.1 t number o).told in
-      let h = exactly.0 (answer_told (offered t (run_in bytes words) number o).answer (Refused NotARun) (sym told ∙ e)) in
+      let h = exactly.0 (answer_told (offered t (run_in bytes words) number o).answer (Err NotARun) (sym told ∙ e)) in
       (long.0, long.1, h.0, h.1))
 
   pub memory_seventeen_exactly : ((offer_handed t bytes words number o).word ≡ refused_word NotARun) ↔ Seventeen
@@ -247,7 +246,7 @@ module _ (t : Tables) (bytes words : List ℕ) (number o : ℕ) where
       (told_so, λ h. (offers_carried bytes words h.0 h.1 t number o).told ∙ ap answer_word (exactly.1 (h.2, h.3)))
 
   -- what isn't 17 is what its start and log give, before the offer and after it; so its columns are within the steps, and it tells the tests of its own log
-  module _ (long-bytes : run_bytes ≤ length bytes) (long-words : run_words ≤ length words) (clean : tables_fault t ≡ Clean)
+  module _ (long-bytes : run_bytes ≤ length bytes) (long-words : run_words ≤ length words) (clean : tables_fault t ≡ clean)
       (other : (offer_handed t bytes words number o).word ≡ refused_word NotARun → ⊥) where
     abbrev before : Run
     before = run_in bytes words

@@ -3,21 +3,19 @@
 use Prim.Native.Nat.{ℕ, ◌≤◌, ◌<◌}
 use mathlib.Core.Path.{◌≡◌, refl, ap, sym, ◌∙◌}
 use mathlib.Core.Bool.{Bool, true, false, ◌||◌, false≢true}
-use mathlib.Core.List.{List, [], ◌∷◌}
-use mathlib.Core.Logic.{⊎_elim, inl, inr}
+use mathlib.Core.List.{List}
 use lib.Dec.{ltb}
 use lib.ListN.{length}
-use denote.Enum.Declared.{tag_of}
-use types.Run.{OneOf}
-use borrow.Author.Tests.{lt-ltb, le-ltb, ltb-false, eqb-false}
+use borrow.Author.Tests.{lt-ltb, le-ltb, ltb-false}
+use Rattle.std.specs.Prelude.{Result, Ok, Err}
+use Rattle.refusals.specs.declared.Refusal.{Refusal}
 use Rattle.refusals.specs.declared.Refusal.TheVariants.{TableTooShort}
 use Rattle.tables.specs.Layout.{Tables}
 use Rattle.ledger.specs.declared.Run.{Run}
 use Rattle.ledger.specs.declared.Answer.{Answer}
-use Rattle.ledger.specs.declared.Answer.TheVariants.{Accepted, Repeated, Refused}
+use Rattle.ledger.specs.declared.Answer.TheVariants.{Accepted, Repeated}
 use Rattle.ledger.specs.declared.Offered.{Offered}
 use Rattle.ledger.specs.Ledger.{offered}
-use Rattle.ledger.specs.contracts.Answer as A
 use Rattle.words.specs.Words.{refused_word, answer_word}
 use Rattle.lent_runs.specs.Lent.{run_bytes, run_words, bytes_with, words_with}
 use Rattle.lent_runs.specs.Left.{RunLeft, run_left, left_by, handed, run_short, unless_short}
@@ -49,28 +47,30 @@ module _ (bytes words : List ℕ) where
 
 -- ---- a start or an offer
 
--- the answer is another than accepted
-abbrev pub NotAccepted : Answer → Type 0
-NotAccepted a = OneOf (1 ∷ 2 ∷ []) (tag_of A.the_type a)
+-- which answer it is, where the code told it apart
+module _ {x : Result Answer Refusal} where
+  pub answer_is : (a b : Answer) → x ≡ Ok a → a ≡ b → x ≡ Ok b
+  answer_is a b p q = p ∙ ap (λ (a : Answer). Ok a) q
 
-pub not_accepted : (a : Answer) → (a ≡ Accepted → ⊥) → NotAccepted a
-not_accepted Accepted h = absurd (h refl)
-not_accepted Repeated h = inl refl
-not_accepted (Refused f) h = inr refl
+  pub repeated_other : x ≡ Ok Repeated → x ≡ Ok Accepted → ⊥
+  repeated_other p q = let e = sym p ∙ q in cc
 
--- then nothing moves
-kept : (a : Answer) (r : Run) (bytes words : List ℕ) → NotAccepted a → run_left (answer_word a) bytes words ≡ left_by a r bytes words
-kept Accepted r bytes words n = absurd (⊎_elim (λ e. eqb-false 0 1 refl e) (λ e. eqb-false 0 2 refl e) n)
-kept Repeated r bytes words n = refl
-kept (Refused f) r bytes words n = refl
+  pub refused_other : (f : Refusal) → x ≡ Err f → x ≡ Ok Accepted → ⊥
+  refused_other f p q = let e = sym p ∙ q in cc
+
+-- where the answer is another than accepted nothing moves
+kept : (a : Result Answer Refusal) (r : Run) (bytes words : List ℕ) → (a ≡ Ok Accepted → ⊥) → run_left (answer_word a) bytes words ≡ left_by a r bytes words
+kept (Ok Accepted) r bytes words n = absurd (n refl)
+kept (Ok Repeated) r bytes words n = refl
+kept (Err f) r bytes words n = refl
 
 module _ (o : Offered) (bytes words : List ℕ) (w : ℕ) (b n : List ℕ) (told : w ≡ answer_word o.answer) where
-  pub handed_accepted : o.answer ≡ Accepted → b ≡ bytes_with o.run bytes → n ≡ words_with o.run words
+  pub handed_accepted : o.answer ≡ Ok Accepted → b ≡ bytes_with o.run bytes → n ≡ words_with o.run words
       → run_left w b n ≡ handed o bytes words
   unfolding handed
   handed_accepted e p q = rw (told, p, q, e) refl
 
-  pub handed_else : NotAccepted o.answer → b ≡ bytes → n ≡ words → run_left w b n ≡ handed o bytes words
+  pub handed_else : (o.answer ≡ Ok Accepted → ⊥) → b ≡ bytes → n ≡ words → run_left w b n ≡ handed o bytes words
   unfolding handed
   handed_else e p q = rw (told, p, q) (kept o.answer o.run bytes words e)
 

@@ -1,49 +1,18 @@
 -- A run taken out of lent memory and put into it, part by part: what the code does is what `run_in`, `bytes_with` and `words_with` say, and no length changes.
 -- Assumes nothing.
-use Prim.Native.Nat.{ℕ, ◌+◌, ◌≤◌, ◌<◌}
+use Prim.Native.Nat.{ℕ, ◌+◌, ◌-◌, ◌≤◌, ◌<◌}
 use mathlib.Core.Path.{◌≡◌, refl, ap, sym, ◌∙◌}
-use mathlib.Core.List.{List}
+use mathlib.Core.List.{List, ◌++◌}
 use native.Mathlib.Omega.{arith}
-use lib.ListN.{length, get_or, set, replicate, length-set, length-replicate}
-use lib.Seq.{ext_get_or}
+use lib.ListN.{length, get_or, set, take, drop, replicate, length-set, length-take, length-drop, length-append, length-replicate}
+use lib.Seq.{ext_get_or, get_or-take, get_or-drop}
+use Rattle.std.proofs.lemmas.List.{get_or_append_left, get_or-append_right}
+use Rattle.meaning.proofs.Facts.{by_order}
 use Rattle.meaning.specs.Limits.{most_vars, most_steps}
 use Rattle.ledger.specs.declared.Run.{Run}
 use Rattle.ledger.specs.Ledger.{all_columns}
-use Rattle.lent_runs.specs.Lent.{columns_from, placed, part, with_part, run_in, bytes_with, words_with}
+use Rattle.lent_runs.specs.Lent.{run_bytes, run_words, columns_from, placed, part, with_part, run_in, bytes_with, words_with}
 use Rattle.lent_runs.proofs.Placing.{length_placed, placed_other, placed_at, placed_same, placed_self}
-
--- what is copied from the start of a list is its first part
-pub placed_part : (x : List ℕ) (j : ℕ) (l t : List ℕ) (n : ℕ) → t ≡ placed (λ k. get_or x (0 + k) 0) j l n → t ≡ with_part l j x n
-unfolding with_part
-placed_part x j l t n p =
-    p
-    ∙ placed_same (λ k. get_or x (0 + k) 0) (λ k. get_or x k 0) j l n
-    (λ i b.
-    let q : 0 + i ≡ i = omega arith in
-    ap (λ (z : ℕ). get_or x z 0) q)
-
-pub bytes_put : (r : Run) (bytes b b' : List ℕ) → b ≡ placed (λ k. get_or r.start (0 + k) 0) 0 bytes most_vars
-    → b' ≡ placed (λ k. get_or r.now (0 + k) 0) most_vars b most_vars
-    → b' ≡ bytes_with r bytes
-unfolding bytes_with
-bytes_put r bytes b b' p q = placed_part r.now most_vars b b' most_vars q ∙ ap (λ (l : List ℕ). with_part l most_vars r.now most_vars) (placed_part r.start 0 bytes b most_vars p)
-
-pub words_put : (r : Run) (words w w' : List ℕ) → w ≡ placed (λ k. get_or r.log (0 + k) 0) 0 words most_steps
-    → w' ≡ placed (λ k. get_or r.columns (0 + k) 0) columns_from (set w most_steps r.len) all_columns
-    → w' ≡ words_with r words
-unfolding words_with
-words_put r words w w' p q =
-    placed_part r.columns columns_from (set w most_steps r.len) w' all_columns q
-    ∙ ap (λ (l : List ℕ). with_part (set l most_steps r.len) columns_from r.columns all_columns)
-    (placed_part r.log 0 words w most_steps p)
-
-pub run_taken : (bytes words start log now columns : List ℕ) → start ≡ placed (λ k. get_or bytes (0 + k) 0) 0 (replicate most_vars 0) most_vars
-    → log ≡ placed (λ k. get_or words (0 + k) 0) 0 (replicate most_steps 0) most_steps
-    → now ≡ placed (λ k. get_or bytes (most_vars + k) 0) 0 (replicate most_vars 0) most_vars
-    → columns ≡ placed (λ k. get_or words (columns_from + k) 0) 0 (replicate all_columns 0) all_columns
-    → record { start = start; log = log; len = get_or words most_steps 0; now = now; columns = columns } ≡ run_in bytes words
-unfolding run_in part
-run_taken bytes words start log now columns p q u v = rw (p, q, u, v) refl
 
 -- ---- the lengths stay
 
@@ -113,3 +82,73 @@ module _ (l : List ℕ) (k : ℕ) (x : List ℕ) (n : ℕ) where
 pub put_part : (l : List ℕ) (k n : ℕ) → with_part l k (part l k n) n ≡ l
 unfolding with_part
 put_part l k n = placed_self (λ i. get_or (part l k n) i 0) k l n (λ i h. part_at l k n i h)
+
+-- ---- what the code does
+
+-- a part cut out is the part
+pub part_cut : (l : List ℕ) (k n : ℕ) → k + n ≤ length l → take n (drop k l) ≡ part l k n
+part_cut l k n b =
+    let long : length (take n (drop k l)) ≡ n = omega (arith, length-take n (drop k l), length-drop k l) in
+    ext_get_or 0 (take n (drop k l)) (part l k n) (long ∙ sym (part_length l k n))
+    (λ i h.
+    let h' : i < n = omega arith in
+    get_or-take n (drop k l) i 0 h' ∙ get_or-drop k l i 0 ∙ sym (part_at l k n i h'))
+
+-- a part copied into the middle of a list is put there
+pub part_copied : (l : List ℕ) (k : ℕ) (x : List ℕ) (n : ℕ) → length x ≡ n → k + n ≤ length l → (take k l ++ (x ++ drop n (drop k l))) ≡ with_part l k x n
+part_copied l k x n e b =
+    let before : length (take k l) ≡ k = omega (arith, length-take k l) in
+    let after : length (x ++ drop n (drop k l)) ≡ n + (length l - k - n) = omega (arith, length-append x (drop n (drop k l)), length-drop n (drop k l), length-drop k l) in
+    let all : length (take k l ++ (x ++ drop n (drop k l))) ≡ length l = omega (arith, length-append (take k l) (x ++ drop n (drop k l))) in
+    ext_get_or 0 (take k l ++ (x ++ drop n (drop k l))) (with_part l k x n) (all ∙ sym (part_put_length l k x n))
+    (λ i h.
+    by_order i k
+    (λ low.
+    get_or_append_left (take k l) (x ++ drop n (drop k l)) 0 i (omega arith) ∙ get_or-take k l i 0 low ∙ sym (put_before l k x n i low))
+    (λ high.
+    let is : k + (i - k) ≡ i = omega arith in
+    get_or-append_right (take k l) (x ++ drop n (drop k l)) k i 0 before high
+    ∙ by_order (i - k) n
+    (λ low. get_or_append_left x (drop n (drop k l)) 0 (i - k) (omega arith) ∙ sym (put_at l k x n (i - k) low b) ∙ ap (λ (j : ℕ). get_or (with_part l k x n) j 0) is)
+    (λ past.
+    let rest : k + (n + (i - k - n)) ≡ i = omega arith in
+    get_or-append_right x (drop n (drop k l)) n (i - k) 0 e past
+    ∙ get_or-drop n (drop k l) (i - k - n) 0
+    ∙ get_or-drop k l (n + (i - k - n)) 0
+    ∙ ap (λ (j : ℕ). get_or l j 0) rest
+    ∙ sym (put_after l k x n i (omega arith)))))
+
+pub bytes_put : (r : Run) (bytes start now b : List ℕ) → length r.start ≡ most_vars → length r.now ≡ most_vars → run_bytes ≤ length bytes
+    → start ≡ r.start → now ≡ r.now → b ≡ (start ++ drop most_vars bytes)
+    → (take most_vars b ++ (now ++ drop most_vars (drop most_vars b))) ≡ bytes_with r bytes
+unfolding bytes_with
+bytes_put r bytes start now b s n room p q e =
+    let first : b ≡ with_part bytes 0 r.start most_vars = e ∙ rw p (part_copied bytes 0 r.start most_vars s (omega arith)) in
+    rw q
+    (part_copied b most_vars r.now most_vars n (omega (arith, ap length first, part_put_length bytes 0 r.start most_vars))
+    ∙ ap (λ (l : List ℕ). with_part l most_vars r.now most_vars) first)
+
+pub words_put : (r : Run) (words log columns w : List ℕ) → length r.log ≡ most_steps → length r.columns ≡ all_columns → run_words ≤ length words
+    → log ≡ r.log → columns ≡ r.columns → w ≡ set (log ++ drop most_steps words) most_steps r.len
+    → (take columns_from w ++ (columns ++ drop all_columns (drop columns_from w))) ≡ words_with r words
+unfolding words_with
+words_put r words log columns w s n room p q e =
+    let first : (log ++ drop most_steps words) ≡ with_part words 0 r.log most_steps = rw p (part_copied words 0 r.log most_steps s (omega arith)) in
+    let second : w ≡ set (with_part words 0 r.log most_steps) most_steps r.len = e ∙ ap (λ (l : List ℕ). set l most_steps r.len) first in
+    let long : length w ≡ length words =
+    ap length second ∙ length-set (with_part words 0 r.log most_steps) most_steps r.len ∙ part_put_length words 0 r.log most_steps in
+    rw q
+    (part_copied w columns_from r.columns all_columns n (omega arith)
+    ∙ ap (λ (l : List ℕ). with_part l columns_from r.columns all_columns) second)
+
+pub run_taken : (bytes words start log now columns : List ℕ) → run_bytes ≤ length bytes → run_words ≤ length words → start ≡ take most_vars bytes
+    → log ≡ take most_steps words → now ≡ take most_vars (drop most_vars bytes) → columns ≡ take all_columns (drop columns_from words)
+    → record { start = start; log = log; len = get_or words most_steps 0; now = now; columns = columns } ≡ run_in bytes words
+unfolding run_in
+run_taken bytes words start log now columns g h p q u v =
+    rw (
+      p ∙ part_cut bytes 0 most_vars (omega arith),
+      q ∙ part_cut words 0 most_steps (omega arith),
+      u ∙ part_cut bytes most_vars most_vars (omega arith),
+      v ∙ part_cut words columns_from all_columns (omega arith),
+    ) refl

@@ -1,37 +1,20 @@
--- Laws of a list with numbers placed in it one after another: what a copying loop asks, one turn more and the end; and what stands where afterwards.
+-- Laws of a list with numbers placed in it one after another: what stands where afterwards.
 -- They are of any list, so of lent bytes and lent words alike. Assumes nothing.
 use Prim.Native.Nat.{ℕ, zero, suc, ◌+◌, ◌≤◌, ◌<◌}
-use mathlib.Core.Path.{◌≡◌, refl, ap, ◌∙◌}
+use mathlib.Core.Path.{◌≡◌, refl, ◌∙◌}
 use mathlib.Core.List.{List}
-use native.Mathlib.Numerals.{add-one}
 use native.Mathlib.Omega.{arith}
 use lib.Dec.{eqb}
-use lib.ListN.{length, get_or, set, length-set}
+use lib.ListN.{length, get_or, length-set}
 use lib.Seq.{get_or-set_same, get_or-set_other, set-get_or}
 use borrow.Author.Tests.{eqb-true, eqb-false}
 use Rattle.meaning.proofs.Facts.{by_cases}
 use Rattle.lent_runs.specs.Lent.{placed}
 
--- ---- the copying loop
-
-pub placed_next : (f : ℕ → ℕ) (j : ℕ) (l t : List ℕ) (m x : ℕ) → t ≡ placed f j l m → x ≡ f m → set t (j + m) x ≡ placed f j l (m + 1)
-unfolding placed
-placed_next f j l t m x p q = rw (add-one, p, q) refl
-
-pub placed_end : (f : ℕ → ℕ) (j : ℕ) (l t : List ℕ) (n k : ℕ) → t ≡ placed f j l k → k ≤ n → n ≤ k → t ≡ placed f j l n
-placed_end f j l t n k p h g =
-    let q : k ≡ n = omega arith in
-    p ∙ ap (placed f j l) q
-
--- ---- what stands where afterwards
-
 pub length_placed : (f : ℕ → ℕ) (j : ℕ) (l : List ℕ) (n : ℕ) → length (placed f j l n) ≡ length l
 unfolding placed
 length_placed f j l zero = refl
 length_placed f j l (suc n) = length-set (placed f j l n) (j + n) (f n) ∙ length_placed f j l n
-
-pub placed_length : (f : ℕ → ℕ) (j : ℕ) (l t : List ℕ) (n : ℕ) → t ≡ placed f j l n → length t ≡ length l
-placed_length f j l t n p = ap length p ∙ length_placed f j l n
 
 -- a place that none of the turns writes is as it was
 pub placed_other : (f : ℕ → ℕ) (j : ℕ) (l : List ℕ) (n k : ℕ) → ((i : ℕ) → i < n → k ≡ j + i → ⊥)

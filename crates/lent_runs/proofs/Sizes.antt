@@ -3,8 +3,8 @@ use Prim.Native.Nat.{ℕ}
 use mathlib.Core.Path.{◌∙◌}
 use mathlib.Core.List.{List}
 use lib.ListN.{replicate, length-replicate}
-use Rattle.scan.specs.declared.Found.{Found}
-use Rattle.scan.specs.declared.Found.TheVariants.{Clean, Fault}
+use Rattle.std.specs.Prelude.{Ok, Err}
+use Rattle.scan.specs.Found.{Found}
 use Rattle.tables.specs.Layout.{Tables}
 use Rattle.tables.specs.Task.{state_of}
 use Rattle.scan.specs.Scan.{input_fault}
@@ -38,5 +38,5 @@ begun_sized t s =
     (length_filled (state_of s) (replicate most_vars 0) t.counts.vars ∙ length-replicate {A = ℕ} most_vars 0))
   where
     either : (f : Found) (r : Run) → Sized r → Sized (started f r).run
-    either Clean r z = z
-    either (Fault f) r z = fresh_sized (replicate most_vars 0) (length-replicate {A = ℕ} most_vars 0)
+    either (Ok tt) r z = z
+    either (Err f) r z = fresh_sized (replicate most_vars 0) (length-replicate {A = ℕ} most_vars 0)

@@ -1,11 +1,12 @@
 -- What a start or an offer leaves behind: the word that goes back, and the lent bytes and words of the run.
 -- Memory that is lent too short is 8 and nothing else, before all.
-use Rattle.std.specs.Prelude.{Bool, cond, ◌||◌, List, ℕ, ltb, length}
+use Rattle.std.specs.Prelude.{Bool, cond, ◌||◌, List, ℕ, Result, Ok, Err, ltb, length}
+use Rattle.refusals.specs.declared.Refusal.{Refusal}
 use Rattle.refusals.specs.declared.Refusal.TheVariants.{TableTooShort}
 use Rattle.tables.specs.Layout.{Tables}
 use Rattle.ledger.specs.declared.Run.{Run}
 use Rattle.ledger.specs.declared.Answer.{Answer}
-use Rattle.ledger.specs.declared.Answer.TheVariants.{Accepted, Repeated, Refused}
+use Rattle.ledger.specs.declared.Answer.TheVariants.{Accepted, Repeated}
 use Rattle.ledger.specs.declared.Offered.{Offered}
 use Rattle.ledger.specs.Ledger.{begun, offered}
 use Rattle.words.specs.Words.{refused_word, answer_word}
@@ -20,10 +21,10 @@ abbrev pub run_left : ℕ → List ℕ → List ℕ → RunLeft
 run_left w b n = record { word = w; bytes = b; words = n }
 
 -- only an accepted start or offer writes the run into lent memory; a refused start hands back no run of zeros there, since a refusal alters nothing that was lent
-abbrev pub left_by : Answer → Run → List ℕ → List ℕ → RunLeft
-left_by Accepted r bytes words = run_left (answer_word Accepted) (bytes_with r bytes) (words_with r words)
-left_by Repeated r bytes words = run_left (answer_word Repeated) bytes words
-left_by (Refused f) r bytes words = run_left (answer_word (Refused f)) bytes words
+abbrev pub left_by : Result Answer Refusal → Run → List ℕ → List ℕ → RunLeft
+left_by (Ok Accepted) r bytes words = run_left (answer_word (Ok Accepted)) (bytes_with r bytes) (words_with r words)
+left_by (Ok Repeated) r bytes words = run_left (answer_word (Ok Repeated)) bytes words
+left_by (Err f) r bytes words = run_left (answer_word (Err f)) bytes words
 
 unfoldable pub handed : Offered → List ℕ → List ℕ → RunLeft
 handed o bytes words = left_by o.answer o.run bytes words

@@ -7,7 +7,7 @@ use mathlib.Core.List.{List, [], ◌∷◌}
 use native.Mathlib.Omega.{arith}
 use lib.Dec.{eqb}
 use lib.ListN.{length, get_or, drop, length-set, length-drop}
-use lib.Seq.{sets, sets-eq, get_or-append-add, get_or-drop, get_or-set_other}
+use lib.Seq.{get_or-append-add, get_or-drop, get_or-set_other}
 use Rattle.text.specs.declared.Halt.{Halt}
 use Rattle.text.specs.declared.Halt.TheVariants.{Going, Form, Range, Order, Missing, States, Idle}
 use Rattle.pieces.specs.declared.SoFar.{SoFar}
@@ -54,10 +54,3 @@ module _ (words : List ℕ) (long : text_words ≤ length words) where
         rw (← e) (get_or-append-add (words_of s) (drop text_words words) (k - text_words) 0 ∙ get_or-drop text_words words (k - text_words) 0),
         get_or-set_other words 0 k 1 0 (λ p. let n : ⊥ = omega arith in n),
       )
-
--- ---- what the code does
-
--- written one place after the other
-pub written_so : (s : SoFar) (words : List ℕ) → text_words ≤ length words → sets words 0 (words_of s) ≡ words_with s words
-unfolding words_with words_of
-written_so s words h = sets-eq (words_of s) words 0 h

@@ -12,13 +12,14 @@ use text::{Ctrl, Digits, Halt, Seen, Spot, Turn};
 pub const TEXT_WORDS: usize = 20;
 
 // The lent words are too few.
+#[tactic(auto, unfolding(crate::specs::Lent::text_short))]
 pub fn text_short(words: &[u32]) -> bool
     ensures { result ≡ text_short words.now }
 {
     words.len() < TEXT_WORDS
 }
 
-// Why a reading stopped, as a word.
+// Why a reading stopped, as a word. This and the way back are functions and no conversions of the type: the words are this crate's, and the type is the reader's.
 fn halt_word(k: Halt) -> u32
     ensures { result ≡ halt_word k }
 {
@@ -34,6 +35,7 @@ fn halt_word(k: Halt) -> u32
 }
 
 // The same of a word; one that tells nothing is as off the form.
+#[tactic(auto, unfolding(crate::specs::Lent::halt_of))]
 fn halt_of(n: u32) -> Halt
     ensures { result ≡ halt_of n }
 {
@@ -49,6 +51,7 @@ fn halt_of(n: u32) -> Halt
 }
 
 // The text so far that stands in lent words.
+#[tactic(auto, unfolding(crate::specs::Lent::so_far_in))]
 pub fn text_in(words: &[u32]) -> SoFar
     requires { text_words ≤ length words.now }
     ensures { result ≡ so_far_in words.now }
@@ -93,42 +96,42 @@ pub fn text_in(words: &[u32]) -> SoFar
 fn ended_word(ended: bool) -> u32
     ensures { result ≡ ended_word ended }
 {
-    if ended {
-        return 1;
-    }
-    0
+    ended as u32
 }
 
 // Writes a text so far into lent words, one place after the other; those beyond stay.
+#[tactic(auto, unfolding(crate::specs::Lent::words_with, crate::specs::Lent::words_of))]
 pub fn put_text(s: SoFar, words: &mut [u32])
     requires { text_words ≤ length words.old }
     ensures { words.new ≡ words_with s words.old }
 {
     let c = s.at;
-    let halt = c.halt;
-    words[0] = ended_word(s.ended);
-    words[1] = s.bytes;
-    words[2] = halt_word(halt);
-    words[3] = c.line;
-    words[4] = c.spot.part;
-    words[5] = c.spot.field;
-    words[6] = c.spot.key;
-    words[7] = c.spot.row;
-    words[8] = c.digits.run;
-    words[9] = c.digits.val;
-    words[10] = c.turn.var;
-    words[11] = c.turn.least;
-    words[12] = c.turn.item;
-    words[13] = c.seen.mask;
-    words[14] = c.seen.prod;
-    words[15] = c.counts.vars;
-    words[16] = c.counts.ops;
-    words[17] = c.counts.maps;
-    words[18] = c.counts.edition;
-    words[19] = c.counts.quota;
+    words[..TEXT_WORDS].copy_from_slice(&[
+        ended_word(s.ended),
+        s.bytes,
+        halt_word(c.halt),
+        c.line,
+        c.spot.part,
+        c.spot.field,
+        c.spot.key,
+        c.spot.row,
+        c.digits.run,
+        c.digits.val,
+        c.turn.var,
+        c.turn.least,
+        c.turn.item,
+        c.seen.mask,
+        c.seen.prod,
+        c.counts.vars,
+        c.counts.ops,
+        c.counts.maps,
+        c.counts.edition,
+        c.counts.quota,
+    ]);
 }
 
 // Ends the text so far in lent words: no other word moves.
+#[tactic(auto, unfolding(crate::specs::Lent::words_ended))]
 pub fn put_ended(words: &mut [u32])
     requires { text_words ≤ length words.old }
     ensures { words.new ≡ words_ended words.old }

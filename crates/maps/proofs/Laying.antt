@@ -1,120 +1,75 @@
 -- Laws of laying rows: one row lane by lane, a value's rows one after the other, a variable's values downwards, and all variables. Assumes nothing.
-use mathlib.Core.Path.{◌≡◌, refl, sym, ap, ◌∙◌, subst}
+use mathlib.Core.Path.{◌≡◌, refl, sym, ap, ap₂, ◌∙◌, subst}
 use mathlib.Core.Logic.{⊎_elim}
-use mathlib.Core.List.{List}
-use Prim.Native.Nat.{ℕ, zero, suc, ◌+◌, ◌*◌, ◌-◌, ◌≤◌, ◌<◌}
-use native.Mathlib.Nat.{not-suc-le-zero, eq-or-lt_of_le, mul-le-mul_right}
-use native.Mathlib.Decide.{dec_le}
+use mathlib.Core.List.{List, ◌++◌}
+use Prim.Native.Nat.{ℕ, ◌+◌, ◌*◌, ◌-◌, ◌≤◌, ◌<◌}
+use native.Mathlib.Nat.{eq-or-lt_of_le, mul-le-mul_right, zero-add}
 use native.Mathlib.Numerals.{add-one}
 use native.Mathlib.Omega.{arith}
-use borrow.Author.Count.{below_more}
-use lib.ListN.{length, get_or, set, length-set}
-use lib.Seq.{get_or-set_same, get_or-set_other}
+use borrow.Rule.Slice.PartMut.{put_mid}
+use lib.ListN.{length, get_or, replicate, length-replicate, get_or-replicate}
+use Rattle.std.specs.List.{between}
+use Rattle.std.proofs.lemmas.List.{get_or_append_left}
+use Rattle.std.proofs.lemmas.List.Edits.{length-between, get_or-between}
 use Rattle.meaning.specs.Limits.{most_vars}
 use Rattle.meaning.specs.Numbering.{size, number, digit, Positive, Digits}
 use Rattle.meaning.specs.Split.{sum}
 use Rattle.meaning.proofs.Numbers.{number_below, number_digits, digit_below}
+use Rattle.meaning.proofs.Facts.{by_order}
 use Rattle.meaning.proofs.Sums.{sum_most}
+use Rattle.maps.proofs.Slices.{written_size, written_here, written_below, written_beyond}
 use Rattle.maps.specs.Inside.Rows.{lanes, lane_at, part_at, most_part, most_laid, Parts, RowLaid, ValueLaid, VariableLaid, Laid}
 
 -- ---- a row
 
--- the first k lanes of row b are made, and the other places are as they were
-pub record LanesLaid (a b : ℕ) (parts : List ℕ) (at k : ℕ) (t t' : List ℕ) : Type 0 where
-  pub size : length t' ≡ length t
-  pub made : (o : ℕ) → o < k → lane_at t' b o ≡ lane_at t a o + get_or parts (at + o) 0
-  pub kept : (i : ℕ) → (b * lanes ≤ i → b * lanes + k ≤ i) → get_or t' i 0 ≡ get_or t i 0
+-- a row of the table, as it is lent
+pub lane_lent : (t : List ℕ) (a o : ℕ) → o < lanes → get_or (between (a * lanes) (a * lanes + lanes) t) o 0 ≡ lane_at t a o
+lane_lent t a o l = get_or-between t (a * lanes) (a * lanes + lanes) o 0 (omega arith)
 
-module _ {a b : ℕ} {parts : List ℕ} {at : ℕ} {t₀ : List ℕ} where
-  pub lanes_none : LanesLaid a b parts at 0 t₀ t₀
-  lanes_none = record { size = refl; made = λ o l. absurd (not-suc-le-zero l); kept = λ i h. refl }
+-- row a is copied, its parts are added, and it is written as row b
+pub row_laid : {a b : ℕ} {t part from sum to : List ℕ} → a * lanes + lanes ≤ length t → b * lanes + lanes ≤ length t
+    → from ≡ between (a * lanes) (a * lanes + lanes) t → length sum ≡ length from
+    → ((o : ℕ) → o < length from → get_or sum o 0 ≡ get_or from o 0 + get_or part o 0) → to ≡ sum
+    → RowLaid a b part 0 t (put_mid (b * lanes) (b * lanes + lanes - b * lanes) t to)
+row_laid {a} {b} {t} {part} {from} {sum} {to} ra rb copied size added same =
+    let long : length from ≡ lanes = ap length copied ∙ length-between t (a * lanes) (a * lanes + lanes) ra ∙ omega arith in
+    let whole : length to ≡ lanes = ap length same ∙ size ∙ long in
+    record {
+      size = written_size t to (b * lanes) lanes rb whole;
+      row = λ o l.
+          written_here t to (b * lanes) lanes rb whole o l ∙ ap (λ (r : List ℕ). get_or r o 0) same ∙ added o (omega (arith, long))
+          ∙ ap₂ ◌+◌ (ap (λ (r : List ℕ). get_or r o 0) copied ∙ lane_lent t a o l) (ap (λ (i : ℕ). get_or part i 0) (sym (zero-add o)));
+      others = λ x o d l.
+          by_order x b (λ h. written_below t to (b * lanes) lanes rb whole (x * lanes + o) (omega (arith, mul-le-mul_right lanes h)))
+          (λ h. let n : b + 1 ≤ x = omega arith in written_beyond t to (b * lanes) lanes rb whole (x * lanes + o) (omega (arith, mul-le-mul_right lanes n)));
+    }
 
-  module _ {k : ℕ} {t : List ℕ} (s : LanesLaid a b parts at k t₀ t) where
-    -- the lane to be read is as it was, in row b too
-    pub lane_kept : k < lanes → lane_at t a k ≡ lane_at t₀ a k
-    lane_kept l = s.kept (a * lanes + k) (λ h. omega arith)
-
-    pub lanes_more : {v : ℕ} → k < lanes → b * lanes + lanes ≤ length t₀ → v ≡ lane_at t a k + get_or parts (at + k) 0
-        → LanesLaid a b parts at (k + 1) t₀ (set t (b * lanes + k) v)
-    lanes_more {v = v} l room e =
-        let p = b * lanes + k in
-        record {
-          size = length-set t p v ∙ s.size;
-          made =
-              below_more (λ o. lane_at (set t p v) b o ≡ lane_at t₀ a o + get_or parts (at + o) 0) k
-              (λ o h. get_or-set_other t p (b * lanes + o) v 0 (omega arith) ∙ s.made o h)
-              (get_or-set_same t p v 0 (omega (arith, s.size)) ∙ e ∙ ap (λ (x : ℕ). x + get_or parts (at + k) 0) (lane_kept l));
-          kept = λ i h. get_or-set_other t p i v 0 (λ e. let g = h (omega arith) in omega arith) ∙ s.kept i (λ g. omega (arith, h g));
-        }
-
-    pub row_laid : k ≤ lanes → lanes ≤ k → RowLaid a b parts at t₀ t
-    row_laid m l =
-        record {
-          size = s.size;
-          row = λ o h. s.made o (omega arith);
-          others = λ x o d h. s.kept (x * lanes + o) (λ g. omega arith);
-        }
-
--- ---- the rows of a value
-
-module _ {len base : ℕ} {parts : List ℕ} {at : ℕ} {t₀ : List ℕ} where
-  pub value_none : ValueLaid len base parts at 0 t₀ t₀
-  value_none = record { size = refl; rows = λ i o l. absurd (not-suc-le-zero l); below = λ x o l h. refl; beyond = λ x o l h. refl }
-
-  pub value_end : {k : ℕ} {t : List ℕ} → ValueLaid len base parts at k t₀ t → k ≤ len → len ≤ k → ValueLaid len base parts at len t₀ t
-  value_end {k} {t} s h g = let e : k ≡ len = omega arith in subst (λ (x : ℕ). ValueLaid len base parts at x t₀ t) e s
-
-  module _ {k : ℕ} {t : List ℕ} (s : ValueLaid len base parts at k t₀ t) (apart : 1 ≤ base → len ≤ base) (l : k < len) where
-    -- the row to be read is as it was: the rows set so far are below it, or not among the first len
-    pub row_kept : (o : ℕ) → o < lanes → lane_at t k o ≡ lane_at t₀ k o
-    row_kept o h = go (dec_le 1 base)
-      where
-        go : Dec (1 ≤ base) → lane_at t k o ≡ lane_at t₀ k o
-        go (yes p) = s.below k o (omega (arith, apart p)) h
-        go (no p) = s.beyond k o (omega arith) h
-
-    pub value_more : {t' : List ℕ} → RowLaid k (base + k) parts at t t' → ValueLaid len base parts at (k + 1) t₀ t'
-    value_more {t'} r =
-        record {
-          size = r.size ∙ s.size;
-          rows = λ i o g h. below_more (λ j. lane_at t' (base + j) o ≡ lane_at t₀ j o + get_or parts (at + o) 0) k
-              (λ j f. r.others (base + j) o (λ e. omega arith) h ∙ s.rows j o f h)
-              (r.row o h ∙ ap (λ (x : ℕ). x + get_or parts (at + o) 0) (row_kept o h)) i g;
-          below = λ x o g h. r.others x o (λ e. omega arith) h ∙ s.below x o g h;
-          beyond = λ x o g h. r.others x o (λ e. omega arith) h ∙ s.beyond x o (omega arith) h;
-        }
+-- where it is filled with 0, the first row is 0
+pub row_cleared : {n : ℕ} {row : List ℕ} (rest : List ℕ) → n ≡ lanes → row ≡ replicate n 0 → (o : ℕ) → o < lanes → lane_at (row ++ rest) 0 o ≡ 0
+row_cleared {n} {row} rest e is o l =
+    let first : 0 * lanes + o ≡ o = omega arith in
+    ap (λ (i : ℕ). get_or (row ++ rest) i 0) first
+    ∙ get_or_append_left row rest 0 o (omega (arith, ap length is, length-replicate {A = ℕ} n 0))
+    ∙ ap (λ (r : List ℕ). get_or r o 0) is
+    ∙ get_or-replicate {A = ℕ} n o 0 0 (omega arith)
 
 -- ---- the rows of a variable
 
--- base is where the rows of the first z of n values end; those of the last of them begin at the first row, or behind the first len
-pub record Placed (len n z base : ℕ) : Type 0 where
-  pub step : len ≤ base
-  pub next : base - len ≡ (z - 1) * len
-  pub apart : 1 ≤ base - len → len ≤ base - len
-  pub inside : base ≤ len * n
-
-multiple_le : (len y : ℕ) → 1 ≤ y * len → len ≤ y * len
-multiple_le len zero h = omega arith
-multiple_le len (suc y) h = omega arith
-
-pub placed : (len n z base : ℕ) → 1 ≤ z → z ≤ n → base ≡ z * len → Placed len n z base
-placed len n zero base p q e = absurd (not-suc-le-zero p)
-placed len n (suc x) base p q e =
-    let d : suc x - 1 ≡ x = omega arith in
+-- a value's parts, as they are lent, are those of the table
+pub value_at : {len base : ℕ} {parts : List ℕ} {at k : ℕ} {t t' : List ℕ} → ValueLaid len base (between at (at + lanes) parts) 0 k t t'
+    → ValueLaid len base parts at k t t'
+value_at {len} {base} {parts} {at} {k} {t} s =
     record {
-      step = omega arith;
-      next = rw d (omega arith);
-      apart = λ h. omega (arith, multiple_le len x (omega arith));
-      inside = omega (arith, mul-le-mul_right len q);
+      size = s.size;
+      rows = λ i o h l.
+          s.rows i o h l
+          ∙ ap (λ (x : ℕ). lane_at t i o + x)
+          (ap (λ (j : ℕ). get_or (between at (at + lanes) parts) j 0) (zero-add o) ∙ get_or-between parts at (at + lanes) o 0 (omega arith));
+      below = s.below;
+      beyond = s.beyond;
     }
 
 module _ {len n : ℕ} {parts : List ℕ} {v : ℕ} {t₀ : List ℕ} where
-  pub variable_none : VariableLaid len n parts v n t₀ t₀
-  variable_none = record { size = refl; rows = λ y i o g h. absurd (let z : ⊥ = omega arith in z); below = λ a o l h. refl }
-
-  pub variable_end : {z : ℕ} {t : List ℕ} → VariableLaid len n parts v z t₀ t → z ≤ 0 → VariableLaid len n parts v 0 t₀ t
-  variable_end {z} {t} s h = let e : z ≡ 0 = omega arith in subst (λ (x : ℕ). VariableLaid len n parts v x t₀ t) e s
-
   module _ {z : ℕ} {t : List ℕ} (s : VariableLaid len n parts v z t₀ t) where
     -- the first rows are as they were
     pub first_kept : 1 ≤ z → (i o : ℕ) → i < len → o < lanes → lane_at t i o ≡ lane_at t₀ i o

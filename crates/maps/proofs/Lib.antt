@@ -7,3 +7,4 @@ pub mod Parting
 pub mod Classing
 pub mod Alike
 pub mod Viewing
+pub mod Slices

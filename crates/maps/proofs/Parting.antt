@@ -12,19 +12,19 @@ use lib.ListN.{length, get_or, set, replicate, length-set, length-replicate}
 use lib.Seq.{get_or-set_same, get_or-set_other}
 use borrow.Author.Count.{below_more}
 use borrow.Author.Tests.{eq-eqb, ne_eqb, lt-ltb, le-ltb}
-use Rattle.meaning.specs.Limits.{most_vars, most_values, most_ops, most_states}
+use Rattle.meaning.specs.Limits.{most_ops, most_states}
 use Rattle.meaning.specs.Numbering.{size, number, digit, Digits}
 use Rattle.meaning.specs.Sas.{put}
 use Rattle.meaning.specs.Views.{holds, every, to_if}
 use Rattle.meaning.specs.Split.{sum}
 use Rattle.meaning.proofs.Numbers.{number_below, number_digits, digit_below}
-use Rattle.meaning.proofs.Facts.{by_cases, by_order, put_below, and_left, and_right, some_false}
+use Rattle.meaning.proofs.Facts.{by_cases, put_below, and_left, and_right, some_false}
 use Rattle.meaning.proofs.Sums.{sum_above}
 use Rattle.tables.specs.declared.Counts.{Counts}
 use Rattle.tables.specs.Layout.{dom_at, goal_at, pre_at, eff_at}
 use Rattle.maps.specs.Inside.Walks.{space_of, states_of, Walkable}
 use Rattle.maps.specs.Inside.Rows.{lanes, goal_lane, lane_at, part_at, most_part, Parts, Laid}
-use Rattle.maps.specs.Inside.Parts.{fails_if, part_of, OpParts, ValueParts, VariableParts, Parted, Stepped, next_at}
+use Rattle.maps.specs.Inside.Parts.{fails_if, part_of, OpParts, VariableParts, Parted, Stepped, next_at}
 use Rattle.maps.proofs.Makes.{zeros_at}
 use Rattle.maps.proofs.Walking.{size_le, after_digits}
 
@@ -96,53 +96,6 @@ module _ {facts p : List ℕ} {v x stride at : ℕ} where
         below = λ i h. get_or-set_other q (at + k) i y 0 (omega arith) ∙ s.below i h;
         beyond = λ i h. get_or-set_other q (at + k) i y 0 (omega arith) ∙ s.beyond i h;
       }
-
-  -- at the end of the walk
-  pub op_end : {k n : ℕ} {q : List ℕ} → OpParts k facts v x stride at p q → k ≤ n → n ≤ k → OpParts n facts v x stride at p q
-  op_end {k = k} {n = n} {q = q} s h g = let e : k ≡ n = omega arith in subst (λ (y : ℕ). OpParts y facts v x stride at p q) e s
-
--- the goal's part after the operators'
-pub value_set : {c : Counts} {facts p q : List ℕ} {v x stride : ℕ} → c.ops ≤ most_ops → v < most_vars → x < most_values
-    → OpParts c.ops facts v x stride ((v * 8 + x) * lanes) p q → {y : ℕ} → y ≡ part_of (goal_at facts v) 0 x 0
-    → ValueParts c facts v x stride p (set q ((v * 8 + x) * lanes + goal_lane) y)
-value_set {facts = facts} {p = p} {q = q} {v = v} {x = x} lo lv lx s {y = y} e =
-    let n : ℕ = v * 8 + x in
-    let at : ℕ = n * lanes + goal_lane in
-    let inside : at < length q = omega (arith, s.all.room) in
-    record {
-      all = parts_set s.all inside (rw e (part_small (goal_at facts v) 0 x 0 (omega arith)));
-      ops = λ o l. get_or-set_other q at (n * lanes + o) y 0 (omega arith) ∙ s.ops o l;
-      goal = get_or-set_same q at y 0 inside ∙ e;
-      others = λ i d o l.
-          get_or-set_other q at (i * lanes + o) y 0 (λ z. d (omega arith))
-          ∙ by_order i n (λ h. s.below (i * lanes + o) (omega arith)) (λ h. s.beyond (i * lanes + o) (omega arith));
-    }
-
-module _ {c : Counts} {facts p : List ℕ} {v stride : ℕ} where
-  pub values_none : Parts p → VariableParts c facts v 0 stride p p
-  values_none P = record { all = P; ops = λ x o l. absurd (not-suc-le-zero l); goal = λ x l. absurd (not-suc-le-zero l); others = λ w x o l m h. refl }
-
-  module _ {k : ℕ} {q : List ℕ} (s : VariableParts c facts v k stride p q) where
-    pub values_more : {r : List ℕ} → c.ops ≤ most_ops → ValueParts c facts v k stride q r → VariableParts c facts v (k + 1) stride p r
-    values_more {r = r} few t =
-        record {
-          all = t.all;
-          ops = λ x o l lo.
-              below_more (λ y. part_at r v y o ≡ part_of (pre_at facts o v) (eff_at facts o v) y stride) k
-              (λ y h. kept y h o (omega arith) ∙ s.ops y o h lo)
-              (t.ops o lo) x l;
-          goal =
-              below_more (λ y. part_at r v y goal_lane ≡ part_of (goal_at facts v) 0 y 0) k
-              (λ y h. kept y h goal_lane (omega arith) ∙ s.goal y h)
-              t.goal;
-          others = λ w x o l m h. t.others (w * 8 + x) (omega arith) o h ∙ s.others w x o l m h;
-        }
-      where
-        kept : (x : ℕ) → x < k → (o : ℕ) → o < lanes → part_at r v x o ≡ part_at q v x o
-        kept x h o l = t.others (v * 8 + x) (omega arith) o l
-
-    pub values_end : {n : ℕ} → k ≤ n → n ≤ k → VariableParts c facts v n stride p q
-    values_end {n = n} h g = let e : k ≡ n = omega arith in subst (λ (y : ℕ). VariableParts c facts v y stride p q) e s
 
 module _ {c : Counts} {facts : List ℕ} {unit : ℕ} where
   pub parted_none : {p : List ℕ} → Parts p → Parted c facts unit 0 p

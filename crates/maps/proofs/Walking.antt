@@ -29,6 +29,10 @@ size_le K v (suc n) l p = ⊎_elim
     (arith, size_le K v n (le_of_suc-le-suc lt) (λ u g. p u (omega arith)), mul-le-mul_right (size K n) (p n (le_refl (suc n)))))
     (eq-or-lt_of_le l)
 
+-- the stride of the next digit, of k values
+pub size_more : (K : ℕ → ℕ) (v stride k : ℕ) → stride ≡ size K v → k ≡ K v → stride * k ≡ size K (v + 1)
+size_more K v stride k e f = rw add-one (ap₂ ◌*◌ e f)
+
 -- ---- a number by its strides
 
 -- radices, and digits below them, of a number that stays small
@@ -62,7 +66,7 @@ module _ {K D : ℕ → ℕ} {n v stride b : ℕ} (w : Numbered K D n v stride b
   numbered_more l hx hk =
       record {
         low = omega arith;
-        stride_is = rw add-one (ap₂ ◌*◌ w.stride_is hk);
+        stride_is = size_more K v stride _ w.stride_is hk;
         number_is = rw add-one (ap₂ ◌+◌ w.number_is (ap₂ ◌*◌ hx w.stride_is));
       }
 

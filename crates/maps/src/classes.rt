@@ -10,16 +10,16 @@ ghost use Rattle.tables.specs.Task.{state_of, was};
 ghost use Rattle.maps.specs.Inside.Walks.{Walkable};
 ghost use Rattle.maps.specs.Inside.Classes.{unpriced, seen_places, SeenAt, Classed, image_of};
 
-use crate::wide;
 use meaning::StateNo;
 use tables::Counts;
 use tables::classes::count_of;
-use tables::readers::{DOM_ROW, byte_at, class_row, row_at};
+use tables::readers::{DOM_ROW, class_row, get_or, row_at};
 
 // The places of the rows from the numbers of values to the last operator's effects: 131 rows of 8.
-const SEEN: usize = 1048;
+pub const SEEN: usize = 1048;
 
-// What is said of a variable, seen by the classes of map m. No accepted fact has a class of 255.
+// What is said of a variable, seen by the classes of map m. No accepted fact has a class of 255. A byte and no `Option`: it goes into a row of facts, where 0 says
+// nothing (`seen`).
 fn seen_fact(facts: &[u8], m: u32, v: u32, fact: u8) -> u8
     requires { (m < most_maps) × (v < most_vars) }
     ensures { class_at (was facts) m v (fact - 1) < 255 → result ≡ seen (class_at (was facts) m v) fact }
@@ -27,7 +27,7 @@ fn seen_fact(facts: &[u8], m: u32, v: u32, fact: u8) -> u8
     if fact == 0 {
         return 0;
     }
-    let class = row_at(facts, class_row(m, v), wide(fact - 1));
+    let class = row_at(facts, class_row(m, v), u32::from(fact - 1));
     if class < 255 { class + 1 } else { 0 }
 }
 
@@ -36,11 +36,9 @@ fn seen_facts(facts: &[u8], m: u32) -> [u8; SEEN]
     requires { m < most_maps }
     ensures { (length result ≡ seen_places) × ((i : ℕ) → i < seen_places → SeenAt (was facts) m i (get_or result i 0)) }
 {
-    let mut t = [0u8; SEEN];
-    let mut i = 0usize;
-    while i < SEEN {
-        t[i] = seen_fact(facts, m, (i % 8) as u32, byte_at(facts, i));
-        i += 1;
+    let mut t = [0; SEEN];
+    for (i, place) in t.iter_mut().enumerate() {
+        *place = seen_fact(facts, m, (i % 8) as u32, get_or(facts, i, 0));
     }
     t
 }
@@ -50,7 +48,7 @@ fn class_count(c: Counts, facts: &[u8], m: u32, v: u32) -> u8
     requires { Valid (unpriced c facts.now) × (m < c.maps) × (v < c.vars) }
     ensures { result ≡ count_of (class_at (was facts) m v) (dom_at (was facts) v) }
 {
-    count_of(facts, wide(row_at(facts, DOM_ROW, v)), class_row(m, v)) as u8
+    count_of(facts, u32::from(row_at(facts, DOM_ROW, v)), class_row(m, v)) as u8
 }
 
 // The task of the classes of map m.
@@ -59,11 +57,9 @@ pub fn class_facts(c: Counts, facts: &[u8], m: u32) -> [u8; SEEN]
     ensures { Classed c (was facts) m result }
 {
     let mut t = seen_facts(facts, m);
-    let vars = c.vars;
-    let mut v = 0u32;
-    while v < vars {
+    // By number: v is the variable whose classes are counted, and its place.
+    for v in 0..c.vars {
         t[v as usize] = class_count(c, facts, m, v);
-        v += 1;
     }
     t
 }
@@ -73,12 +69,9 @@ pub fn states_of(c: Counts, facts: &[u8]) -> u32
     requires { Walkable c facts.now }
     ensures { result ≡ size (dom_at (was facts)) c.vars }
 {
-    let vars = c.vars;
-    let mut n = 1u32;
-    let mut v = 0u32;
-    while v < vars {
-        n = n * wide(row_at(facts, DOM_ROW, v));
-        v += 1;
+    let mut n = 1;
+    for v in 0..c.vars {
+        n *= u32::from(row_at(facts, DOM_ROW, v));
     }
     n
 }
@@ -88,15 +81,12 @@ pub fn image_of(c: Counts, facts: &[u8], m: u32, s: &[u8]) -> StateNo
     requires { Valid (unpriced c facts.now) × (m < c.maps) × IsState (unpriced c facts.now).sas (state_of s.now) }
     ensures { result.0 ≡ image_of c (was facts) m (state_of (was s)) }
 {
-    let vars = c.vars;
-    let mut stride = 1u32;
-    let mut b = 0u32;
-    let mut v = 0u32;
-    while v < vars {
-        let class = row_at(facts, class_row(m, v), wide(byte_at(s, v as usize)));
-        b = b + wide(class) * stride;
-        stride = stride * wide(class_count(c, facts, m, v));
-        v += 1;
+    let mut stride = 1;
+    let mut b = 0;
+    for v in 0..c.vars {
+        let value = u32::from(get_or(s, v as usize, 0));
+        b += u32::from(row_at(facts, class_row(m, v), value)) * stride;
+        stride *= u32::from(class_count(c, facts, m, v));
     }
     StateNo(b)
 }

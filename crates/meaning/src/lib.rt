@@ -6,23 +6,26 @@ ghost use Rattle.std.specs.Prelude.{◌≡◌};
 pub mod limits;
 
 // The number of an operator.
-#[derive(Clone, Copy)]
+#[derive(Clone, Copy, Debug, PartialEq, Eq)]
 pub struct OpNo(pub u32);
 
 // The number of an abstract state.
-#[derive(Clone, Copy)]
+#[derive(Clone, Copy, Debug, PartialEq, Eq)]
 pub struct StateNo(pub u32);
 
-// An operator's number as an index of costs and shares.
-pub fn op_index(o: OpNo) -> usize
-    ensures { result ≡ o.0 }
-{
-    o.0 as usize
+// A number as an index: an operator's of costs and shares, an abstract state's of distances.
+impl From<OpNo> for usize {
+    fn from(o: OpNo) -> usize
+        ensures { result ≡ o.0 }
+    {
+        o.0 as usize
+    }
 }
 
-// An abstract state's number as an index of distances.
-pub fn state_index(a: StateNo) -> usize
-    ensures { result ≡ a.0 }
-{
-    a.0 as usize
+impl From<StateNo> for usize {
+    fn from(a: StateNo) -> usize
+        ensures { result ≡ a.0 }
+    {
+        a.0 as usize
+    }
 }

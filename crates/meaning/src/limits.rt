@@ -18,7 +18,7 @@ pub const COST_MOST: u32 = 1000000;
 // The most abstract states of a map, and the room for their distances.
 pub const STATES_MOST: u32 = 4096;
 
-pub const STATES_ROOM: usize = 4096;
+pub const STATES_ROOM: usize = STATES_MOST as usize;
 
 // The highest edition, the one that has a quota and marks, the highest quota of stored tests, and the highest mark.
 pub const EDITION_MOST: u32 = 2;

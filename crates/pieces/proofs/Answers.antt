@@ -9,12 +9,12 @@ use mathlib.Core.Bool.{Bool, true, false, ◌||◌, or-true}
 use lib.Dec.{ltb}
 use lib.ListN.{length, take, replicate, take-append-drop}
 use borrow.Author.Tests.{lt-ltb, le-ltb, eq-eqb, ne_eqb, ltb-false}
+use Rattle.std.specs.Prelude.{Err}
+use Rattle.scan.specs.Found.{clean}
 use Rattle.refusals.specs.declared.Refusal.TheVariants.{TextTooLong, OffForm, TableTooShort}
 use Rattle.refusals.specs.Listed.{number_of, place_of}
 use Rattle.meaning.specs.Limits.{most_bytes}
 use Rattle.tables.specs.Layout.{facts_room, costs_room, shares_room}
-use Rattle.scan.specs.declared.Found.TheVariants.{Clean, Fault}
-use Rattle.grammar.specs.declared.Reading.TheVariants.{Refused}
 use Rattle.grammar.specs.Fields.{leaves}
 use Rattle.grammar.proofs.Runs.{clash}
 use Rattle.text.specs.Inside.Area.{area_room}
@@ -38,13 +38,13 @@ eight_at_zero = (refl, refl)
 
 module _ (s : SoFar) (w p : List ℕ) where
   -- 8, before all else; text so far and area are as they were
-  pub short_area : length w < area_lent → piece_taken s w p ≡ piece_left s (Fault TableTooShort) w
+  pub short_area : length w < area_lent → piece_taken s w p ≡ piece_left s (Err TableTooShort) w
   unfolding piece_taken
   short_area h = rw (lt-ltb _ _ h)
 
   module _ (long : area_lent ≤ length w) where
     -- 2 at place 0; text so far and area are as they were
-    pub piece_after_end : s.ended ≡ true → piece_taken s w p ≡ piece_left s (Fault (OffForm 0)) w
+    pub piece_after_end : s.ended ≡ true → piece_taken s w p ≡ piece_left s (Err (OffForm 0)) w
     unfolding piece_taken
     piece_after_end e = rw (le-ltb _ _ long, e)
 
@@ -67,7 +67,7 @@ pub empty_count : (n : ℕ) → n ≤ most_bytes + 1 → bytes_with n 0 ≡ n
 unfolding bytes_with
 empty_count n few = omega arith
 
-pub empty_piece : (s : SoFar) (w : List ℕ) → area_lent ≤ length w → s.ended ≡ false → 0 < s.bytes → s.bytes ≤ most_bytes + 1 → piece_taken s w [] ≡ piece_left s Clean w
+pub empty_piece : (s : SoFar) (w : List ℕ) → area_lent ≤ length w → s.ended ≡ false → 0 < s.bytes → s.bytes ≤ most_bytes + 1 → piece_taken s w [] ≡ piece_left s clean w
 unfolding feed
 empty_piece s w long e some few =
     piece_taken_lem s w [] long e ∙ rw (used_kept s w (λ q. omega arith), take-append-drop area_room w, empty_count s.bytes few, ← e)
@@ -122,13 +122,13 @@ module _ (w f c h : List ℕ) where
 
 module _ (s : SoFar) (w f c h : List ℕ) where
   -- 8, before all else: it isn't the end, and text so far and tables are as they were
-  pub short_end : lent_short w f c h ≡ true → text_ended s w f c h ≡ end_left s (Refused TableTooShort) f c h
+  pub short_end : lent_short w f c h ≡ true → text_ended s w f c h ≡ end_left s (Err TableTooShort) f c h
   unfolding text_ended
   short_end e = rw e
 
   module _ (long : lent_short w f c h ≡ false) where
     -- 2 at place 0; text so far and tables are as they were
-    pub second_end : s.ended ≡ true → text_ended s w f c h ≡ end_left s (Refused (OffForm 0)) f c h
+    pub second_end : s.ended ≡ true → text_ended s w f c h ≡ end_left s (Err (OffForm 0)) f c h
     unfolding text_ended
     second_end e = rw (long, e)
 
@@ -137,7 +137,7 @@ module _ (s : SoFar) (w f c h : List ℕ) where
     end_read e = rw (long, e)
 
   -- 1 comes before any fault in the text; up to the limit the machine answers
-  pub too_long : most_bytes < s.bytes → read_so_far s w f c h ≡ leaves (Refused TextTooLong) f c h
+  pub too_long : most_bytes < s.bytes → read_so_far s w f c h ≡ leaves (Err TextTooLong) f c h
   unfolding read_so_far
   too_long l = rw (lt-ltb _ _ l)
 

@@ -9,8 +9,9 @@ use mathlib.Core.Bool.{Bool, true, false}
 use lib.ListN.{length, take, drop, length-append, length-replicate, length-drop}
 use lib.Seq.{length-take-le, take_at, drop_at}
 use borrow.Author.Tests.{le-ltb}
+use Rattle.std.specs.Prelude.{Err}
+use Rattle.scan.specs.Found.{clean}
 use Rattle.refusals.specs.declared.Refusal.TheVariants.{OffForm}
-use Rattle.scan.specs.declared.Found.TheVariants.{Clean, Fault}
 use Rattle.meaning.proofs.Facts.{by_order}
 use Rattle.text.specs.Inside.Area.{area_room}
 use Rattle.text.specs.Inside.Control.{St, mk}
@@ -74,16 +75,16 @@ in_use x = piece_left x.text x.answer (take area_room x.area)
 
 -- a piece that is taken leaves there what the machine has read
 taken_in_use : (s : SoFar) (w p : List ℕ) → area_lent ≤ length w → s.ended ≡ false
-    → in_use (piece_taken s w p) ≡ piece_left (gone_on s w (length p) (after s w p)).text Clean (after s w p).area
+    → in_use (piece_taken s w p) ≡ piece_left (gone_on s w (length p) (after s w p)).text clean (after s w p).area
 taken_in_use s w p long going =
     ap in_use (piece_taken_lem s w p long going)
-    ∙ ap (λ (u : List ℕ). piece_left (gone_on s w (length p) (after s w p)).text Clean u) (take_at (after s w p).area (drop area_room w) area_room (taken_room s w p long going))
+    ∙ ap (λ (u : List ℕ). piece_left (gone_on s w (length p) (after s w p)).text clean u) (take_at (after s w p).area (drop area_room w) area_room (taken_room s w p long going))
 
 module _ (s : SoFar) (w v p : List ℕ) (long : area_lent ≤ length w) (as_long : area_lent ≤ length v) where
   same_used : area_used s w ≡ area_used s v → s.ended ≡ false → in_use (piece_taken s w p) ≡ in_use (piece_taken s v p)
   same_used e going =
       taken_in_use s w p long going
-      ∙ ap (λ (u : List ℕ). let y = feed (mk s.at u) p in piece_left (so_far y.ctrl (bytes_with s.bytes (length p)) false) Clean y.area) e
+      ∙ ap (λ (u : List ℕ). let y = feed (mk s.at u) p in piece_left (so_far y.ctrl (bytes_with s.bytes (length p)) false) clean y.area) e
       ∙ sym (taken_in_use s v p as_long going)
 
   pub beyond_unread : take area_room w ≡ take area_room v → (x y : PieceLeft) → x ≡ piece_taken s w p → y ≡ piece_taken s v p → in_use x ≡ in_use y
@@ -91,7 +92,7 @@ module _ (s : SoFar) (w v p : List ℕ) (long : area_lent ≤ length w) (as_long
     where
       split : (b : Bool) → s.ended ≡ b → in_use (piece_taken s w p) ≡ in_use (piece_taken s v p)
       split true q =
-          ap in_use (piece_after_end s w p long q) ∙ ap (λ (u : List ℕ). piece_left s (Fault (OffForm 0)) u) e ∙ sym (ap in_use (piece_after_end s v p as_long q))
+          ap in_use (piece_after_end s w p long q) ∙ ap (λ (u : List ℕ). piece_left s (Err (OffForm 0)) u) e ∙ sym (ap in_use (piece_after_end s v p as_long q))
       split false q =
           same_used (by_zero s.bytes (λ z. used_blank s w z ∙ sym (used_blank s v z)) (λ n. used_kept s w n ∙ e ∙ sym (used_kept s v n))) q
 

@@ -10,6 +10,8 @@ use lib.Dec.{eqb}
 use lib.ListN.{length, take}
 use lib.Seq.{length-take-le}
 use borrow.Author.Tests.{eqb-false}
+use Rattle.std.specs.Prelude.{Ok, Err}
+use Rattle.scan.specs.Found.{Found, clean}
 use Rattle.refusals.specs.declared.Refusal.{Refusal}
 use Rattle.refusals.specs.declared.Refusal.TheVariants.{TextTooLong, OffForm, TableTooShort, SharesAboveCost}
 use Rattle.refusals.specs.Listed.{number_of}
@@ -18,9 +20,7 @@ use Rattle.meaning.proofs.Facts.{by_order}
 use Rattle.tables.specs.declared.Counts.{Counts}
 use Rattle.tables.specs.Layout.{facts_room, costs_room, shares_room}
 use Rattle.scan.specs.Scan.{unless, ◌then◌, each}
-use Rattle.scan.specs.declared.Found.{Found}
-use Rattle.scan.specs.declared.Found.TheVariants.{Clean, Fault}
-use Rattle.grammar.specs.declared.Reading.TheVariants.{Accepted, Refused}
+use Rattle.grammar.specs.Readings.{Reading}
 use Rattle.grammar.specs.Fields.{Outcome, leaves}
 use Rattle.text.specs.declared.Halt.{Halt}
 use Rattle.text.specs.declared.Halt.TheVariants.{Going, Form, Range, Order, Missing, States, Idle}
@@ -36,11 +36,11 @@ use Rattle.pieces.proofs.Keeping.{ended_length}
 
 -- ---- which reading answers, and which of the entry's tests decides
 module _ (s : SoFar) (w f c h : List ℕ) where
-  read_by : (P : Outcome → Type 0) → P (leaves (Refused TextTooLong) f c h) → P (machine_end (mk s.at (take area_room w)) f c h) → P (read_so_far s w f c h)
+  read_by : (P : Outcome → Type 0) → P (leaves (Err TextTooLong) f c h) → P (machine_end (mk s.at (take area_room w)) f c h) → P (read_so_far s w f c h)
   read_by P a b = by_order most_bytes s.bytes (λ l. subst P (sym (too_long s w f c h l)) a) (λ l. subst P (sym (not_too_long s w f c h l)) b)
 
-  end_by : (P : EndLeft → Type 0) → (lent_short w f c h ≡ true → P (end_left s (Refused TableTooShort) f c h))
-      → (lent_short w f c h ≡ false → s.ended ≡ true → P (end_left s (Refused (OffForm 0)) f c h))
+  end_by : (P : EndLeft → Type 0) → (lent_short w f c h ≡ true → P (end_left s (Err TableTooShort) f c h))
+      → (lent_short w f c h ≡ false → s.ended ≡ true → P (end_left s (Err (OffForm 0)) f c h))
       → (lent_short w f c h ≡ false → P (ends_as (so_far s.at s.bytes true) (read_so_far s w f c h)))
       → P (text_ended s w f c h)
   end_by P a b d = split (lent_short w f c h) s.ended refl refl
@@ -52,17 +52,17 @@ module _ (s : SoFar) (w f c h : List ℕ) where
 
 -- ---- refused, nothing is written
 
-not_refused : {A : Type 0} {r : Refusal} {n : Counts} → Accepted n ≡ Refused r → A
+not_refused : {A : Type 0} {r : Refusal} {n : Counts} → Ok n ≡ Err r → A
 not_refused p = let z : ◌≡◌ {A = ℕ} 0 1 = cc in absurd (let n : ⊥ = omega arith in n)
 
 -- what is left behind on a refusal
 Keeps : List ℕ → List ℕ → List ℕ → Outcome → Type 0
-Keeps f c h o = (r : Refusal) → o.answer ≡ Refused r → (o.facts ≡ f) × (o.costs ≡ c) × (o.shares ≡ h)
+Keeps f c h o = (r : Refusal) → o.answer ≡ Err r → (o.facts ≡ f) × (o.costs ≡ c) × (o.shares ≡ h)
 
 settled_keeps : (e : St) (d : Found) (f c h : List ℕ) → Keeps f c h (left_behind d e f c h)
 unfolding Keeps written
-settled_keeps e Clean f c h r q = not_refused q
-settled_keeps e (Fault x) f c h r q = (refl, refl, refl)
+settled_keeps e (Ok tt) f c h r q = not_refused q
+settled_keeps e (Err x) f c h r q = (refl, refl, refl)
 
 reading_keeps : (s : SoFar) (w f c h : List ℕ) → Keeps f c h (read_so_far s w f c h)
 unfolding Keeps machine_end settled_as
@@ -71,15 +71,15 @@ reading_keeps s w f c h =
 
 -- ---- no fault of a text has number 8
 data OfText : Found → Type 0 where
-  clean : OfText Clean
-  fault : {r : Refusal} → eqb (number_of r) 8 ≡ false → OfText (Fault r)
+  found_clean : OfText clean
+  fault : {r : Refusal} → eqb (number_of r) 8 ≡ false → OfText (Err r)
 
 both_of_text : (a b : Found) → OfText a → OfText b → OfText (a then b)
-both_of_text Clean b p q = q
-both_of_text (Fault r) b p q = p
+both_of_text (Ok tt) b p q = q
+both_of_text (Err r) b p q = p
 
 halt_of_text : (k : Halt) (l : ℕ) → OfText (refusal_of k l)
-halt_of_text Going l = clean
+halt_of_text Going l = found_clean
 halt_of_text Form l = fault refl
 halt_of_text Range l = fault refl
 halt_of_text Order l = fault refl
@@ -88,12 +88,12 @@ halt_of_text States l = fault refl
 halt_of_text Idle l = fault refl
 
 share_of_text : (b : Bool) (l : ℕ) → OfText (unless b (SharesAboveCost l))
-share_of_text true l = clean
+share_of_text true l = found_clean
 share_of_text false l = fault refl
 
 each_of_text : (f : ℕ → Found) → ((i : ℕ) → OfText (f i)) → (n i : ℕ) → OfText (each f n i)
 unfolding each
-each_of_text f h zero i = clean
+each_of_text f h zero i = found_clean
 each_of_text f h (suc n) i = both_of_text (f i) (each f n (suc i)) (h i) (each_of_text f h n (suc i))
 
 over_of_text : (e : St) → OfText (over e)
@@ -104,16 +104,16 @@ fault_of_text : (e : St) → OfText (last_fault e)
 unfolding last_fault
 fault_of_text e = both_of_text (refusal_of e.ctrl.halt e.ctrl.line) (over e) (halt_of_text e.ctrl.halt e.ctrl.line) (over_of_text e)
 
-unlike : (r : Refusal) → eqb (number_of r) 8 ≡ false → Refused r ≡ Refused TableTooShort → ⊥
+unlike : (r : Refusal) → eqb (number_of r) 8 ≡ false → ◌≡◌ {A = Reading} (Err r) (Err TableTooShort) → ⊥
 unlike r n q = eqb-false (number_of r) 8 n (ap number_of (let y : r ≡ TableTooShort = cc in y))
 
-not_eight : (e : St) (d : Found) (f c h : List ℕ) → OfText d → (left_behind d e f c h).answer ≡ Refused TableTooShort → ⊥
+not_eight : (e : St) (d : Found) (f c h : List ℕ) → OfText d → (left_behind d e f c h).answer ≡ Err TableTooShort → ⊥
 unfolding written
-not_eight e Clean f c h k q = not_refused q
-not_eight e (Fault r) f c h (fault n) q = unlike r n q
+not_eight e (Ok tt) f c h k q = not_refused q
+not_eight e (Err r) f c h (fault n) q = unlike r n q
 
 Unlike8 : Outcome → Type 0
-Unlike8 o = o.answer ≡ Refused TableTooShort → ⊥
+Unlike8 o = o.answer ≡ Err TableTooShort → ⊥
 
 reading_not_eight : (s : SoFar) (w f c h : List ℕ) → Unlike8 (read_so_far s w f c h)
 unfolding Unlike8 machine_end settled_as
@@ -129,8 +129,8 @@ SameLengths f c h o = (length o.facts ≡ length f) × (length o.costs ≡ lengt
 module _ (w f c h : List ℕ) (long : LongEnough w f c h) where
   settled_lengths : (e : St) (d : Found) → length e.area ≡ area_room → SameLengths f c h (left_behind d e f c h)
   unfolding SameLengths written
-  settled_lengths e (Fault r) l = (refl, refl, refl)
-  settled_lengths e Clean l = (
+  settled_lengths e (Err r) l = (refl, refl, refl)
+  settled_lengths e (Ok tt) l = (
     filled_length facts_room (take facts_room e.area) f (length-take-le facts_room e.area (omega arith)) long.facts,
     filled_length costs_room (threes costs_room costs_byte e.area) c (threes_length costs_room costs_byte e.area) long.costs,
     filled_length shares_room (threes shares_room shares_byte e.area) h (threes_length shares_room shares_byte e.area) long.shares,
@@ -145,16 +145,16 @@ module _ (w f c h : List ℕ) (long : LongEnough w f c h) where
 
 -- ---- THE END, whatever was handed in
 module _ (s : SoFar) (w f c h : List ℕ) (x : EndLeft) (said : x ≡ text_ended s w f c h) where
-  by_tests : (P : EndLeft → Type 0) → (lent_short w f c h ≡ true → P (end_left s (Refused TableTooShort) f c h))
-      → (lent_short w f c h ≡ false → s.ended ≡ true → P (end_left s (Refused (OffForm 0)) f c h))
+  by_tests : (P : EndLeft → Type 0) → (lent_short w f c h ≡ true → P (end_left s (Err TableTooShort) f c h))
+      → (lent_short w f c h ≡ false → s.ended ≡ true → P (end_left s (Err (OffForm 0)) f c h))
       → (lent_short w f c h ≡ false → P (ends_as (so_far s.at s.bytes true) (read_so_far s w f c h))) → P x
   by_tests P a b d = subst P (sym said) (end_by s w f c h P a b d)
 
   -- refused, for whatever number, every table is as it was
-  pub refused_end_keeps : (r : Refusal) → x.answer ≡ Refused r → (x.facts ≡ f) × (x.costs ≡ c) × (x.shares ≡ h)
+  pub refused_end_keeps : (r : Refusal) → x.answer ≡ Err r → (x.facts ≡ f) × (x.costs ≡ c) × (x.shares ≡ h)
   unfolding Keeps
   refused_end_keeps =
-      by_tests (λ y. (r : Refusal) → y.answer ≡ Refused r → (y.facts ≡ f) × (y.costs ≡ c) × (y.shares ≡ h)) (λ l r e. (refl, refl, refl)) (λ l k r e. (refl, refl, refl))
+      by_tests (λ y. (r : Refusal) → y.answer ≡ Err r → (y.facts ≡ f) × (y.costs ≡ c) × (y.shares ≡ h)) (λ l r e. (refl, refl, refl)) (λ l k r e. (refl, refl, refl))
       (λ l. reading_keeps s w f c h)
 
   -- whatever the answer, no table is longer or shorter
@@ -165,20 +165,20 @@ module _ (s : SoFar) (w f c h : List ℕ) (x : EndLeft) (said : x ≡ text_ended
       (λ l. reading_lengths w f c h (long_enough w f c h l) s)
 
   -- 8 exactly if the area or a table is too short; and then it isn't the end
-  pub eight_if_short : lent_short w f c h ≡ true → x.answer ≡ Refused TableTooShort
+  pub eight_if_short : lent_short w f c h ≡ true → x.answer ≡ Err TableTooShort
   eight_if_short e = ap (λ (y : EndLeft). y.answer) (said ∙ short_end s w f c h e)
 
-  pub short_if_eight : x.answer ≡ Refused TableTooShort → lent_short w f c h ≡ true
+  pub short_if_eight : x.answer ≡ Err TableTooShort → lent_short w f c h ≡ true
   unfolding Unlike8
   short_if_eight =
-      by_tests (λ y. y.answer ≡ Refused TableTooShort → lent_short w f c h ≡ true) (λ l e. l) (λ l k e. absurd (unlike (OffForm 0) refl e))
+      by_tests (λ y. y.answer ≡ Err TableTooShort → lent_short w f c h ≡ true) (λ l e. l) (λ l k e. absurd (unlike (OffForm 0) refl e))
       (λ l e. absurd (reading_not_eight s w f c h e))
 
-  pub eight_isnt_the_end : x.answer ≡ Refused TableTooShort → x.text ≡ s
+  pub eight_isnt_the_end : x.answer ≡ Err TableTooShort → x.text ≡ s
   eight_isnt_the_end e = ap (λ (y : EndLeft). y.text) (said ∙ short_end s w f c h (short_if_eight e))
 
   -- answered with anything else, the text has ended; and nothing else of the text so far is changed
-  module _ (answered : x.answer ≡ Refused TableTooShort → ⊥) where
+  module _ (answered : x.answer ≡ Err TableTooShort → ⊥) where
     pub answered_ended : x.text ≡ so_far s.at s.bytes true
     answered_ended =
         by_tests (λ y. y.answer ≡ x.answer → y.text ≡ so_far s.at s.bytes true) (λ l e. absurd (answered (sym e)))
@@ -188,8 +188,8 @@ module _ (s : SoFar) (w f c h : List ℕ) (x : EndLeft) (said : x ≡ text_ended
     has_ended = ap (λ (t : SoFar). t.ended) answered_ended
 
     -- AFTER THAT a piece and a second end are refused with 2 at place 0; text so far, area and tables are as they were
-    pub then_piece : (v p : List ℕ) → area_lent ≤ length v → piece_taken x.text v p ≡ piece_left x.text (Fault (OffForm 0)) v
+    pub then_piece : (v p : List ℕ) → area_lent ≤ length v → piece_taken x.text v p ≡ piece_left x.text (Err (OffForm 0)) v
     then_piece v p l = piece_after_end x.text v p l has_ended
 
-    pub then_end : (v g d k : List ℕ) → lent_short v g d k ≡ false → text_ended x.text v g d k ≡ end_left x.text (Refused (OffForm 0)) g d k
+    pub then_end : (v g d k : List ℕ) → lent_short v g d k ≡ false → text_ended x.text v g d k ≡ end_left x.text (Err (OffForm 0)) g d k
     then_end v g d k l = second_end x.text v g d k l has_ended

@@ -9,13 +9,12 @@ use mathlib.Core.Bool.{true, false}
 use lib.ListN.{length, take, drop, replicate, length-append, length-replicate, length-drop}
 use lib.Seq.{take_at}
 use borrow.Author.Tests.{le-ltb}
+use Rattle.std.specs.Prelude.{Err}
+use Rattle.scan.specs.Found.{Found, clean}
 use Rattle.refusals.specs.declared.Refusal.TheVariants.{TextTooLong, TableTooShort}
 use Rattle.meaning.specs.Limits.{most_bytes}
 use Rattle.meaning.proofs.Facts.{by_order}
 use Rattle.tables.specs.Layout.{facts_room, costs_room, shares_room}
-use Rattle.scan.specs.declared.Found.{Found}
-use Rattle.scan.specs.declared.Found.TheVariants.{Clean}
-use Rattle.grammar.specs.declared.Reading.TheVariants.{Refused}
 use Rattle.grammar.specs.Fields.{Outcome, leaves, admitted}
 use Rattle.grammar.specs.Grammar.{read_text}
 use Rattle.grammar.proofs.Admission.{facts_short, costs_short, shares_short, text_long}
@@ -125,7 +124,7 @@ abbrev pub answer_and_tables : EndLeft → Outcome
 answer_and_tables x = leaves x.answer x.facts x.costs x.shares
 
 module _ (text : List ℕ) (s : SoFar) (w : List ℕ) (g : Stands text s w) (f c h : List ℕ) where
-  too_short : lent_short w f c h ≡ true → answer_and_tables (text_ended s w f c h) ≡ leaves (Refused TableTooShort) f c h
+  too_short : lent_short w f c h ≡ true → answer_and_tables (text_ended s w f c h) ≡ leaves (Err TableTooShort) f c h
   too_short l = ap answer_and_tables (answers.short_end s w f c h l)
 
   module _ (facts : facts_room ≤ length f) (costs : costs_room ≤ length c) (shares : shares_room ≤ length h) where
@@ -165,7 +164,7 @@ pub data AllOfBytes : List (List ℕ) → Type 0 where
 
 -- they are handed in one after another, each with the text so far and the area as the one before left them
 unfoldable pub all_taken : SoFar → List ℕ → List (List ℕ) → PieceLeft
-all_taken s w [] = piece_left s Clean w
+all_taken s w [] = piece_left s clean w
 all_taken s w (p ∷ ps) = all_taken (piece_taken s w p).text (piece_taken s w p).area ps
 
 pub pieces_are_calls : {ps : List (List ℕ)} → AllOfBytes ps → {text w : List ℕ} {s : SoFar} → Calls text s w
@@ -180,7 +179,7 @@ pieces_are_calls (next_piece {p = p} {ps = ps} o b) {text} {w} {s} k =
 
 module _ {text w : List ℕ} {s : SoFar} (calls : Calls text s w) where
   -- every piece is taken, after a fault in the text too
-  pub piece_clean : (p : List ℕ) (t : SoFar) (a : Found) (v : List ℕ) → piece_left t a v ≡ piece_taken s w p → a ≡ Clean
+  pub piece_clean : (p : List ℕ) (t : SoFar) (a : Found) (v : List ℕ) → piece_left t a v ≡ piece_taken s w p → a ≡ clean
   piece_clean p t a v e =
       let g = calls_stand calls in ap (λ (x : PieceLeft). x.answer) (e ∙ answers.piece_taken_lem s w p g.long g.going)
 
@@ -193,7 +192,7 @@ module _ {text w : List ℕ} {s : SoFar} (calls : Calls text s w) where
 
   -- 1 COMES BEFORE ANY FAULT IN THE TEXT: above the most bytes the end says so, whatever stands in them, however early a fault was read
   pub too_long_first : (f c h : List ℕ) (x : EndLeft) → x ≡ text_ended s w f c h → facts_room ≤ length f → costs_room ≤ length c → shares_room ≤ length h
-      → most_bytes < length text → answer_and_tables x ≡ leaves (Refused TextTooLong) f c h
+      → most_bytes < length text → answer_and_tables x ≡ leaves (Err TextTooLong) f c h
   too_long_first f c h x e a b d l =
       let g = calls_stand calls in
       let long = answers.none_short w f c h (record { area = g.long; facts = a; costs = b; shares = d }) in

@@ -1,7 +1,7 @@
 -- CALLS BEFORE THE END, as a bench may make them: pieces of any size, empty ones too, and among them calls that are refused because something lent is too short. Of
 -- each call nothing is asked but that it meets its entry's contract, and that text so far and area are handed on as they were left.
+use Rattle.scan.specs.Found.{Found}
 use Rattle.std.specs.Prelude.{ℕ, ◌≤◌, ◌<◌, ◌≡◌, true, List, [], ◌++◌, length, get_or}
-use Rattle.scan.specs.declared.Found.{Found}
 use Rattle.pieces.specs.declared.SoFar.{SoFar}
 use Rattle.pieces.specs.Pieces.{area_lent, begun_text, piece_left, piece_taken, lent_short, EndLeft, text_ended}
 

@@ -1,14 +1,12 @@
 -- THE TEXT IN PIECES: what taking a piece leaves behind, and what the end does, over whatever state and area are handed in. For a state and an area that are handed
 -- on as they were left no reader needs to know the machine inside (`feed`, `machine_end`): by `in_pieces` (proofs/Whole.antt) the end leaves behind exactly what
 -- `read_text` says of the pieces put together.
-use Rattle.std.specs.Prelude.{ℕ, ◌+◌, min, List, ◌++◌, Bool, true, false, cond, ◌||◌, length, take, drop, replicate, ltb, eqb}
+use Rattle.grammar.specs.Readings.{Reading}
+use Rattle.scan.specs.Found.{Found, clean}
+use Rattle.std.specs.Prelude.{ℕ, ◌+◌, min, List, ◌++◌, Bool, true, false, cond, ◌||◌, length, take, drop, replicate, ltb, eqb, Err}
 use Rattle.refusals.specs.declared.Refusal.TheVariants.{TextTooLong, OffForm, TableTooShort}
 use Rattle.meaning.specs.Limits.{most_bytes}
 use Rattle.tables.specs.Layout.{facts_room, costs_room, shares_room}
-use Rattle.scan.specs.declared.Found.{Found}
-use Rattle.scan.specs.declared.Found.TheVariants.{Clean, Fault}
-use Rattle.grammar.specs.declared.Reading.{Reading}
-use Rattle.grammar.specs.declared.Reading.TheVariants.{Refused}
 use Rattle.grammar.specs.Fields.{Outcome, leaves}
 use Rattle.text.specs.declared.Ctrl.{Ctrl}
 use Rattle.text.specs.Inside.Area.{area_room}
@@ -48,14 +46,14 @@ piece_left s a w = record { text = s; answer = a; area = w }
 
 -- it is taken: the machine that stands in x has read its k bytes
 abbrev pub gone_on : SoFar → List ℕ → ℕ → St → PieceLeft
-gone_on s w k x = piece_left (so_far x.ctrl (bytes_with s.bytes k) false) Clean (x.area ++ drop area_room w)
+gone_on s w k x = piece_left (so_far x.ctrl (bytes_with s.bytes k) false) clean (x.area ++ drop area_room w)
 
 -- 8 for a short area, then 2 at place 0 after the end, and else it is taken
 unfoldable pub piece_taken : SoFar → List ℕ → List ℕ → PieceLeft
 piece_taken s w p =
     cond (ltb (length w) area_lent)
-    (piece_left s (Fault TableTooShort) w)
-    (cond s.ended (piece_left s (Fault (OffForm 0)) w) (gone_on s w (length p) (feed (mk s.at (area_used s w)) p)))
+    (piece_left s (Err TableTooShort) w)
+    (cond s.ended (piece_left s (Err (OffForm 0)) w) (gone_on s w (length p) (feed (mk s.at (area_used s w)) p)))
 
 -- THE END leaves behind the text so far, the answer, and the three lent tables
 pub record EndLeft : Type 0 where
@@ -78,11 +76,11 @@ lent_short w f c h = ltb (length w) area_lent || ltb (length f) facts_room || lt
 
 -- 1 for a text above the limit, before any fault in it, and else what the machine says
 unfoldable pub read_so_far : SoFar → List ℕ → List ℕ → List ℕ → List ℕ → Outcome
-read_so_far s w f c h = cond (ltb most_bytes s.bytes) (leaves (Refused TextTooLong) f c h) (machine_end (mk s.at (take area_room w)) f c h)
+read_so_far s w f c h = cond (ltb most_bytes s.bytes) (leaves (Err TextTooLong) f c h) (machine_end (mk s.at (take area_room w)) f c h)
 
 -- 8 for a short area or table, and it isn't the end; then 2 at place 0 for a second end; else the text has ended
 unfoldable pub text_ended : SoFar → List ℕ → List ℕ → List ℕ → List ℕ → EndLeft
 text_ended s w f c h =
     cond (lent_short w f c h)
-    (end_left s (Refused TableTooShort) f c h)
-    (cond s.ended (end_left s (Refused (OffForm 0)) f c h) (ends_as (so_far s.at s.bytes true) (read_so_far s w f c h)))
+    (end_left s (Err TableTooShort) f c h)
+    (cond s.ended (end_left s (Err (OffForm 0)) f c h) (ends_as (so_far s.at s.bytes true) (read_so_far s w f c h)))

@@ -2,18 +2,16 @@
 // whole text does. The text itself is kept nowhere.
 #![tactic(auto)]
 
-ghost use Rattle.std.specs.Prelude.{◌≡◌, ◌≤◌, length, replicate};
+ghost use Rattle.std.specs.Prelude.{◌≡◌};
 ghost use Rattle.pieces.specs.Pieces.{begun_text, bytes_with, lent_short, piece_left, piece_taken, end_left, text_ended};
 
-use grammar::Reading;
 use meaning::limits::BYTES_MOST;
 use refusals::Refusal;
-use scan::Found;
+use tables::Counts;
 use tables::readers::{COSTS_ROOM, FACTS_ROOM, SHARES_ROOM};
 use text::Ctrl;
 use text::control::start_of_text;
 use text::end::finish;
-use text::fill::clear_bytes;
 use text::names::AREA_ROOM;
 use text::step::feed_piece;
 
@@ -28,42 +26,30 @@ pub struct SoFar {
     pub ended: bool,
 }
 
-// The text so far after a piece, and whether the piece was taken (clean) or why not.
+// The text so far after a piece, and that the piece was taken, or why not.
 #[derive(Clone, Copy)]
 pub struct Taken {
     pub text: SoFar,
-    pub found: Found,
+    pub found: Result<(), Refusal>,
 }
 
 // The text so far after its end, and the answer.
 #[derive(Clone, Copy)]
 pub struct Ended {
     pub text: SoFar,
-    pub reading: Reading,
+    pub reading: Result<Counts, Refusal>,
 }
 
-// The bytes of a text so far, and n more.
+// The bytes of a text so far, and n more; one too many stands for all above the most.
+#[tactic(auto, unfolding(crate::specs::Pieces::bytes_with))]
 fn more_bytes(bytes: u32, n: usize) -> u32
     ensures { result ≡ bytes_with bytes n }
 {
-    let over = (BYTES_MOST + 1) as u32;
-    if BYTES_MOST < n {
-        return over;
-    }
-    if BYTES_MOST - n < bytes as usize {
-        return over;
-    }
-    bytes + n as u32
-}
-
-// Clears what a reading goes on in.
-fn clear(w: &mut [u8])
-    ensures { w.new ≡ replicate (length w.old) 0 }
-{
-    clear_bytes(0, w);
+    n.saturating_add(bytes as usize).min(BYTES_MOST + 1) as u32
 }
 
 // BEGINS a text.
+#[tactic(auto, unfolding(crate::specs::Pieces::begun_text))]
 pub fn begin_text() -> SoFar
     ensures { result ≡ begun_text }
 {
@@ -81,46 +67,39 @@ pub fn take_piece(s: SoFar, area: &mut [u8], piece: &[u8]) -> Taken
     if area.len() < AREA_LENT {
         return Taken {
             text: s,
-            found: Found::Fault(Refusal::TableTooShort),
+            found: Err(Refusal::TableTooShort),
         };
     }
     if s.ended {
         return Taken {
             text: s,
-            found: Found::Fault(Refusal::OffForm(0)),
+            found: Err(Refusal::OffForm(0)),
         };
     }
-    let bytes = s.bytes;
-    let at = s.at;
-    let unread = bytes == 0;
+    let unread = s.bytes == 0;
     if unread {
-        clear(&mut area[..AREA_ROOM]);
+        area[..AREA_ROOM].fill(0);
     }
-    let on = feed_piece(at, piece, &mut area[..AREA_ROOM]);
+    let on = feed_piece(s.at, piece, &mut area[..AREA_ROOM]);
     Taken {
         text: SoFar {
             at: on,
-            bytes: more_bytes(bytes, piece.len()),
+            bytes: more_bytes(s.bytes, piece.len()),
             ended: false,
         },
-        found: Found::Clean,
+        found: Ok(()),
     }
 }
 
 // The area or a table is too short for the end.
+#[tactic(auto, unfolding(crate::specs::Pieces::lent_short))]
 fn lent_short(area: &[u8], facts: &[u8], costs: &[u32], shares: &[u32]) -> bool
     ensures { result ≡ lent_short area.now facts.now costs.now shares.now }
 {
-    if area.len() < AREA_LENT {
-        return true;
-    }
-    if facts.len() < FACTS_ROOM {
-        return true;
-    }
-    if costs.len() < COSTS_ROOM {
-        return true;
-    }
-    shares.len() < SHARES_ROOM
+    area.len() < AREA_LENT
+        || facts.len() < FACTS_ROOM
+        || costs.len() < COSTS_ROOM
+        || shares.len() < SHARES_ROOM
 }
 
 // ENDS a text: 1 before any fault in it, and else what was read says. The lent tables are written on acceptance only; the area stays as it is.
@@ -136,30 +115,24 @@ pub fn end_text(
     if lent_short(area, facts, costs, shares) {
         return Ended {
             text: s,
-            reading: Reading::Refused(Refusal::TableTooShort),
+            reading: Err(Refusal::TableTooShort),
         };
     }
     if s.ended {
         return Ended {
             text: s,
-            reading: Reading::Refused(Refusal::OffForm(0)),
+            reading: Err(Refusal::OffForm(0)),
         };
     }
-    let at = s.at;
-    let bytes = s.bytes;
-    let over = SoFar {
-        at,
-        bytes,
-        ended: true,
-    };
-    if BYTES_MOST < bytes as usize {
+    let over = SoFar { ended: true, ..s };
+    if BYTES_MOST < s.bytes as usize {
         return Ended {
             text: over,
-            reading: Reading::Refused(Refusal::TextTooLong),
+            reading: Err(Refusal::TextTooLong),
         };
     }
     Ended {
         text: over,
-        reading: finish(at, &area[..AREA_ROOM], facts, costs, shares),
+        reading: finish(s.at, &area[..AREA_ROOM], facts, costs, shares),
     }
 }

@@ -1,11 +1,12 @@
 -- Laws of the begin and of the whole: before a goal is set nobody waits and there are no labels; and tables made of the labels and steps of a run that has ended
 -- say the distances and the best steps. Assumes nothing.
-use mathlib.Core.Path.{◌≡◌, refl, sym, ◌∙◌, subst}
-use mathlib.Core.List.{List}
-use Prim.Native.Nat.{ℕ, zero, suc, ◌+◌, ◌*◌, ◌≤◌, ◌<◌}
+use mathlib.Core.Path.{◌≡◌, sym, ap, ◌∙◌, subst}
+use mathlib.Core.List.{List, ◌++◌}
+use Prim.Native.Nat.{ℕ, ◌+◌, ◌*◌, ◌≤◌, ◌<◌}
 use native.Mathlib.Nat.{not-suc-le-zero, mul-le-mul_right}
 use native.Mathlib.Omega.{arith}
-use lib.ListN.{length, get_or, replicate, length-replicate, get_or-replicate}
+use lib.ListN.{length, get_or, take, drop, replicate, length-replicate, get_or-replicate, get_or-eq_default}
+use Rattle.std.proofs.lemmas.List.{length-take-le, get_or-take}
 use Rattle.graph.specs.Graph.{Graph, Closed, IsDistance}
 use Rattle.graph.specs.Certificate.{scaled}
 use Rattle.graph.specs.Best.{IsBestStep}
@@ -16,58 +17,50 @@ use Rattle.maps.specs.Inside.Walks.{space_of, states_of, Walkable, PricesSmall}
 use Rattle.maps.specs.Inside.Made.{Made, Copied}
 use Rattle.maps.specs.Inside.Rows.{lanes}
 use Rattle.maps.proofs.Walking.{walkable_closed}
-use Rattle.waiting.specs.Trees.{NOKEY, lowest, leaf}
+use Rattle.maps.proofs.Slices.{made_front}
+use Rattle.waiting.specs.Trees.{NOKEY, leaf}
 use Rattle.waiting.specs.Offers.{NOLABEL}
+use Rattle.waiting.proofs.Trees.{key_none, tree_none}
 use Rattle.quick.specs.Inside.Runs.{scaled_of, Run, Nothing}
 use Rattle.quick.specs.Inside.Answers.{shown, Distances, BestSteps}
 use Rattle.quick.proofs.Finishing.{Ended, shown_distance, found_best}
 
--- where all keys are none, so is the least
-lowest_none : (t : List ℕ) (at k : ℕ) → ((i : ℕ) → i < at + k → get_or t i 0 ≡ NOKEY) → lowest t at k ≡ NOKEY
-unfolding lowest
-lowest_none t at zero h = refl
-lowest_none t at (suc k) h = omega (arith, lowest_none t at k (λ i l. h i (omega arith)), h (at + k) (omega arith))
-
-pub fresh : (H : Graph) {L β : List ℕ} → Closed H → H.states ≤ most_states → H.states ≤ length L → H.states ≤ length β
-    → ((a : ℕ) → a < H.states → (get_or L a 0 ≡ NOLABEL) × (get_or β a 0 ≡ HALT)) → Run (scaled H 4096) 0 0 Nothing L (replicate 4368 NOKEY) β
-fresh H closed few size_L size_β none =
+-- in room for k states, no fewer than there are, nothing is known yet
+blank : (H : Graph) (k : ℕ) → Closed H → H.states ≤ most_states → H.states ≤ k
+    → Run (scaled H 4096) 0 0 Nothing (replicate k NOLABEL) (replicate 4368 NOKEY) (replicate k HALT)
+blank H k closed few room =
     record {
-      size_L = size_L;
+      size_L = omega (arith, length-replicate k NOLABEL);
       size_t = length-replicate 4368 NOKEY;
-      size_β = size_β;
-      high = λ a l. omega (arith, (none a l).0);
-      reached = λ a l h. absurd (omega (arith, (none a l).0));
+      size_β = omega (arith, length-replicate k HALT);
+      high = λ a l. omega (arith, label a l);
+      reached = λ a l h. absurd (omega (arith, label a l));
       goals = λ a l g. absurd (not-suc-le-zero l);
-      tree = λ i l. key i (omega arith) ∙ sym (lowest_none (replicate 4368 NOKEY) (16 + 16 * i) 16 (λ j m. key j (omega arith)));
-      waits = λ a l h. absurd (omega (arith, key (272 + a) (omega arith)));
-      shaped = λ a l h. absurd (omega (arith, key (272 + a) (omega arith)));
+      tree = tree_none;
+      waits = λ a l h. absurd (omega (arith, key_none (272 + a) (omega arith)));
+      shaped = λ a l h. absurd (omega (arith, key_none (272 + a) (omega arith)));
       tight =
           λ o a b lo la e h n.
-          let there = none b (closed o a b lo la e) in
-          (omega (arith, (none a la).0, there.0), λ q. absurd (omega (arith, (none a la).0, there.0)));
-      bytes = λ a l. omega (arith, (none a l).1);
-      steps = λ a l h. absurd (omega (arith, (none a l).1));
-      none = λ a l e h. absurd (omega (arith, (none a l).0));
+          let there = label b (closed o a b lo la e) in
+          (omega (arith, label a la, there), λ q. absurd (omega (arith, label a la, there)));
+      bytes = λ a l. omega (arith, step a l);
+      steps = λ a l h. absurd (omega (arith, step a l));
+      none = λ a l e h. absurd (omega (arith, label a l));
     }
   where
-    key : (i : ℕ) → i < 4368 → get_or (replicate 4368 NOKEY) i 0 ≡ NOKEY
-    key i l = get_or-replicate 4368 i NOKEY 0 l
+    label : (a : ℕ) → a < H.states → get_or (replicate k NOLABEL) a 0 ≡ NOLABEL
+    label a l = get_or-replicate k a NOLABEL 0 (omega arith)
 
--- in room for k states, no fewer than there are, nothing is known yet
-pub none_yet : (k n : ℕ) → n ≤ k
-    → (n ≤ length (replicate k NOLABEL)) × (n ≤ length (replicate k HALT)) × ((a : ℕ) → a < n → (get_or (replicate k NOLABEL) a 0 ≡ NOLABEL) × (get_or (replicate k HALT) a 0 ≡ HALT))
-none_yet k n h = (
-  omega (arith, length-replicate k NOLABEL),
-  omega (arith, length-replicate k HALT),
-  λ a l. (get_or-replicate k a NOLABEL 0 (omega arith), get_or-replicate k a HALT 0 (omega arith)),
-)
+    step : (a : ℕ) → a < H.states → get_or (replicate k HALT) a 0 ≡ HALT
+    step a l = get_or-replicate k a HALT 0 (omega arith)
 
--- and their rows and the operators' offsets fit
-pub rooms_fit : (k n ops : ℕ) → n ≤ k → ops ≤ most_ops → (n * lanes ≤ length (replicate (k * lanes) zero)) × (ops * n ≤ length (replicate (most_ops * k) zero))
-rooms_fit k n ops h l = (
-  omega (arith, mul-le-mul_right lanes h, length-replicate (k * lanes) zero),
-  omega (arith, mul-le-mul_right n l, mul-le-mul_right most_ops h, length-replicate (most_ops * k) zero),
-)
+pub fresh : (H : Graph) (k : ℕ) {t : List ℕ} → Closed H → H.states ≤ most_states → H.states ≤ k → t ≡ replicate 4368 NOKEY
+    → Run (scaled H 4096) 0 0 Nothing (replicate k NOLABEL) t (replicate k HALT)
+fresh H k closed few room e = subst (λ (t : List ℕ). Run (scaled H 4096) 0 0 Nothing (replicate k NOLABEL) t (replicate k HALT)) (sym e) (blank H k closed few room)
+
+-- the rows of n states and the operators' offsets among them fit in the room for k
+pub rooms_fit : (k n ops : ℕ) → n ≤ k → ops ≤ most_ops → (n * lanes ≤ k * lanes) × (ops * n ≤ most_ops * k)
+rooms_fit k n ops h l = (mul-le-mul_right lanes h, omega (arith, mul-le-mul_right n l, mul-le-mul_right most_ops h))
 
 -- ---- the end
 
@@ -84,3 +77,29 @@ module _ {H : Graph} {L t β : List ℕ} (E : Ended H L t β) {n : ℕ} (is : n 
 
   pub steps_copied : {best₀ best : List ℕ} → Copied n β best₀ best → BestSteps H best₀ best
   steps_copied = made_as is (λ a x l e. subst (λ (y : ℕ). IsBestStep H a (advised y)) (sym e) (found_best E a l))
+
+-- ---- the first places of longer tables
+
+-- what the first labels show, for what the labels show
+pub front_shown : (L out : List ℕ) {out' : List ℕ} {n : ℕ} → n ≤ length L → n ≤ length out
+    → Made (λ a x. x ≡ shown (get_or (take n L) a 0)) (length (take n L)) (take n out) out' → Made (λ a x. x ≡ shown (get_or L a 0)) n out (out' ++ drop n out)
+front_shown L out {out'} {n} few room m =
+    let long : length (take n L) ≡ n = length-take-le n L few in
+    made_front room
+    (record {
+      size = m.size;
+      made = λ a l. m.made a (omega (arith, long)) ∙ ap shown (get_or-take n L a 0 l);
+      kept = λ a h. m.kept a (omega (arith, long));
+    })
+
+-- the first steps found, copied
+pub front_copied : (β best : List ℕ) {best' : List ℕ} {n : ℕ} → n ≤ length β → n ≤ length best → best' ≡ take n β → Copied n β best (best' ++ drop n best)
+front_copied β best {best'} {n} few room e =
+    let long : length best' ≡ n = ap length e ∙ length-take-le n β few in
+    let front : length (take n best) ≡ n = length-take-le n best room in
+    made_front room
+    (record {
+      size = long ∙ sym front;
+      made = λ a l. ap (λ (r : List ℕ). get_or r a 0) e ∙ get_or-take n β a 0 l;
+      kept = λ a h. get_or-eq_default best' 0 (omega (arith, long)) ∙ sym (get_or-eq_default (take n best) 0 (omega (arith, front)));
+    })

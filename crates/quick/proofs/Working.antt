@@ -11,26 +11,26 @@ use native.Mathlib.Omega.{arith}
 use borrow.Author.Tests.{eq-eqb, ne_eqb}
 use lib.Dec.{eqb}
 use lib.ListN.{length, get_or}
+use Rattle.std.specs.List.{between}
+use Rattle.std.proofs.lemmas.List.Edits.{length-between, get_or-between}
 use Rattle.graph.specs.Graph.{to, Graph, Leads}
 use Rattle.graph.proofs.Cheapests.{step_leads}
 use Rattle.meaning.specs.Limits.{most_states}
 use Rattle.tables.specs.declared.Counts.{Counts}
 use Rattle.maps.specs.Said.{HALT}
 use Rattle.maps.specs.Inside.Walks.{states_of}
-use Rattle.maps.specs.Inside.Rows.{lanes}
+use Rattle.turned.specs.declared.back.Turned.{Turned}
 use Rattle.turned.specs.Inside.Wants.{wanted}
 use Rattle.turned.specs.Inside.Backs.{drop_at, lift_at, count_at, back_at}
-use Rattle.waiting.specs.Trees.{Tree}
 use Rattle.waiting.specs.Offers.{NOLABEL, Shaped, Offered}
 use Rattle.quick.specs.Inside.Runs.{scaled_of, Run, Every, Nothing, From}
 use Rattle.quick.specs.Inside.Works.{Ready, Held, Into, Left, Relaxed}
 use Rattle.quick.proofs.Running.{offered_fell, offered_run, run_weaken, run_goal}
 
 -- an offer to one of the states may be made
-pub may_offer : {G : Graph} {k b₀ : ℕ} {P : ℕ → ℕ → Type 0} {L t β : List ℕ} → Run G k b₀ P L t β → G.states ≤ most_states → (a : ℕ) → a < G.states
-    → ((a < length L) × (a < length β) × (length t ≡ 4368) × (a < 4096)) × (Tree t × (get_or L a 0 ≤ NOLABEL) × Shaped L t a)
-may_offer R few a l =
-    ((omega (arith, R.size_L), omega (arith, R.size_β), R.size_t, omega arith), (R.tree, R.high a l, R.shaped a l))
+pub may_offer : {G : Graph} {k b₀ : ℕ} {P : ℕ → ℕ → Type 0} {L t β : List ℕ} → Run G k b₀ P L t β → G.states ≤ most_states → (a : ℕ) → a < G.states → (m : ℕ) → length L ≡ m
+    → ((a < m) × (a < most_states)) × ((get_or L a 0 ≤ NOLABEL) × Shaped L t a)
+may_offer R few a l m e = ((omega (arith, R.size_L), omega arith), (R.high a l, R.shaped a l))
 
 -- ---- steps that are looked at one after the other
 
@@ -64,28 +64,24 @@ later o p l d = omega arith
 to_inj : (a b : ℕ) → to a ≡ to b → a ≡ b
 to_inj a b e = cc
 
-module _ {c : Counts} {facts prices : List ℕ} {n : ℕ} {fits turns back : List ℕ} (ready : Ready c facts prices n fits turns back) {o b : ℕ} where
-  -- the numbers that lead to one of an operator's states fit
-  pub back_small : Into c facts o b → (i : ℕ) → i < count_at turns o
-      → (drop_at turns o ≤ b) × (b - drop_at turns o + lift_at turns o < most_states)
-      × (b - drop_at turns o + lift_at turns o + get_or back (o * n + i) 0 < most_states)
-  unfolding back_at
-  back_small I i l =
-      let B = ready.backs o I.op in
-      let inside = B.inside b i I.state I.match l in
-      (B.down b I.state I.match, omega (arith, inside, ready.walk.few), omega (arith, inside, ready.walk.few))
+-- the offsets of operator o, as they are lent
+abbrev pub listed : ℕ → List Turned → List ℕ → ℕ → List ℕ
+listed n turns back o = between (o * n) (o * n + count_at turns o) back
 
-  -- so do the places where they stand
-  pub turn_places : Into c facts o b → (o < 64) × (128 + o < length turns)
-  turn_places I = let l : o < 64 = omega (arith, I.op, ready.walk.ops) in (l, omega (arith, ready.room))
-
-  pub list_place : Into c facts o b → (i : ℕ) → i < count_at turns o → o * n + i < length back
-  list_place I i l =
+module _ {c : Counts} {facts prices : List ℕ} {n : ℕ} {fits back : List ℕ} {turns : List Turned} (ready : Ready c facts prices n fits turns back) {o b : ℕ} where
+  pub list_room : Into c facts o b → o * n + count_at turns o ≤ length back
+  list_room I =
       let q : o + 1 ≤ c.ops = omega (arith, I.op) in
       omega (arith, mul-le-mul_right n q, (ready.backs o I.op).few, ready.lists)
 
-  pub lane_place : o < c.ops → b < n → (o < lanes) × (b * lanes + o < length fits)
-  lane_place lo lb = let l : o < lanes = omega (arith, ready.walk.ops) in (l, omega (arith, ready.rows))
+  pub listed_long : Into c facts o b → length (listed n turns back o) ≡ count_at turns o
+  listed_long I = length-between back (o * n) (o * n + count_at turns o) (list_room I) ∙ omega arith
+
+  -- what is read of them leads to a state
+  pub listed_at : (I : Into c facts o b) {i x : ℕ} → i < length (listed n turns back o) → x ≡ get_or (listed n turns back o) i 0
+      → b - drop_at turns o + lift_at turns o + x ≡ back_at n turns back o b i
+  unfolding back_at
+  listed_at I {i} {x} l e = ap (λ (y : ℕ). b - drop_at turns o + lift_at turns o + y) (e ∙ get_or-between back (o * n) (o * n + count_at turns o) i 0 (omega (arith, listed_long I)))
 
   pub from_below : Into c facts o b → {i a : ℕ} → i < count_at turns o → a ≡ back_at n turns back o b i → a < states_of c facts
   from_below I {i} l e = rw e ((ready.backs o I.op).inside b i I.state I.match l)
@@ -169,9 +165,6 @@ abbrev pub Looked : ℕ → ℕ → List ℕ → List ℕ → List ℕ → List 
 Looked lane k L t β L' t' β' = ((lane ≡ 0) × Offered k HALT 0 L t β L' t' β') ⊎ ((lane ≡ 0 → ⊥) × (L' ≡ L) × (t' ≡ t) × (β' ≡ β))
 
 module _ {lane k : ℕ} {L t β L' t' β' : List ℕ} (f : Looked lane k L t β L' t' β') where
-  pub looked_sizes : (length L' ≡ length L) × (length t' ≡ length t) × (length β' ≡ length β)
-  looked_sizes = ⊎_elim (λ g. (g.1.size_L, g.1.size_t, g.1.size_β)) (λ g. (ap length g.1, ap length g.2, ap length g.3)) f
-
   -- where the lane tells the goals, one goal more is set
   pub looked_run : {G : Graph} → Run G k 0 Nothing L t β → G.states ≤ most_states → k < G.states → eqb lane 0 ≡ G.goal k → Run G (k + 1) 0 Nothing L' t' β'
   unfolding Leads

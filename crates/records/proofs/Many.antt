@@ -3,21 +3,21 @@ use Prim.Native.Nat.{ℕ, ◌<◌}
 use mathlib.Core.Path.{◌≡◌, refl, ap}
 use mathlib.Core.List.{List}
 use native.Mathlib.Omega.{arith}
-use lib.Dec.{leb}
 use lib.ListN.{length}
 use borrow.Author.Tests.{lt-leb}
 use Rattle.meaning.specs.Limits.{most_ops}
 use Rattle.tables.specs.declared.Counts.{Counts}
-use Rattle.scan.specs.declared.Found.{Found}
+use Rattle.scan.specs.Found.{Found}
+use Rattle.std.specs.Prelude.{min}
+use Rattle.std.specs.Result.{result_and}
 use Rattle.tables.specs.Task.{tables}
 use Rattle.scan.specs.Scan.{◌then◌, facts_fault, task_fault, roomy, tables_fault, state_fault, input_fault}
-use Rattle.meaning.proofs.Facts.{by_cases}
 use Rattle.scan.proofs.Validity.{clean_valid}
 use Rattle.scan.proofs.Unread.{unless_same}
-use Rattle.sequences.specs.Judging.{judged_unless, judged_of}
+use Rattle.sequences.specs.Judging.{judged_of}
 use Rattle.sequences.proofs.Passing.{input_clean}
 use Rattle.records.specs.declared.OpRecord.{OpRecord}
-use Rattle.records.specs.Records.{at_most, more_ops, records_tables}
+use Rattle.records.specs.Records.{more_ops, records_tables}
 
 -- the counts with another number of operators
 abbrev pub numbered : Counts → ℕ → Counts
@@ -35,7 +35,7 @@ module _ (c : Counts) (f k shares : List ℕ) (a b : ℕ) (p : most_ops < a) (q 
   many_alike : (s ops : List ℕ) → judged_of (tables (numbered c a) f k shares) s ops ≡ judged_of (tables (numbered c b) f k shares) s ops
   unfolding judged_of
   many_alike s ops =
-      unless_same judged_unless (λ r x y. refl) _ _ _ _ (many_input s)
+      unless_same result_and (λ r x y. refl) _ _ _ _ (many_input s)
       (λ e. absurd (let z : ⊥ = omega (arith, (clean_valid (tables (numbered c a) f k shares) (input_clean (tables (numbered c a) f k shares) s e).0).ops) in z))
 
 -- with the whole length for the number of operators the answer is the same
@@ -45,5 +45,5 @@ pub many_records : (c : Counts) (facts shares s ops : List ℕ) (rows : List OpR
 unfolding records_tables
 many_records c facts shares s ops rows h =
     let T = records_tables c facts shares rows in
-    let above : most_ops < at_most more_ops (length rows) = by_cases (leb (length rows) more_ops) (λ e. rw e h) (λ e. rw e (omega arith)) in
-    many_alike c T.facts T.costs shares (at_most more_ops (length rows)) (length rows) above h s ops
+    let above : most_ops < min (length rows) more_ops = omega arith in
+    many_alike c T.facts T.costs shares (min (length rows) more_ops) (length rows) above h s ops

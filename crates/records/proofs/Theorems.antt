@@ -16,18 +16,19 @@ use Rattle.tables.specs.Editions.{read_in}
 use Rattle.tables.specs.Task.{tables}
 use Rattle.scan.specs.Scan.{roomy}
 use Rattle.scan.proofs.Unread.{Agree, read_alike, state_own}
-use Rattle.sequences.specs.declared.judging.Judged.{Judged}
+use Rattle.std.specs.Prelude.{min, Result}
+use Rattle.refusals.specs.declared.Refusal.{Refusal}
 use Rattle.sequences.specs.Judging.{judged_of}
 use Rattle.sequences.proofs.Unread.{judged_alike}
 use Rattle.records.specs.declared.OpRecord.{OpRecord}
 use Rattle.records.specs.declared.laying.Laid.{Laid}
 use Rattle.records.specs.Records.{record_at, laid_of, blank, more_ops, counted, records_tables}
-use Rattle.records.proofs.Laws.{most_within, take_room, room_facts, length_laid_facts, length_laid_costs}
+use Rattle.records.proofs.Laws.{take_room, room_facts, length_laid_facts, length_laid_costs}
 use Rattle.records.proofs.Places.{Outside, before_rows, after_rows, laid_other, laid_pre, laid_eff, laid_mark, laid_cost}
 
 -- ---- no second answer
 
-pub judge_records_unique : (c : Counts) (facts shares s ops : List ℕ) (rows : List OpRecord) (r r' : Judged)
+pub judge_records_unique : (c : Counts) (facts shares s ops : List ℕ) (rows : List OpRecord) (r r' : Result ℕ Refusal)
     → r ≡ judged_of (records_tables c facts shares rows) s ops → r' ≡ judged_of (records_tables c facts shares rows) s ops → r ≡ r'
 judge_records_unique c facts shares s ops rows r r' p q = p ∙ sym q
 
@@ -80,10 +81,11 @@ module _ (t : Tables) (rows : List OpRecord) (h : Spells t rows) where
   counts_same : counted t.counts n ≡ t.counts
   counts_same =
       let c = t.counts in
-      ap (λ (x : ℕ). record { vars = c.vars; ops = x; maps = c.maps; edition = c.edition; quota = c.quota }) (sym (most_within more_ops n (omega (arith, h.few))))
+      ap (λ (x : ℕ). record { vars = c.vars; ops = x; maps = c.maps; edition = c.edition; quota = c.quota }) (let e : min n more_ops ≡ n = omega (arith, h.few) in e)
 
   pub records_agree : (s ops : List ℕ) → judged_of (records_tables t.counts t.facts t.shares rows) s ops ≡ judged_of t s ops
   unfolding records_tables
   records_agree s ops =
-      rw (h.number, sym (most_within most_ops n h.few), counts_same)
+      let e : min n most_ops ≡ n = omega (arith, h.few) in
+      rw (h.number, e, counts_same)
       (sym (judged_alike (read_alike t.counts t.facts laid.facts t.costs laid.costs t.shares t.shares room_same agree) s s (state_own t.counts s) ops))

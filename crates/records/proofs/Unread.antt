@@ -16,14 +16,14 @@ use Rattle.tables.specs.Task.{tables}
 use Rattle.scan.specs.Scan.{roomy}
 use Rattle.scan.specs.Own.{OwnState}
 use Rattle.scan.proofs.Unread.{Agree, read_alike}
-use Rattle.meaning.proofs.Facts.{by_cases}
+use Rattle.std.specs.Prelude.{min}
 use Rattle.sequences.specs.Judging.{judged_of}
 use Rattle.sequences.proofs.Unread.{judged_alike}
 use Rattle.records.specs.declared.OpRecord.{OpRecord}
 use Rattle.records.specs.declared.laying.Laid.{Laid}
-use Rattle.records.specs.Records.{record_at, at_most, laid_one, laid_of, blank, more_ops, counted, records_tables}
+use Rattle.records.specs.Records.{record_at, laid_one, laid_of, blank, counted, records_tables}
 use Rattle.records.specs.Own.{OwnBeside}
-use Rattle.records.proofs.Laws.{at_most_limit, at_most_number, take_room, room_facts, length_laid_facts}
+use Rattle.records.proofs.Laws.{take_room, room_facts, length_laid_facts}
 use Rattle.records.proofs.Places.{Outside, before_rows, after_rows, laid_other, laid_pre, laid_eff, laid_mark}
 
 costs_same : (rows : List OpRecord) (m : ℕ) (t u : Laid) → t.costs ≡ u.costs → (laid_of rows m t).costs ≡ (laid_of rows m u).costs
@@ -33,7 +33,7 @@ costs_same rows (suc o) t u e = ap (λ (l : List ℕ). set l o (record_at rows o
 
 module _ (c : Counts) (f g s z : List ℕ) (rows : List OpRecord) (O : OwnBeside c (length rows) f g s z) where
   abbrev n : ℕ
-  n = at_most most_ops (length rows)
+  n = min (length rows) most_ops
 
   abbrev d : Counts
   d = counted c (length rows)
@@ -45,7 +45,7 @@ module _ (c : Counts) (f g s z : List ℕ) (rows : List OpRecord) (O : OwnBeside
   G = laid_of rows n (blank g)
 
   few : n ≤ most_ops
-  few = at_most_limit most_ops (length rows)
+  few = omega arith
 
   -- as much room as was lent
   laid_room : (l : List ℕ) → leb facts_room (length (laid_of rows n (blank l)).facts) ≡ leb facts_room (length l)
@@ -72,10 +72,7 @@ module _ (c : Counts) (f g s z : List ℕ) (rows : List OpRecord) (O : OwnBeside
 
     -- an operator within the limit is laid
     laid : (o : ℕ) → o < d.ops → o < most_ops → o < n
-    laid o l h =
-        by_cases (leb (length rows) most_ops)
-        (λ e. rw e (omega (arith, at_most_number more_ops (length rows))))
-        (λ e. rw e h)
+    laid o l h = omega arith
 
     -- the number of values of a variable is as it was lent
     dom_lent : (v : ℕ) → v < most_vars → dom_at F.facts v ≡ dom_at f v
@@ -98,7 +95,7 @@ module _ (c : Counts) (f g s z : List ℕ) (rows : List OpRecord) (O : OwnBeside
               λ m v x lm a l h b.
               other (class_place m v x) (omega arith) (after_rows (class_place m v x) (omega arith) (omega arith)) (O.class m v x lm l (omega (arith, dom_lent v (omega arith))));
           cost = λ o l h. ap (λ (k : List ℕ). cost_at k o) (costs_same rows n (blank f) (blank g) refl);
-          share = λ m o lm l. O.share m o lm (omega (arith, at_most_number more_ops (length rows)));
+          share = λ m o lm l. O.share m o lm (omega arith);
           mark =
               λ o lo h.
               ap (read_in c.edition) (laid_mark rows (blank f) n o few (laid o lo h) far ∙ sym (laid_mark rows (blank g) n o few (laid o lo h) far'));

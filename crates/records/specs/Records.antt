@@ -1,5 +1,5 @@
 -- The tables of a task whose operators stand in a row of records, cost and facts together.
-use Rattle.std.specs.Prelude.{ℕ, zero, suc, cond, List, [], leb, length, get_or, set, take, replicate}
+use Rattle.std.specs.Prelude.{ℕ, zero, suc, List, [], length, get_or, set, take, replicate, min}
 use Rattle.meaning.specs.Limits.{most_vars, most_ops}
 use Rattle.tables.specs.declared.Counts.{Counts}
 use Rattle.tables.specs.Layout.{Tables, place, pre_row, eff_row, mark_place, facts_room, costs_room}
@@ -13,10 +13,6 @@ no_record = record { cost = 0; pre = []; eff = []; mark = 0 }
 
 abbrev pub record_at : List OpRecord → ℕ → OpRecord
 record_at rows o = get_or rows o no_record
-
--- the number, or the limit where it is beyond
-abbrev pub at_most : ℕ → ℕ → ℕ
-at_most limit n = cond (leb n limit) n limit
 
 -- the facts with n of a list's places laid at a row
 unfoldable pub row_laid : List ℕ → ℕ → List ℕ → ℕ → List ℕ
@@ -46,10 +42,10 @@ more_ops = suc most_ops
 
 -- the row's length is the number of operators
 abbrev pub counted : Counts → ℕ → Counts
-counted c n = record { vars = c.vars; ops = at_most more_ops n; maps = c.maps; edition = c.edition; quota = c.quota }
+counted c n = record { vars = c.vars; ops = min n more_ops; maps = c.maps; edition = c.edition; quota = c.quota }
 
 -- THE ROW'S TABLES: the row's records laid over the lent facts, at most as many as there may be; the places of the operators beyond the row stay as they were lent, their costs are 0
 unfoldable pub records_tables : Counts → List ℕ → List ℕ → List OpRecord → Tables
 records_tables c facts shares rows =
-    let t = laid_of rows (at_most most_ops (length rows)) (blank facts) in
+    let t = laid_of rows (min (length rows) most_ops) (blank facts) in
     tables (counted c (length rows)) t.facts t.costs shares

@@ -1,30 +1,21 @@
-// The lent row, read record by record. What is known of a record is done by the functions that take it by value.
-ghost use Rattle.std.specs.Prelude.{◌≡◌, ◌<◌, length};
+// The lent row, read record by record.
+ghost use Rattle.std.specs.Prelude.{◌≡◌, length, min};
 ghost use Rattle.meaning.specs.Limits.{most_ops};
-ghost use Rattle.records.specs.Records.{record_at, laid_of, at_most};
+ghost use Rattle.records.specs.Records.{laid_of};
 ghost use Rattle.tables.specs.Task.{was};
 
 use crate::OpRecord;
-use crate::laying::{Laid, OPS_MOST, at_most, with_record};
-
-// The record of an operator.
-pub fn record_at(rows: &[OpRecord], o: usize) -> OpRecord
-    requires { o < length rows.now }
-    ensures { result ≡ record_at (was rows) o }
-{
-    rows[o]
-}
+use crate::laying::Laid;
+use meaning::limits::OPS_MOST;
 
 // The row's records in their places of the tables, one after the other; as many as there are places for.
 pub fn gather(rows: &[OpRecord], t: Laid) -> Laid
-    ensures { result ≡ laid_of (was rows) (at_most most_ops (length (was rows))) t }
+    ensures { result ≡ laid_of (was rows) (min (length (was rows)) most_ops) t }
 {
-    let mut u = t;
-    let n = at_most(OPS_MOST, rows.len());
-    let mut o = 0;
-    while o < n {
-        u = with_record(u, o, record_at(rows, o));
-        o += 1;
+    let held = &rows[..rows.len().min(OPS_MOST as usize)];
+    let mut laid = t;
+    for (o, r) in held.iter().enumerate() {
+        laid.lay(o, r);
     }
-    u
+    laid
 }

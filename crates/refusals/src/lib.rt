@@ -5,7 +5,7 @@ ghost use Rattle.std.specs.Prelude.{◌≡◌};
 ghost use Rattle.refusals.specs.Listed.{number_of, place_of};
 
 // Why the desk says no. What a variant holds is the place: a line, a variable, a step or a length.
-#[derive(Clone, Copy)]
+#[derive(Clone, Copy, Debug, PartialEq, Eq)]
 pub enum Refusal {
     TextTooLong,
     OffForm(u32),
@@ -60,24 +60,24 @@ pub fn place(r: Refusal) -> u32
     ensures { result ≡ place_of r }
 {
     match r {
-        Refusal::TextTooLong => 0,
-        Refusal::OffForm(line) => line,
-        Refusal::OutOfRange(line) => line,
-        Refusal::NotRising(line) => line,
-        Refusal::ClassMissing(line) => line,
-        Refusal::SharesAboveCost(line) => line,
-        Refusal::TooManyStates(line) => line,
-        Refusal::TableTooShort => 0,
+        Refusal::TextTooLong
+        | Refusal::TableTooShort
+        | Refusal::SequenceTooLong
+        | Refusal::NotARun => 0,
+        Refusal::OffForm(line)
+        | Refusal::OutOfRange(line)
+        | Refusal::NotRising(line)
+        | Refusal::ClassMissing(line)
+        | Refusal::SharesAboveCost(line)
+        | Refusal::TooManyStates(line)
+        | Refusal::IdleOperator(line) => line,
         Refusal::ValueOutside(variable) => variable,
-        Refusal::NoSuchOperator(step) => step,
-        Refusal::SequenceTooLong => 0,
-        Refusal::MayNotRun(step) => step,
-        Refusal::NotTheNext(step) => step,
-        Refusal::OtherOperator(step) => step,
-        Refusal::RunFull(step) => step,
+        Refusal::NoSuchOperator(step)
+        | Refusal::MayNotRun(step)
+        | Refusal::NotTheNext(step)
+        | Refusal::OtherOperator(step)
+        | Refusal::RunFull(step)
+        | Refusal::BeyondQuota(step) => step,
         Refusal::NoGoal(steps) => steps,
-        Refusal::NotARun => 0,
-        Refusal::IdleOperator(line) => line,
-        Refusal::BeyondQuota(step) => step,
     }
 }

@@ -2,6 +2,7 @@ pub mod Walks
 pub mod Order
 pub mod RowFaults
 pub mod Rules
+pub mod Heads
 pub mod Decides
 pub mod Validity
 pub mod Unread

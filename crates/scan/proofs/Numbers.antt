@@ -5,6 +5,8 @@ use mathlib.Core.Bool.{Bool, true, false, not}
 use mathlib.Core.Logic.{◌⊎◌, inl, inr}
 use native.Mathlib.Omega.{arith}
 use lib.Dec.{leb, ltb}
+use Rattle.std.specs.Prelude.{Ok, Err}
+use Rattle.scan.specs.Found.{Found, clean}
 use Rattle.meaning.specs.Limits.{most_vars, most_values, most_ops, most_cost, most_maps, most_states, most_edition, most_quota, most_mark}
 use Rattle.refusals.specs.declared.Refusal.{Refusal}
 use Rattle.refusals.specs.declared.Refusal.TheVariants.{OutOfRange, ClassMissing, SharesAboveCost, TooManyStates, TableTooShort, IdleOperator}
@@ -16,8 +18,6 @@ use Rattle.tables.specs.Layout.{Tables}
 use Rattle.tables.specs.Task.{task_of}
 use Rattle.tables.specs.Classes.{none_missing}
 use Rattle.tables.specs.Lines.{line_of_op, line_of_maps, line_of_map, line_of_shares, line_of_edition, line_of_vars, line_of_dom, line_of_init, line_of_goal, line_of_quota, line_of_ops}
-use Rattle.scan.specs.declared.Found.{Found}
-use Rattle.scan.specs.declared.Found.TheVariants.{Clean, Fault}
 use Rattle.scan.specs.Scan.{unless, ◌then◌, each, within, facts_fault, operator_fault, classes_fault, map_fault, shares_fault, split_fault, task_fault, roomy, tables_fault}
 
 -- a refusal of a task: 3, 5, 6, 7 or 18
@@ -29,20 +29,20 @@ abbrev pub OfTables : Refusal → Type 0
 OfTables r = (number_of r ≡ 8) ⊎ OfTask r
 
 data Kind : Found → Type 0 where
-  clean : Kind Clean
-  fault : {r : Refusal} → OfTask r → Kind (Fault r)
+  nothing : Kind clean
+  fault : {r : Refusal} → OfTask r → Kind (Err r)
 
 rule : (b : Bool) (r : Refusal) → OfTask r → Kind (unless b r)
-rule true r k = clean
+rule true r k = nothing
 rule false r k = fault k
 
 both : (f g : Found) → Kind f → Kind g → Kind (f then g)
-both Clean g p q = q
-both (Fault r) g p q = p
+both (Ok tt) g p q = q
+both (Err r) g p q = p
 
 walk : (f : ℕ → Found) → ((i : ℕ) → Kind (f i)) → (n i : ℕ) → Kind (each f n i)
 unfolding each
-walk f h zero i = clean
+walk f h zero i = nothing
 walk f h (suc n) i = both (f i) (each f n (suc i)) (h i) (walk f h n (suc i))
 
 range : (b : Bool) (l : ℕ) → Kind (unless b (OutOfRange l))
@@ -104,17 +104,17 @@ module _ (T : Task) where
 
 -- ---- THE NUMBERS OF A TASK AND OF TABLES
 
-fault_of : (f : Found) (r : Refusal) → Kind f → f ≡ Fault r → OfTask r
-fault_of Clean r k e = absurd (let z : ◌≡◌ {A = ℕ} 0 1 = cc in omega arith)
-fault_of (Fault q) r (fault k) e = let z : q ≡ r = cc in subst OfTask z k
+fault_of : (f : Found) (r : Refusal) → Kind f → f ≡ Err r → OfTask r
+fault_of (Ok tt) r k e = absurd (let z : ◌≡◌ {A = ℕ} 0 1 = cc in omega arith)
+fault_of (Err q) r (fault k) e = let z : q ≡ r = cc in subst OfTask z k
 
-pub task_refused : (T : Task) (r : Refusal) → task_fault T ≡ Fault r → OfTask r
+pub task_refused : (T : Task) (r : Refusal) → task_fault T ≡ Err r → OfTask r
 task_refused T r e = fault_of (task_fault T) r (of_task T) e
 
-pub tables_refused : (t : Tables) (r : Refusal) → tables_fault t ≡ Fault r → OfTables r
+pub tables_refused : (t : Tables) (r : Refusal) → tables_fault t ≡ Err r → OfTables r
 unfolding tables_fault
 tables_refused t r e = at (roomy t) e
   where
-    at : (b : Bool) → unless b TableTooShort then task_fault (task_of t) ≡ Fault r → OfTables r
+    at : (b : Bool) → unless b TableTooShort then task_fault (task_of t) ≡ Err r → OfTables r
     at true e = inr (task_refused (task_of t) r e)
     at false e = let z : TableTooShort ≡ r = cc in subst OfTables z (inl refl)

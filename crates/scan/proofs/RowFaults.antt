@@ -1,5 +1,5 @@
 -- The fault of a class row, as the scan tells it, from what the mask of the row says. Assumes nothing.
-use Prim.Native.Nat.{ℕ, zero, suc, ◌+◌, ◌-◌, ◌*◌, ◌^◌, ◌≤◌, ◌<◌, zero-le}
+use Prim.Native.Nat.{ℕ, zero, suc, ◌+◌, ◌*◌, ◌^◌, ◌≤◌, ◌<◌, zero-le}
 use native.Mathlib.Nat.{pow-suc, mul-le-mul, pow-le-pow_right, le_trans}
 use native.Mathlib.Numerals.{add-one}
 use mathlib.Core.Path.{◌≡◌, refl, sym, ap, ap₂, ◌∙◌}
@@ -7,13 +7,13 @@ use mathlib.Core.Bool.{Bool, true, false}
 use mathlib.Core.List.{List}
 use native.Mathlib.Omega.{arith}
 use lib.Dec.{ltb, lit<}
+use Rattle.std.specs.Prelude.{Result, Ok, Err}
+use Rattle.scan.specs.Found.{Found, clean}
 use Rattle.refusals.specs.declared.Refusal.TheVariants.{OutOfRange, ClassMissing}
 use Rattle.meaning.specs.Split.{count_of}
-use Rattle.tables.specs.declared.classes.Classes.{Classes}
 use Rattle.tables.proofs.ClassRows.{all_below_lem}
-use Rattle.tables.specs.declared.classes.Classes.TheVariants.{Count, Missing, Outside}
-use Rattle.scan.specs.declared.Found.{Found}
-use Rattle.scan.specs.declared.Found.TheVariants.{Clean, Fault}
+use Rattle.tables.specs.declared.classes.ClassFault.{ClassFault}
+use Rattle.tables.specs.declared.classes.ClassFault.TheVariants.{Missing, Outside}
 use Rattle.tables.specs.Layout.{row_at}
 use Rattle.scan.specs.Scan.{unless, ◌then◌, each}
 use Rattle.tables.specs.Classes.{none_missing}
@@ -24,10 +24,10 @@ use Rattle.tables.proofs.Laws.{never}
 -- ---- the fault of a class row
 
 -- what the classes of a row are found to be, on a line
-abbrev pub fault_in : Classes → ℕ → Found
-fault_in (Count k) line = Clean
-fault_in Missing line = Fault (ClassMissing line)
-fault_in Outside line = Fault (OutOfRange line)
+abbrev pub fault_in : Result ℕ ClassFault → ℕ → Found
+fault_in (Ok k) line = clean
+fault_in (Err Missing) line = Err (ClassMissing line)
+fault_in (Err Outside) line = Err (OutOfRange line)
 
 -- a variable's rule, as the scan has it
 abbrev pub row_fault : (ℕ → ℕ) → ℕ → ℕ → Found
@@ -39,7 +39,7 @@ judged_fault true true k line = refl
 judged_fault true false k line = refl
 judged_fault false b k line = refl
 
-judged_count : (a b : Bool) (j k : ℕ) → classes_if a b j ≡ Count k → (a ≡ true) × (k ≡ j)
+judged_count : (a b : Bool) (j k : ℕ) → classes_if a b j ≡ Ok k → (a ≡ true) × (k ≡ j)
 judged_count true true j k p = (refl, cc)
 judged_count true false j k p = never (cc)
 judged_count false b j k p = never (cc)
@@ -55,21 +55,21 @@ module _ (class : ℕ → ℕ) (n : ℕ) where
       rw (one_rule (λ x. ltb (class x) n) (OutOfRange line) n)
       (judged_fault (all_below class n) (none_missing class n) (count_of class n) line)
 
-  row_count : (k : ℕ) → classes_of class n ≡ Count k → (k ≡ count_of class n) × (k ≤ n)
+  row_count : (k : ℕ) → classes_of class n ≡ Ok k → (k ≡ count_of class n) × (k ≤ n)
   unfolding classes_of
   row_count k p =
       let q = judged_count (all_below class n) (none_missing class n) (count_of class n) k p in
       (q.1, omega (arith, count_le class n n (all_below_lem class n q.0)))
 
 -- what is found in the row of variable v, whose number of values and row were read
-module _ (facts : List ℕ) {row row' n n' : ℕ} {r : Classes} (found : r ≡ classes_of (row_at facts row) n) (at : row ≡ row') (values : n ≡ n') where
+module _ (facts : List ℕ) {row row' n n' : ℕ} {r : Result ℕ ClassFault} (found : r ≡ classes_of (row_at facts row) n) (at : row ≡ row') (values : n ≡ n') where
   row_of : r ≡ classes_of (row_at facts row') n'
   row_of = found ∙ ap₂ (λ (row n : ℕ). classes_of (row_at facts row) n) at values
 
-  pub found_fault : (line : ℕ) {k : Classes} → r ≡ k → row_fault (row_at facts row') n' line ≡ fault_in k line
-  found_fault line p = row_fault_lem (row_at facts row') n' line ∙ ap (λ (k : Classes). fault_in k line) (sym row_of ∙ p)
+  pub found_fault : (line : ℕ) {k : Result ℕ ClassFault} → r ≡ k → row_fault (row_at facts row') n' line ≡ fault_in k line
+  found_fault line p = row_fault_lem (row_at facts row') n' line ∙ ap (λ (k : Result ℕ ClassFault). fault_in k line) (sym row_of ∙ p)
 
-  pub found_count : (k : ℕ) → r ≡ Count k → (k ≡ count_of (row_at facts row') n') × (k ≤ n')
+  pub found_count : (k : ℕ) → r ≡ Ok k → (k ≡ count_of (row_at facts row') n') × (k ≤ n')
   found_count k p = row_count (row_at facts row') n' k (sym row_of ∙ p)
 
 -- the product of up to 8 counts of at most 8 fits a word

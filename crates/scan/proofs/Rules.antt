@@ -2,11 +2,12 @@
 -- Assumes nothing.
 use Prim.Native.Nat.{ℕ, zero, suc, ◌≤◌, ◌<◌}
 use mathlib.Core.Path.{◌≡◌, ap, sym, ◌∙◌}
-use mathlib.Core.Bool.{true, false, false≢true, or-true}
+use mathlib.Core.Bool.{true, false≢true, or-true}
 use mathlib.Core.Logic.{◌↔◌}
 use native.Mathlib.Omega.{arith}
 use lib.Dec.{leb, ltb}
 use borrow.Author.Tests.{leb-true, le-leb, ltb-true, ltb-false, lt-ltb, eqb-true, eq-eqb}
+use Rattle.scan.specs.Found.{clean}
 use Rattle.refusals.specs.declared.Refusal.TheVariants.{OutOfRange, ClassMissing, SharesAboveCost, TooManyStates, IdleOperator}
 use Rattle.meaning.specs.Sas.{Facts, IsState, Idle}
 use Rattle.meaning.specs.Limits.{most_vars, most_values, most_ops, most_cost, most_maps, most_states, most_edition, most_quota, most_mark}
@@ -14,7 +15,6 @@ use Rattle.meaning.specs.Views.{abstract_states}
 use Rattle.meaning.specs.Split.{Task, count_of, sum, view}
 use Rattle.meaning.proofs.Facts.{and_left, and_right, every_true, true_every, by_cases}
 use Rattle.meaning.proofs.Idle.{not_idle_is}
-use Rattle.scan.specs.declared.Found.TheVariants.{Clean}
 use Rattle.scan.specs.Scan.{◌then◌, within, facts_fault, operator_fault, classes_fault, map_fault, shares_fault, split_fault, task_fault}
 use Rattle.scan.specs.Inside.Parts.{head_fault, lines_fault, charges_fault, body_fault}
 use Rattle.scan.proofs.Walks.{then_then, rule_is, then_is, walk_is}
@@ -99,11 +99,11 @@ module _ (T : Task) where
 
   -- ---- a part is clean exactly if what it asks for holds
 
-  facts_is : (F : Facts) (line : ℕ) → (facts_fault T F line ≡ Clean) ↔ FactsOk F
+  facts_is : (F : Facts) (line : ℕ) → (facts_fault T F line ≡ clean) ↔ FactsOk F
   unfolding facts_fault
   facts_is F line = walk_is _ T.sas.vars (λ v. rule_is (OutOfRange line) (le_is (F v) (T.sas.dom v)))
 
-  operator_is : (o : ℕ) → (operator_fault T o ≡ Clean) ↔ OperatorOk o
+  operator_is : (o : ℕ) → (operator_fault T o ≡ clean) ↔ OperatorOk o
   unfolding operator_fault
   operator_is o =
       let line = line_of_op T.edition o in
@@ -111,19 +111,19 @@ module _ (T : Task) where
       (then_is (facts_is (T.sas.pre o) line) (then_is (facts_is (T.sas.eff o) line)
       (then_is (rule_is (OutOfRange line) (le_is (T.mark o) most_mark)) (rule_is (IdleOperator line) (not_idle_is T.sas o)))))
 
-  classes_is : (m line v : ℕ) → (classes_fault T m line v ≡ Clean) ↔ ClassesOk m v
+  classes_is : (m line v : ℕ) → (classes_fault T m line v ≡ clean) ↔ ClassesOk m v
   unfolding classes_fault
   classes_is m line v =
       then_is (walk_is _ (T.sas.dom v) (λ x. rule_is (OutOfRange line) (lt_is (T.class m v x) (T.sas.dom v))))
       (rule_is (ClassMissing line) (none_missing_is (T.class m v) (T.sas.dom v)))
 
-  map_is : (m : ℕ) → (map_fault T m ≡ Clean) ↔ MapOk m
+  map_is : (m : ℕ) → (map_fault T m ≡ clean) ↔ MapOk m
   unfolding map_fault
   map_is m =
       let line = line_of_map T.edition T.sas.ops m in
       then_is (walk_is _ T.sas.vars (classes_is m line)) (rule_is (TooManyStates line) (le_is (abstract_states T.sas (view T m)) most_states))
 
-  head_is : (head_fault T ≡ Clean) ↔ HeadOk
+  head_is : (head_fault T ≡ clean) ↔ HeadOk
   unfolding head_fault
   head_is =
       then_is (rule_is (OutOfRange line_of_edition) (within_is 1 most_edition T.edition))
@@ -133,13 +133,13 @@ module _ (T : Task) where
       (then_is (facts_is T.sas.goal line_of_goal)
       (then_is (rule_is (OutOfRange line_of_quota) (le_is T.quota most_quota)) (rule_is (OutOfRange (line_of_ops T.edition)) (le_is T.sas.ops most_ops)))))))
 
-  lines_is : (lines_fault T ≡ Clean) ↔ LinesOk
+  lines_is : (lines_fault T ≡ clean) ↔ LinesOk
   unfolding lines_fault
   lines_is =
       then_is (walk_is _ T.sas.ops operator_is)
       (then_is (rule_is (OutOfRange (line_of_maps T.edition T.sas.ops)) (within_is 1 most_maps T.maps)) (walk_is _ T.maps map_is))
 
-  charges_is : (charges_fault T ≡ Clean) ↔ ChargesOk
+  charges_is : (charges_fault T ≡ clean) ↔ ChargesOk
   unfolding shares_fault split_fault
   charges_is =
       then_is (walk_is _ T.maps (λ m. walk_is _ T.sas.ops (λ o. rule_is (OutOfRange (line_of_shares T.edition T.sas.ops T.maps m)) (le_is (T.share m o) most_cost))))
@@ -151,12 +151,12 @@ module _ (T : Task) where
   unfolding task_fault head_fault lines_fault
   in_parts = simp then_then
 
-  pub task_is : (task_fault T ≡ Clean) ↔ (HeadOk × (LinesOk × ChargesOk))
+  pub task_is : (task_fault T ≡ clean) ↔ (HeadOk × (LinesOk × ChargesOk))
   task_is = let w = then_is head_is (then_is lines_is charges_is) in (λ p. w.0 (sym in_parts ∙ p), λ h. in_parts ∙ w.1 h)
 
   -- ---- what the code's bounds rest on
 
-  module _ (head : head_fault T ≡ Clean) where
+  module _ (head : head_fault T ≡ clean) where
     pub few_vars : T.sas.vars ≤ most_vars
     few_vars = (head_is.0 head).1.0.1
 
@@ -166,5 +166,5 @@ module _ (T : Task) where
     pub few_ops : T.sas.ops ≤ most_ops
     few_ops = (head_is.0 head).1.1.1.1.1.1
 
-  pub few_maps : lines_fault T ≡ Clean → T.maps ≤ most_maps
+  pub few_maps : lines_fault T ≡ clean → T.maps ≤ most_maps
   few_maps p = (lines_is.0 p).1.0.1

@@ -8,6 +8,8 @@ use native.Mathlib.Omega.{arith}
 use lib.Dec.{leb, ltb, eqb}
 use lib.ListN.{length}
 use borrow.Author.Tests.{leb-true}
+use Rattle.std.specs.Prelude.{Ok, Err}
+use Rattle.scan.specs.Found.{Found, clean}
 use Rattle.refusals.specs.declared.Refusal.{Refusal}
 use Rattle.refusals.specs.declared.Refusal.TheVariants.{OutOfRange, ClassMissing, SharesAboveCost, TooManyStates, TableTooShort, ValueOutside, IdleOperator}
 use Rattle.meaning.specs.Limits.{most_vars, most_values, most_ops, most_cost, most_maps, most_states, most_edition, most_quota, most_mark}
@@ -23,8 +25,6 @@ use Rattle.tables.specs.Editions.{has_quota, read_in}
 use Rattle.tables.specs.Task.{tables, task_of, state_of}
 use Rattle.tables.specs.Classes.{some_has, none_missing}
 use Rattle.tables.specs.Lines.{line_of_edition, line_of_vars, line_of_dom, line_of_init, line_of_goal, line_of_quota, line_of_ops, line_of_op, line_of_maps, line_of_map, line_of_shares}
-use Rattle.scan.specs.declared.Found.{Found}
-use Rattle.scan.specs.declared.Found.TheVariants.{Clean, Fault}
 use Rattle.scan.specs.Scan.{unless, ◌then◌, each, within, facts_fault, operator_fault, classes_fault, map_fault, shares_fault, split_fault, task_fault, roomy}
 use Rattle.scan.specs.Scan.{tables_fault, state_fault, input_fault}
 use Rattle.scan.specs.Own.{SameCounts, OwnSame, OwnState}
@@ -35,15 +35,15 @@ use Rattle.scan.proofs.Validity.{clean_valid}
 -- ---- rules one after another
 
 -- what a fault decides alone, and where there is none x or y does
-pub unless_same : {X Y : Type 0} (on : Found → X → Y) → ((r : Refusal) (x y : X) → on (Fault r) x ≡ on (Fault r) y)
-    → (a b : Found) (x y : X) → a ≡ b → (a ≡ Clean → x ≡ y) → on a x ≡ on b y
+pub unless_same : {X Y : Type 0} (on : Found → X → Y) → ((r : Refusal) (x y : X) → on (Err r) x ≡ on (Err r) y)
+    → (a b : Found) (x y : X) → a ≡ b → (a ≡ clean → x ≡ y) → on a x ≡ on b y
 unless_same on skips a b x y p q = at a q ∙ ap (λ (f : Found). on f y) p
   where
-    at : (f : Found) → (f ≡ Clean → x ≡ y) → on f x ≡ on f y
-    at Clean h = ap (on Clean) (h refl)
-    at (Fault r) h = skips r x y
+    at : (f : Found) → (f ≡ clean → x ≡ y) → on f x ≡ on f y
+    at (Ok tt) h = ap (on clean) (h refl)
+    at (Err r) h = skips r x y
 
-pub then_same : (a a' b b' : Found) → a ≡ a' → (a ≡ Clean → b ≡ b') → a then b ≡ a' then b'
+pub then_same : (a a' b b' : Found) → a ≡ a' → (a ≡ clean → b ≡ b') → a then b ≡ a' then b'
 then_same a a' b b' = unless_same ◌then◌ (λ r x y. refl) a a' b b'
 
 each_same : (f g : ℕ → Found) (n i : ℕ) → ((j : ℕ) → j < i + n → f j ≡ g j) → each f n i ≡ each g n i
@@ -208,7 +208,7 @@ module _ (c : Counts) (f f' k k' s s' : List ℕ) (A : Agree c f f' k k' s s') w
 -- t and u are read alike: the same first fault, and where there is none, the same task
 pub record ReadAlike (t u : Tables) : Type 0 where
   pub fault : tables_fault t ≡ tables_fault u
-  pub task : tables_fault t ≡ Clean → SameTask (task_of t) (task_of u)
+  pub task : tables_fault t ≡ clean → SameTask (task_of t) (task_of u)
 
 pub read_back : (t u : Tables) → ReadAlike t u → ReadAlike u t
 read_back t u E = record { fault = sym E.fault; task = λ e. task_back (E.task (E.fault ∙ e)) }
@@ -217,7 +217,7 @@ read_back t u E = record { fault = sym E.fault; task = λ e. task_back (E.task (
 
 module _ (c : Counts) (f f' k k' s s' : List ℕ) (room : roomy (tables c f k s) ≡ roomy (tables c f' k' s'))
     (A : roomy (tables c f k s) ≡ true → c.vars ≤ most_vars → Agree c f f' k k' s s') where
-  few : unless (within 1 most_vars c.vars) (OutOfRange line_of_vars) ≡ Clean → c.vars ≤ most_vars
+  few : unless (within 1 most_vars c.vars) (OutOfRange line_of_vars) ≡ clean → c.vars ≤ most_vars
   few g = (within_says 1 most_vars c.vars (rule_held (within 1 most_vars c.vars) (OutOfRange line_of_vars) g)).1
 
   task_same : roomy (tables c f k s) ≡ true → task_fault (task_of (tables c f k s)) ≡ task_fault (task_of (tables c f' k' s'))
@@ -232,7 +232,7 @@ module _ (c : Counts) (f f' k k' s s' : List ℕ) (room : roomy (tables c f k s)
       then_same _ _ _ _ (ap (λ (b : Bool). unless b TableTooShort) room) (λ e. task_same (rule_held (roomy (tables c f k s)) TableTooShort e))
 
   -- clean tables have room, and few variables
-  clean_agree : tables_fault (tables c f k s) ≡ Clean → Agree c f f' k k' s s'
+  clean_agree : tables_fault (tables c f k s) ≡ clean → Agree c f f' k k' s s'
   unfolding tables_fault task_fault
   clean_agree e =
       A (rule_held (roomy (tables c f k s)) TableTooShort (clean_first _ _ e))
@@ -308,7 +308,7 @@ module _ (t u : Tables) (O : OwnSame t u) where
 -- ---- the state beside them
 
 module _ {t u : Tables} (E : ReadAlike t u) (x z : List ℕ) (O : OwnState t.counts x z) where
-  pub state_same : tables_fault t ≡ Clean → state_fault t.counts t.facts x ≡ state_fault u.counts u.facts z
+  pub state_same : tables_fault t ≡ clean → state_fault t.counts t.facts x ≡ state_fault u.counts u.facts z
   unfolding state_fault
   state_same e =
       let S = (E.task e).sas in

@@ -7,7 +7,7 @@ use mathlib.Core.List.{List, []}
 use lib.ListN.{get_or}
 use Rattle.meaning.specs.Limits.{most_vars}
 use Rattle.meaning.specs.Split.{Valid}
-use Rattle.tables.specs.Layout.{Tables, dom_place, init_place, goal_place, pre_place, eff_place, class_place, mark_place, share_place, quota_of, mark_of}
+use Rattle.tables.specs.Layout.{Tables, dom_place, init_place, goal_place, pre_place, eff_place, class_place, mark_place, share_place, mark_of}
 use Rattle.tables.specs.Task.{task_of}
 use Rattle.tables.proofs.Meant.{first_stores_nothing, first_has_no_quota}
 use Rattle.scan.specs.Scan.{roomy}

@@ -8,20 +8,19 @@ use mathlib.Core.Logic.{◌↔◌}
 use lib.Dec.{leb}
 use lib.ListN.{length}
 use borrow.Author.Tests.{leb-true}
+use Rattle.scan.specs.Found.{Found, clean}
 use Rattle.refusals.specs.declared.Refusal.TheVariants.{TableTooShort, ValueOutside}
 use Rattle.meaning.specs.Sas.{IsState}
 use Rattle.meaning.specs.Split.{Task, Valid}
 use Rattle.meaning.proofs.Facts.{and_left, and_right}
 use Rattle.tables.specs.declared.Counts.{Counts}
-use Rattle.scan.specs.declared.Found.{Found}
-use Rattle.scan.specs.declared.Found.TheVariants.{Clean}
 use Rattle.tables.specs.Layout.{Tables, dom_at, facts_room, costs_room, shares_room}
 use Rattle.tables.specs.Task.{task_of, sas_of, state_of}
 use Rattle.scan.specs.Scan.{task_fault, roomy, tables_fault, state_fault}
 use Rattle.scan.proofs.Walks.{rule_is, then_is, walk_is}
 use Rattle.scan.proofs.Rules.{le_is, lt_is, task_is}
 
-task_valid : (T : Task) → (task_fault T ≡ Clean) ↔ Valid T
+task_valid : (T : Task) → (task_fault T ≡ clean) ↔ Valid T
 task_valid T = (
   λ p.
       let q = (task_is T).0 p in
@@ -67,15 +66,15 @@ task_valid T = (
 
 module _ (t : Tables) where
   -- ACCEPTED EXACTLY IF THE TASK IS VALID, where there is room
-  pub accepted : (tables_fault t ≡ Clean) ↔ ((roomy t ≡ true) × Valid (task_of t))
+  pub accepted : (tables_fault t ≡ clean) ↔ ((roomy t ≡ true) × Valid (task_of t))
   unfolding tables_fault
   accepted = then_is (rule_is TableTooShort (λ p. p, λ p. p)) (task_valid (task_of t))
 
-  pub clean_valid : tables_fault t ≡ Clean → Valid (task_of t)
+  pub clean_valid : tables_fault t ≡ clean → Valid (task_of t)
   clean_valid p = (accepted.0 p).1
 
   -- their lengths, for who reads a place as it stands
-  pub clean_room : tables_fault t ≡ Clean → (facts_room ≤ length t.facts) × (costs_room ≤ length t.costs) × (shares_room ≤ length t.shares)
+  pub clean_room : tables_fault t ≡ clean → (facts_room ≤ length t.facts) × (costs_room ≤ length t.costs) × (shares_room ≤ length t.shares)
   unfolding roomy
   clean_room p =
       let f = leb facts_room (length t.facts) in
@@ -88,11 +87,11 @@ module _ (t : Tables) where
         leb-true shares_room (length t.shares) (and_right (f && c) s r),
       )
 
-  pub valid_clean : roomy t ≡ true → Valid (task_of t) → tables_fault t ≡ Clean
+  pub valid_clean : roomy t ≡ true → Valid (task_of t) → tables_fault t ≡ clean
   valid_clean r h = accepted.1 (r, h)
 
   -- a state is accepted exactly if it has a place a variable and is one of the task's
-  pub state_clean : (s : List ℕ) → (state_fault t.counts t.facts s ≡ Clean) ↔ ((t.counts.vars ≤ length s) × IsState (sas_of t) (state_of s))
+  pub state_clean : (s : List ℕ) → (state_fault t.counts t.facts s ≡ clean) ↔ ((t.counts.vars ≤ length s) × IsState (sas_of t) (state_of s))
   unfolding state_fault
   state_clean s =
       then_is (rule_is TableTooShort (le_is t.counts.vars (length s)))

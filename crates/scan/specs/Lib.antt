@@ -1,3 +1,4 @@
+pub mod Found
 pub mod Scan
 pub mod Own
 pub mod Inside

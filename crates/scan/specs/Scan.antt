@@ -1,6 +1,7 @@
 -- The first fault of handed-in tables, by the text's rules and in the text's order: the lines one after another, each from left to right.
 -- A line is the one that the same task's text would have.
-use Rattle.std.specs.Prelude.{Bool, true, false, ◌&&◌, not, List, ℕ, zero, suc, leb, ltb, length}
+use Rattle.scan.specs.Found.{Found, clean}
+use Rattle.std.specs.Prelude.{Bool, true, false, ◌&&◌, not, List, ℕ, zero, suc, leb, ltb, length, Ok, Err}
 use Rattle.refusals.specs.declared.Refusal.{Refusal}
 use Rattle.refusals.specs.declared.Refusal.TheVariants.{OutOfRange, ClassMissing, SharesAboveCost, TooManyStates, TableTooShort, ValueOutside, IdleOperator}
 use Rattle.meaning.specs.Sas.{Facts}
@@ -8,8 +9,6 @@ use Rattle.meaning.specs.Views.{abstract_states, idle}
 use Rattle.meaning.specs.Limits.{most_vars, most_values, most_ops, most_cost, most_maps, most_states, most_edition, most_quota, most_mark}
 use Rattle.meaning.specs.Split.{Task, sum, view}
 use Rattle.tables.specs.declared.Counts.{Counts}
-use Rattle.scan.specs.declared.Found.{Found}
-use Rattle.scan.specs.declared.Found.TheVariants.{Clean, Fault}
 use Rattle.tables.specs.Layout.{Tables, facts_room, costs_room, shares_room, dom_at}
 use Rattle.tables.specs.Task.{task_of, state_of}
 use Rattle.tables.specs.Classes.{none_missing}
@@ -18,17 +17,17 @@ use Rattle.tables.specs.Lines.{line_of_edition, line_of_vars, line_of_dom, line_
 infixr 20 ◌then◌
 -- a rule that holds, or the refusal that it is broken with
 abbrev pub unless : Bool → Refusal → Found
-unless true r = Clean
-unless false r = Fault r
+unless true r = clean
+unless false r = Err r
 
 -- the first fault decides
 abbrev pub ◌then◌ : Found → Found → Found
-Clean then g = g
-Fault r then g = Fault r
+Ok tt then g = g
+Err r then g = Err r
 
 -- the rules f i, f (i + 1), .., n of them
 unfoldable pub each : (ℕ → Found) → ℕ → ℕ → Found
-each f zero i = Clean
+each f zero i = clean
 each f (suc n) i = f i then each f n (suc i)
 
 -- from lo to hi

@@ -1,141 +1,180 @@
-// A line of the script taken apart: one letter, followed by up to 16 numbers, each after a single space.
-use crate::lines::Line;
+// A line of the script taken apart: one letter, followed by up to 16 numbers, each after a single space; and the commands that such lines are.
+use crate::arrays::Array;
+use arrayvec::ArrayVec;
+use std::str;
+use tables::Counts;
 
 // The most numbers of a line.
 const NUMBERS: usize = 16;
 
 // The most digits of a number.
-const DIGITS: u32 = 10;
+const DIGITS: usize = 10;
 
-// The highest number.
-const HIGHEST: u64 = 4_294_967_295;
+// The letter of a line and its numbers.
+#[derive(Drop)]
+pub struct Words {
+    letter: u8,
+    numbers: ArrayVec<u32, NUMBERS>,
+}
 
-// The letter, the numbers, how many have begun, the digits of the last one so far, and whether the line is of the form so far.
+// The number that digits spell. Without the look at each byte a sign in front would be taken too.
+fn number(digits: &[u8]) -> Option<u32> {
+    if DIGITS < digits.len() || !digits.iter().all(|b| b.is_ascii_digit()) {
+        return None;
+    }
+    str::from_utf8(digits).ok()?.parse().ok()
+}
+
+impl Words {
+    // The words of a line that is of the form.
+    pub fn of(line: &[u8]) -> Option<Words> {
+        let mut words = line.split(|b| *b == b' ');
+        let [letter] = words.next()? else {
+            return None;
+        };
+        let mut numbers = ArrayVec::new();
+        for word in words {
+            numbers.try_push(number(word)?).ok()?;
+        }
+        Some(Words {
+            letter: *letter,
+            numbers,
+        })
+    }
+}
+
+// What a line tells the program to do, each with its letter. The number of an array may be that of none.
 #[derive(Clone, Copy)]
-pub struct Command {
-    pub letter: u8,
-    pub values: [u32; NUMBERS],
-    pub count: usize,
-    pub digits: u32,
-    pub fine: bool,
+pub enum Command<'a> {
+    // `z`
+    Reset,
+    // `t`
+    Text(u32),
+    // `b`
+    CopyText,
+    // `u`
+    TakeCopy(u32),
+    // `n`
+    Counts(Counts),
+    // `l`, how many places
+    Lend(Option<Array>, usize),
+    // `s`, from a place on
+    Set(Option<Array>, usize, &'a [u32]),
+    // `e`, with a value
+    Fill(Option<Array>, u32),
+    // `p`, at a place
+    Show(Option<Array>, usize),
+    // `q`
+    ShowCounts,
+    // `R`
+    Read,
+    // `S`
+    BeginText,
+    // `I`
+    TakePiece(u32),
+    // `F`
+    EndText,
+    // `V`, in pieces of these lengths
+    ReadCut(&'a [u32]),
+    // `T`
+    Write,
+    // `K`
+    Check,
+    // `D`
+    Distances(u32),
+    // `A`
+    DistanceAt(u32),
+    // `N`
+    BestAt(u32),
+    // `B`
+    Bound,
+    // `M`
+    BoundNow,
+    // `J`
+    Judge,
+    // `W`
+    JudgeRow,
+    // `C`
+    Cheaper,
+    // `P`
+    Opening,
+    // `G`
+    Begin,
+    // `O`, the step's number and the operator
+    Offer(u32, u32),
 }
 
-// A number with one digit more. A byte that is no digit gives a number that is too high.
-fn longer(x: u32, b: u8) -> u64 {
-    if b < b'0' {
-        return HIGHEST + 1;
-    }
-    if b'9' < b {
-        return HIGHEST + 1;
-    }
-    let d = b - b'0';
-    (x as u64) * 10 + d as u64
+// The counts that are told: with an edition and a quota, or else of edition 1.
+fn counts_of(numbers: &[u32]) -> Option<Counts> {
+    let (vars, ops, maps, edition, quota) = match numbers {
+        [vars, ops, maps] => (*vars, *ops, *maps, 1, 0),
+        [vars, ops, maps, edition, quota] => (*vars, *ops, *maps, *edition, *quota),
+        _ => return None,
+    };
+    Some(Counts {
+        vars,
+        ops,
+        maps,
+        edition,
+        quota,
+    })
 }
 
-impl Command {
-    fn start(letter: u8) -> Command {
-        Command {
-            letter,
-            values: [0u32; NUMBERS],
-            count: 0,
-            digits: 0,
-            fine: true,
-        }
-    }
-
-    // The number at a place, and 0 where there is none.
-    pub fn value(self, i: usize) -> u32 {
-        if i < NUMBERS { self.values[i] } else { 0 }
-    }
-
-    // Off the form.
-    fn off(mut self) -> Command {
-        self.fine = false;
-        self
-    }
-
-    // What stands so far is a letter, or ends in a whole number.
-    fn rests(self) -> bool {
-        if self.count == 0 {
-            true
-        } else {
-            0 < self.digits
-        }
-    }
-
-    // A space: a number begins.
-    fn space(mut self) -> Command {
-        let n = self.count;
-        if !self.rests() {
-            return self.off();
-        }
-        if NUMBERS <= n {
-            return self.off();
-        }
-        self.count = n + 1;
-        self.digits = 0;
-        self
-    }
-
-    // A digit of the number that has begun last.
-    fn digit(mut self, b: u8) -> Command {
-        let n = self.count;
-        if n == 0 {
-            return self.off();
-        }
-        let at = n - 1;
-        let digits = self.digits;
-        if DIGITS <= digits {
-            return self.off();
-        }
-        let x = longer(self.value(at), b);
-        if HIGHEST < x {
-            return self.off();
-        }
-        if at < NUMBERS {
-            self.values[at] = x as u32;
-        }
-        self.digits = digits + 1;
-        self
-    }
-
-    // A byte after the letter.
-    fn byte(self, b: u8) -> Command {
-        if b == b' ' {
-            self.space()
-        } else {
-            self.digit(b)
-        }
-    }
+fn array_of(k: u32) -> Option<Array> {
+    Array::try_from(k).ok()
 }
 
-// The command on a line that isn't empty.
-pub fn parsed(line: Line) -> Command {
-    let mut command = Command::start(line.at(0));
-    let n = line.len;
-    let mut i = 1;
-    while i < n {
-        command = command.byte(line.at(i));
-        i += 1;
+impl<'a> Command<'a> {
+    // The command of words whose letter is one of the script's and has as many numbers as it takes.
+    pub fn of(words: &'a Words) -> Option<Command<'a>> {
+        let letter = words.letter;
+        let numbers = words.numbers.as_slice();
+        Command::that_sets(letter, numbers).or(Command::that_calls(letter, numbers))
     }
-    if command.rests() {
-        command
-    } else {
-        command.off()
-    }
-}
 
-// The letter is one of the script's, and has as many numbers as it takes.
-pub fn known(letter: u8, count: usize) -> bool {
-    match letter {
-        b'z' | b'q' | b'b' => count == 0,
-        b'R' | b'T' | b'K' | b'B' | b'M' | b'J' | b'W' | b'C' | b'P' | b'G' | b'S' | b'F' => count
-            == 0,
-        b't' | b'u' | b'D' | b'A' | b'N' | b'I' => count == 1,
-        b'l' | b'e' | b'p' | b'O' => count == 2,
-        b'n' => count == 3 || count == 5,
-        b's' => 2 < count,
-        b'V' => 0 < count,
-        _ => false,
+    // A command that sets or shows what the program holds.
+    fn that_sets(letter: u8, numbers: &'a [u32]) -> Option<Command<'a>> {
+        let command = match (letter, numbers) {
+            (b'z', []) => Command::Reset,
+            (b't', [n]) => Command::Text(*n),
+            (b'b', []) => Command::CopyText,
+            (b'u', [n]) => Command::TakeCopy(*n),
+            (b'n', counts) => Command::Counts(counts_of(counts)?),
+            (b'l', [k, n]) => Command::Lend(array_of(*k), *n as usize),
+            (b's', [k, from, values @ ..]) if !values.is_empty() => {
+                Command::Set(array_of(*k), *from as usize, values)
+            }
+            (b'e', [k, x]) => Command::Fill(array_of(*k), *x),
+            (b'p', [k, i]) => Command::Show(array_of(*k), *i as usize),
+            (b'q', []) => Command::ShowCounts,
+            _ => return None,
+        };
+        Some(command)
+    }
+
+    // A command that calls an entry.
+    fn that_calls(letter: u8, numbers: &'a [u32]) -> Option<Command<'a>> {
+        let command = match (letter, numbers) {
+            (b'R', []) => Command::Read,
+            (b'S', []) => Command::BeginText,
+            (b'I', [n]) => Command::TakePiece(*n),
+            (b'F', []) => Command::EndText,
+            (b'V', lengths) if !lengths.is_empty() => Command::ReadCut(lengths),
+            (b'T', []) => Command::Write,
+            (b'K', []) => Command::Check,
+            (b'D', [map]) => Command::Distances(*map),
+            (b'A', [map]) => Command::DistanceAt(*map),
+            (b'N', [map]) => Command::BestAt(*map),
+            (b'B', []) => Command::Bound,
+            (b'M', []) => Command::BoundNow,
+            (b'J', []) => Command::Judge,
+            (b'W', []) => Command::JudgeRow,
+            (b'C', []) => Command::Cheaper,
+            (b'P', []) => Command::Opening,
+            (b'G', []) => Command::Begin,
+            (b'O', [number, op]) => Command::Offer(*number, *op),
+            _ => return None,
+        };
+        Some(command)
     }
 }

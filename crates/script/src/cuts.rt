@@ -1,12 +1,4 @@
-// Where a text is cut into pieces: by the lengths that a line tells, into single bytes with an empty piece before each, or by chance.
-use crate::commands::Command;
-use crate::parts::least;
-
-// The most numbers of a line, and so of told lengths.
-const NUMBERS: usize = 16;
-
-// More bytes than a text has: a piece of so many is all that is left.
-const ALL: usize = 1_000_000;
+// A text cut into pieces: by the lengths that a line tells, into single bytes with an empty piece before each, or by chance.
 
 // So many of a text's first bytes tell, with its length, where it is cut by chance.
 const FIRST_BYTES: usize = 64;
@@ -16,122 +8,98 @@ const PRIME: u64 = 2_147_483_647;
 
 const FACTOR: u64 = 48_271;
 
-// The cut at one of its pieces: the lengths that were told and how many they are, none if a rule tells them; the number of the piece; and its
-// chance, which is 0 where the text is cut into single bytes.
+// How long the pieces are, from the next one on.
 #[derive(Clone, Copy)]
-pub struct Cut {
-    pub lengths: [u32; NUMBERS],
-    pub count: usize,
-    pub turn: usize,
-    pub chance: u32,
+pub enum Cut<'a> {
+    // The told lengths that haven't been, and the last of all told, which comes again after them; or all that is left if that is 0.
+    Told { next: &'a [u32], last: u32 },
+    // 0 and 1 by turns.
+    Singly { empty: bool },
+    // By chance 0 to 35, of which each third is 0.
+    ByChance { number: u64 },
 }
 
-// The chance of the next piece. It is never 0, but after 0.
-fn next_chance(chance: u32) -> u32 {
-    ((chance as u64) * FACTOR % PRIME) as u32
+impl<'a> Cut<'a> {
+    // The last told length is told, or there is one piece.
+    pub fn told(lengths: &'a [u32]) -> Cut<'a> {
+        Cut::Told {
+            next: lengths,
+            last: lengths.last().copied().unwrap_or(0),
+        }
+    }
+
+    pub fn singly() -> Cut<'a> {
+        Cut::Singly { empty: true }
+    }
+
+    // The first chance is of the text's length and its first bytes. It is never 0, and so none is.
+    pub fn by_chance(text: &[u8]) -> Cut<'a> {
+        let x = text
+            .iter()
+            .take(FIRST_BYTES)
+            .fold(text.len() as u64 % PRIME, |x, b| {
+                (31 * (x % PRIME) + u64::from(*b)) % PRIME
+            });
+        Cut::ByChance {
+            number: x % (PRIME - 1) + 1,
+        }
+    }
+
+    // Also at the end of a text there is a piece: a length that was told.
+    fn has_told(&self) -> bool {
+        match self {
+            Cut::Told { next, .. } => !next.is_empty(),
+            _ => false,
+        }
+    }
+
+    // The length of the next piece.
+    fn next_length(&mut self) -> usize {
+        match self {
+            Cut::Told { next, last } => match next.split_first() {
+                Some((n, rest)) => {
+                    *next = rest;
+                    *n as usize
+                }
+                None if *last == 0 => usize::MAX,
+                None => *last as usize,
+            },
+            Cut::Singly { empty } => {
+                *empty = !*empty;
+                usize::from(*empty)
+            }
+            Cut::ByChance { number } => {
+                let x = *number;
+                *number = x % PRIME * FACTOR % PRIME;
+                if x % 3 == 0 { 0 } else { (x / 3 % 36) as usize }
+            }
+        }
+    }
 }
 
-// A number with one byte more.
-fn with_byte(x: u64, b: u8) -> u64 {
-    (31 * (x % PRIME) + b as u64) % PRIME
+// The pieces of a text. Told lengths go on behind its end, with empty pieces.
+#[derive(Drop)]
+pub struct Pieces<'a> {
+    rest: &'a [u8],
+    cut: Cut<'a>,
 }
 
-// The chance of the first piece: of the text's length and its first bytes.
-fn first_chance(text: &[u8]) -> u32 {
-    let n = least(text.len(), FIRST_BYTES);
-    let mut x = text.len() as u64 % PRIME;
-    let mut i = 0;
-    while i < n {
-        x = with_byte(x, text[i]);
-        i += 1;
+impl<'a> Pieces<'a> {
+    pub fn of(text: &'a [u8], cut: Cut<'a>) -> Pieces<'a> {
+        Pieces { rest: text, cut }
     }
-    (x % (PRIME - 1) + 1) as u32
 }
 
-impl Cut {
-    // Pieces as a line tells their lengths.
-    pub fn told(command: Command) -> Cut {
-        let lengths = command.values;
-        Cut {
-            lengths,
-            count: command.count,
-            turn: 0,
-            chance: 0,
-        }
-    }
+impl<'a> Iterator for Pieces<'a> {
+    type Item = &'a [u8];
 
-    // Single bytes, and an empty piece before each.
-    pub fn singly() -> Cut {
-        Cut {
-            lengths: [0u32; NUMBERS],
-            count: 0,
-            turn: 0,
-            chance: 0,
+    fn next(&mut self) -> Option<&'a [u8]> {
+        if self.rest.is_empty() && !self.cut.has_told() {
+            return None;
         }
-    }
-
-    // Pieces by chance.
-    pub fn by_chance(text: &[u8]) -> Cut {
-        Cut {
-            lengths: [0u32; NUMBERS],
-            count: 0,
-            turn: 0,
-            chance: first_chance(text),
-        }
-    }
-
-    // A told length, and 0 where there is none.
-    fn told_at(self, i: usize) -> usize {
-        if i < NUMBERS {
-            self.lengths[i] as usize
-        } else {
-            0
-        }
-    }
-
-    // After the told lengths the last one again, or all that is left if that is 0.
-    fn after_told(self, last: usize) -> usize {
-        let n = self.told_at(last);
-        if n == 0 { ALL } else { n }
-    }
-
-    // The length by a rule: 0 and 1 by turns, or by chance 0 to 35, of which each third is 0.
-    fn by_rule(self) -> usize {
-        let x = self.chance as usize;
-        if x == 0 {
-            return self.turn % 2;
-        }
-        if x % 3 == 0 {
-            return 0;
-        }
-        x / 3 % 36
-    }
-
-    // The length of this piece.
-    pub fn length(self) -> usize {
-        let n = self.count;
-        let i = self.turn;
-        if i < n {
-            return self.told_at(i);
-        }
-        if 0 < n {
-            return self.after_told(n - 1);
-        }
-        self.by_rule()
-    }
-
-    // There is no piece here: the told ones have been, and nothing is left of the text.
-    pub fn is_over(self, at: usize, len: usize) -> bool {
-        if self.turn < self.count {
-            return false;
-        }
-        len <= at
-    }
-
-    // The cut at the next piece.
-    pub fn next(mut self) -> Cut {
-        self.turn = std::num::wrapping_add_usize(self.turn, 1);
-        self.chance = next_chance(self.chance);
-        self
+        let n = self.cut.next_length().min(self.rest.len());
+        let (piece, rest) = self.rest.split_at(n);
+        self.rest = rest;
+        Some(piece)
     }
 }

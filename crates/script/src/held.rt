@@ -1,316 +1,223 @@
-// What the program holds: its arrays, one after another in one lent row of words. A call is lent copies of them; afterwards each copy is
-// compared with the row, so that what the call changed is printed and kept (changes.rt).
+// What the program holds, as it is before the first line and as the commands that set it leave it.
+use crate::arrays::{Array, Lent};
+use arrayvec::ArrayVec;
+use ledger::{COLUMNS, Run};
+use meaning::limits::STEPS_MOST;
+use pieces::{SoFar, begin_text};
+use records::OpRecord;
+use std::slice;
+use tables::{Counts, LentTables};
 
-// The arrays of the script.
-pub const FACTS: u32 = 0;
+// The most bytes of a text that are kept: as many as the buffer has places.
+pub const TEXT_BYTES: usize = 16500;
 
-pub const COSTS: u32 = 1;
+// The places of a list of operators: more than the longest sequence has steps.
+const LIST_PLACES: usize = 1100;
 
-pub const SHARES: u32 = 2;
+// The places of a record: its cost, its preconditions and its effects. Its mark stands in an array of its own.
+const RECORD: usize = 17;
 
-pub const OUT: u32 = 3;
+// What stands in their places before the first line.
+const NO_COUNTS: Counts = Counts {
+    vars: 0,
+    ops: 0,
+    maps: 0,
+    edition: 1,
+    quota: 0,
+};
 
-pub const STATE: u32 = 4;
+const NO_RUN: Run = Run {
+    start: [0; 8],
+    log: [0; STEPS_MOST],
+    len: 0,
+    now: [0; 8],
+    columns: [0; COLUMNS],
+};
 
-pub const FIRST: u32 = 5;
+const NO_RECORD: OpRecord = OpRecord {
+    cost: 0,
+    pre: [0; 8],
+    eff: [0; 8],
+    mark: 0,
+};
 
-pub const SECOND: u32 = 6;
+// The lent tables of a task but for the counts.
+#[derive(Clone, Copy, PartialEq)]
+pub struct Tables {
+    pub facts: Lent<u8, 1700>,
+    pub costs: Lent<u32, 80>,
+    pub shares: Lent<u32, 600>,
+}
 
-pub const START: u32 = 7;
-
-pub const LOG: u32 = 8;
-
-pub const LEN: u32 = 9;
-
-pub const NOW: u32 = 10;
-
-pub const COLUMN: u32 = 11;
-
-pub const RECORDS: u32 = 13;
-
-pub const BUFFER: u32 = 14;
-
-pub const BEST: u32 = 15;
-
-pub const MARK: u32 = 18;
-
-// The area that a text in pieces is read in. It can be lent with a length, and nothing else: its bytes are nobody's answer.
-pub const AREA: u32 = 17;
-
-// The program's own: the lengths of the lent arrays, the counts, the length of the text, the text so far that came in pieces, and how many
-// bytes of the text were taken so. The script has no arrays 12 and 16, and none above 18.
-pub const LENT: u32 = 12;
-
-pub const TEXT: u32 = 16;
-
-pub const SO_FAR: u32 = 19;
-
-pub const TAKEN: u32 = 20;
-
-pub const COUNTS: u32 = 21;
-
-// How many places the lent arrays have: each more than the largest task or the longest list takes, so that lengths beyond can be tried.
-pub const FACTS_PLACES: usize = 1700;
-
-pub const COSTS_PLACES: usize = 80;
-
-pub const SHARES_PLACES: usize = 600;
-
-pub const OUT_PLACES: usize = 4200;
-
-pub const BEST_PLACES: usize = 4200;
-
-pub const STATE_PLACES: usize = 16;
-
-pub const LIST_PLACES: usize = 1100;
-
-// The row of records, and the places of a record: its cost, its preconditions and its effects. Its mark stands in an array of its own.
-pub const ROW_RECORDS: usize = 80;
-
-pub const RECORD: usize = 17;
-
-const RECORDS_PLACES: usize = ROW_RECORDS * RECORD;
-
-// The buffer that a text is written into: more than a text may have, and as many bytes as are kept of the text that is read.
-pub const BUFFER_PLACES: usize = 16500;
-
-// The area, more than a text in pieces takes, and the words of a text so far.
-pub const AREA_PLACES: usize = 8200;
-
-const SO_FAR_WORDS: usize = 20;
-
-// The places of a run's arrays: a state, the log and the columns.
-pub const RUN_STATE: usize = 8;
-
-pub const LOG_PLACES: usize = 1024;
-
-pub const COLUMNS: usize = 10;
-
-// The lengths of the lent arrays, each at its array's number, and the counts.
-const LENT_PLACES: usize = 18;
-
-const COUNTS_PLACES: usize = 5;
-
-// Where the arrays begin in the row, one after another.
-const COSTS_AT: usize = FACTS_PLACES;
-
-const SHARES_AT: usize = COSTS_AT + COSTS_PLACES;
-
-const OUT_AT: usize = SHARES_AT + SHARES_PLACES;
-
-const STATE_AT: usize = OUT_AT + OUT_PLACES;
-
-const FIRST_AT: usize = STATE_AT + STATE_PLACES;
-
-const SECOND_AT: usize = FIRST_AT + LIST_PLACES;
-
-const START_AT: usize = SECOND_AT + LIST_PLACES;
-
-const LOG_AT: usize = START_AT + RUN_STATE;
-
-const LEN_AT: usize = LOG_AT + LOG_PLACES;
-
-const NOW_AT: usize = LEN_AT + 1;
-
-const COLUMN_AT: usize = NOW_AT + RUN_STATE;
-
-const RECORDS_AT: usize = COLUMN_AT + COLUMNS;
-
-const BUFFER_AT: usize = RECORDS_AT + RECORDS_PLACES;
-
-const BEST_AT: usize = BUFFER_AT + BUFFER_PLACES;
-
-const LENT_AT: usize = BEST_AT + BEST_PLACES;
-
-const COUNTS_AT: usize = LENT_AT + LENT_PLACES;
-
-const TEXT_AT: usize = COUNTS_AT + COUNTS_PLACES;
-
-const MARK_AT: usize = TEXT_AT + 1;
-
-const AREA_AT: usize = MARK_AT + ROW_RECORDS;
-
-const SO_FAR_AT: usize = AREA_AT + AREA_PLACES;
-
-const TAKEN_AT: usize = SO_FAR_AT + SO_FAR_WORDS;
-
-// The places of all arrays.
-pub const PLACES: usize = TAKEN_AT + 1;
-
-// The array is one whose places the script sets and shows: all but the area and the program's own.
-pub fn of_script(k: u32) -> bool {
-    match k {
-        LENT => false,
-        MARK => true,
-        _ => k <= BEST,
+impl Tables {
+    // What a call is lent, with these counts.
+    pub fn lent(&self, counts: Counts) -> LentTables<'_> {
+        LentTables {
+            counts,
+            facts: self.facts.lent(),
+            costs: self.costs.lent(),
+            shares: self.shares.lent(),
+        }
     }
 }
 
-// How many places an array has. An array that isn't there has none.
-pub fn places(k: u32) -> usize {
-    match k {
-        FACTS => FACTS_PLACES,
-        COSTS => COSTS_PLACES,
-        SHARES => SHARES_PLACES,
-        OUT => OUT_PLACES,
-        STATE => STATE_PLACES,
-        FIRST | SECOND => LIST_PLACES,
-        START | NOW => RUN_STATE,
-        LOG => LOG_PLACES,
-        LEN | TEXT | TAKEN => 1,
-        COLUMN => COLUMNS,
-        RECORDS => RECORDS_PLACES,
-        BUFFER => BUFFER_PLACES,
-        BEST => BEST_PLACES,
-        LENT => LENT_PLACES,
-        COUNTS => COUNTS_PLACES,
-        MARK => ROW_RECORDS,
-        AREA => AREA_PLACES,
-        SO_FAR => SO_FAR_WORDS,
-        _ => 0,
+// The counts, the arrays, the text, and the text so far of one that comes in pieces, with how many bytes of the text were taken so. Each lent array has more
+// places than the largest task or the longest list takes, so that lengths beyond can be tried.
+#[derive(Drop)]
+pub struct Held {
+    pub counts: Counts,
+    pub tables: Tables,
+    pub out: Lent<u32, 4200>,
+    pub best: Lent<u8, 4200>,
+    pub state: Lent<u8, 16>,
+    pub first: Lent<u32, LIST_PLACES>,
+    pub second: Lent<u32, LIST_PLACES>,
+    pub run: Run,
+    pub row: Lent<OpRecord, 80>,
+    pub buffer: Lent<u8, TEXT_BYTES>,
+    pub text: ArrayVec<u8, TEXT_BYTES>,
+    pub taken: usize,
+    pub so_far: SoFar,
+    pub area: Lent<u8, 8200>,
+}
+
+// A place of an array.
+pub enum Place<'a> {
+    Byte(&'a mut u8),
+    Word(&'a mut u32),
+}
+
+impl Place<'_> {
+    pub fn value(self) -> u32 {
+        match self {
+            Place::Byte(at) => u32::from(*at),
+            Place::Word(at) => *at,
+        }
+    }
+
+    // Puts a value there. One that a byte can't hold is passed over.
+    pub fn set(self, x: u32) {
+        match self {
+            Place::Byte(at) => {
+                if let Ok(b) = u8::try_from(x) {
+                    *at = b;
+                }
+            }
+            Place::Word(at) => *at = x,
+        }
     }
 }
 
-// Where an array begins in the row.
-fn base(k: u32) -> usize {
-    match k {
-        FACTS => 0,
-        COSTS => COSTS_AT,
-        SHARES => SHARES_AT,
-        OUT => OUT_AT,
-        STATE => STATE_AT,
-        FIRST => FIRST_AT,
-        SECOND => SECOND_AT,
-        START => START_AT,
-        LOG => LOG_AT,
-        LEN => LEN_AT,
-        NOW => NOW_AT,
-        COLUMN => COLUMN_AT,
-        RECORDS => RECORDS_AT,
-        BUFFER => BUFFER_AT,
-        BEST => BEST_AT,
-        LENT => LENT_AT,
-        COUNTS => COUNTS_AT,
-        TEXT => TEXT_AT,
-        MARK => MARK_AT,
-        AREA => AREA_AT,
-        SO_FAR => SO_FAR_AT,
-        TAKEN => TAKEN_AT,
-        _ => 0,
+// A place of a record.
+fn record_place(record: &mut OpRecord, i: usize) -> Option<Place<'_>> {
+    match i {
+        0 => Some(Place::Word(&mut record.cost)),
+        1..=8 => record.pre.get_mut(i - 1).map(Place::Byte),
+        _ => record.eff.get_mut(i - 9).map(Place::Byte),
     }
 }
 
-// A place of an array holds a byte. Of a record all but the first does.
-pub fn of_bytes(k: u32, i: usize) -> bool {
-    match k {
-        FACTS | STATE | START | NOW | BUFFER | BEST | MARK => true,
-        RECORDS => i % RECORD != 0,
-        _ => false,
+impl Held {
+    // All as it is before the first line. The area may hold anything, so it isn't 0: no reading leaves 255 in every place.
+    pub fn new() -> Held {
+        Held {
+            counts: NO_COUNTS,
+            tables: Tables {
+                facts: Lent::of(0, 1624),
+                costs: Lent::of(0, 64),
+                shares: Lent::of(0, 512),
+            },
+            out: Lent::of(0, 4096),
+            best: Lent::of(0, 4096),
+            state: Lent::of(0, 8),
+            first: Lent::of(0, 0),
+            second: Lent::of(0, 0),
+            run: NO_RUN,
+            row: Lent::of(NO_RECORD, 0),
+            buffer: Lent::of(0, 16384),
+            text: ArrayVec::new(),
+            taken: 0,
+            so_far: begin_text(),
+            area: Lent::of(255, 8192),
+        }
     }
-}
 
-// How many places of an array a call can be lent at most; of the row, how many records. What isn't lent by a length has none.
-pub fn most_lent(k: u32) -> usize {
-    match k {
-        RECORDS => ROW_RECORDS,
-        FACTS | COSTS | SHARES | OUT | STATE | FIRST | SECOND | BUFFER | BEST | AREA => places(k),
-        _ => 0,
+    // A place of an array, if it is there.
+    pub fn place(&mut self, array: Array, i: usize) -> Option<Place<'_>> {
+        match array {
+            Array::Facts => self.tables.facts.places.get_mut(i).map(Place::Byte),
+            Array::Costs => self.tables.costs.places.get_mut(i).map(Place::Word),
+            Array::Shares => self.tables.shares.places.get_mut(i).map(Place::Word),
+            Array::Out => self.out.places.get_mut(i).map(Place::Word),
+            Array::State => self.state.places.get_mut(i).map(Place::Byte),
+            Array::First => self.first.places.get_mut(i).map(Place::Word),
+            Array::Second => self.second.places.get_mut(i).map(Place::Word),
+            Array::Start => self.run.start.get_mut(i).map(Place::Byte),
+            Array::Log => self.run.log.get_mut(i).map(Place::Word),
+            Array::Len => slice::from_mut(&mut self.run.len)
+                .get_mut(i)
+                .map(Place::Word),
+            Array::Now => self.run.now.get_mut(i).map(Place::Byte),
+            Array::Column => self.run.columns.get_mut(i).map(Place::Word),
+            Array::Records => record_place(self.row.places.get_mut(i / RECORD)?, i % RECORD),
+            Array::Buffer => self.buffer.places.get_mut(i).map(Place::Byte),
+            Array::Best => self.best.places.get_mut(i).map(Place::Byte),
+            Array::Area => None,
+            Array::Mark => Some(Place::Byte(&mut self.row.places.get_mut(i)?.mark)),
+        }
     }
-}
 
-// The value of a place, and 0 where there is none.
-pub fn value(held: &[u32], k: u32, i: usize) -> u32 {
-    let from = base(k);
-    if places(k) <= i {
-        return 0;
+    // Values at places side by side. Places that aren't there are passed over.
+    pub fn set(&mut self, array: Array, from: usize, values: &[u32]) {
+        for (i, x) in (from..usize::MAX).zip(values) {
+            if let Some(place) = self.place(array, i) {
+                place.set(*x);
+            }
+        }
     }
-    if held.len() <= from {
-        return 0;
+
+    // A value at every place that can hold it. They are gone over by their numbers, since those of a record lie in its fields.
+    pub fn fill(&mut self, array: Array, x: u32) {
+        for i in 0..usize::MAX {
+            let Some(place) = self.place(array, i) else {
+                return;
+            };
+            place.set(x);
+        }
     }
-    if i < held.len() - from {
-        held[from + i]
-    } else {
-        0
+
+    // How many places of an array calls are lent; of the row, how many records.
+    pub fn lend(&mut self, array: Array, n: usize) {
+        match array {
+            Array::Facts => self.tables.facts.lend(n),
+            Array::Costs => self.tables.costs.lend(n),
+            Array::Shares => self.tables.shares.lend(n),
+            Array::Out => self.out.lend(n),
+            Array::State => self.state.lend(n),
+            Array::First => self.first.lend(n),
+            Array::Second => self.second.lend(n),
+            Array::Records => self.row.lend(n),
+            Array::Buffer => self.buffer.lend(n),
+            Array::Best => self.best.lend(n),
+            Array::Area => self.area.lend(n),
+            Array::Start | Array::Log | Array::Len | Array::Now | Array::Column | Array::Mark => {}
+        }
     }
-}
 
-// Puts a value at a place. A place that isn't there is passed over.
-pub fn put(held: &mut [u32], k: u32, i: usize, x: u32) {
-    let from = base(k);
-    if places(k) <= i {
-        return;
+    // `b`: the text goes into the buffer, from its first place on; the places behind it stay.
+    pub fn copy_text(&mut self) {
+        let text = self.text.as_slice();
+        if let Some(front) = self.buffer.places.get_mut(..text.len()) {
+            front.copy_from_slice(text);
+        }
     }
-    if held.len() <= from {
-        return;
-    }
-    if i < held.len() - from {
-        held[from + i] = x;
-    }
-}
 
-// How many places of an array a call is lent; of the row, how many records.
-pub fn lent(held: &[u32], k: u32) -> usize {
-    value(held, LENT, k as usize) as usize
-}
-
-// The lowest byte of a word.
-fn low(x: u32) -> u8 {
-    (x % 256) as u8
-}
-
-// A byte as a word.
-pub fn wide(b: u8) -> u32 {
-    b as u32
-}
-
-// A copy of an array of bytes.
-pub fn load_bytes(held: &[u32], k: u32, to: &mut [u8]) {
-    let mut i = 0;
-    while i < to.len() {
-        to[i] = low(value(held, k, i));
-        i += 1;
-    }
-}
-
-// A copy of an array of words.
-pub fn load_words(held: &[u32], k: u32, to: &mut [u32]) {
-    let mut i = 0;
-    while i < to.len() {
-        to[i] = value(held, k, i);
-        i += 1;
-    }
-}
-
-// Eight bytes of an array from a place on: one a variable.
-pub fn eight_bytes(held: &[u32], k: u32, from: usize) -> [u8; 8] {
-    let mut row = [0u8; 8];
-    let mut v = 0usize;
-    while v < 8 {
-        row[v] = low(value(held, k, std::num::wrapping_add_usize(from, v)));
-        v += 1;
-    }
-    row
-}
-
-// A byte of an array.
-pub fn one_byte(held: &[u32], k: u32, i: usize) -> u8 {
-    low(value(held, k, i))
-}
-
-// Puts bytes into an array, from its first place on; the places behind them stay. Nothing is printed.
-pub fn put_bytes(held: &mut [u32], k: u32, from: &[u8]) {
-    let mut i = 0;
-    while i < from.len() {
-        put(held, k, i, wide(from[i]));
-        i += 1;
-    }
-}
-
-// The same of words.
-pub fn put_words(held: &mut [u32], k: u32, from: &[u32]) {
-    let mut i = 0;
-    while i < from.len() {
-        put(held, k, i, from[i]);
-        i += 1;
+    // `u`: the first bytes of the buffer are the text, or all of them. Pieces are taken from its beginning on.
+    pub fn take_copy(&mut self, n: usize) {
+        self.text.clear();
+        for b in self.buffer.places.iter().take(n) {
+            let _ = self.text.try_push(*b);
+        }
+        self.taken = 0;
     }
 }

@@ -1,119 +1,85 @@
-// Standard input by bytes, by lines and by raw texts, through a lent buffer that is filled again when it is used up.
-use crate::lines::Line;
-use crate::parts::put_byte;
+// The input by lines and by raw texts. Nothing says that an input ends, nor how long a line is: of each as much is kept as there is room for.
+ghost use Rattle.std.specs.Prelude.{◌≤◌};
+
+use arrayvec::ArrayVec;
 use std::io;
 use std::io::Read;
 
-// Nothing says that an input ends, so whoever reads to the end takes at most so many turns.
-pub const TURNS: u64 = 4_000_000_000;
+// The most bytes of a script's line, its line end not counted.
+pub const MOST: usize = 200;
 
-// Where the reading stands: the place of the next byte in the buffer, and how many bytes the buffer holds.
-#[derive(Clone, Copy)]
-pub struct Input {
-    pub at: usize,
-    pub len: usize,
+// Room for one byte more.
+const ROOM: usize = MOST + 1;
+
+// A line of the script without its line end. One that is too long is known by its length, and its further bytes aren't kept.
+pub type Line = ArrayVec<u8, ROOM>;
+
+// A reader through a buffer that it holds, where std's `BufReader` has one on the heap: the bytes from `at` to `end` were read and aren't taken yet.
+#[derive(Drop)]
+pub struct Buffered<R> {
+    from: R,
+    buffer: [u8; 4096],
+    at: usize,
+    end: usize,
+    ghost taken: { at ≤ end },
+    ghost filled: { end ≤ 4096 },
 }
 
-// The next byte of the input, and where the reading stands after it; or the input's end.
-#[derive(Clone, Copy)]
-pub enum Next {
-    Byte(u8, Input),
-    End,
-}
-
-// A line of the script, and where the reading stands after it. The last line is not whole if it has no line end.
-#[derive(Clone, Copy)]
-pub struct Got {
-    pub whole: bool,
-    pub line: Line,
-    pub input: Input,
-}
-
-// How many bytes of a text are kept, and where the reading stands after it.
-#[derive(Clone, Copy)]
-pub struct Took {
-    pub len: usize,
-    pub input: Input,
-}
-
-// The byte at a place of the buffer.
-fn byte_at(buf: &[u8], at: usize, len: usize) -> Next {
-    if at < buf.len() {
-        Next::Byte(buf[at], Input { at: at + 1, len })
-    } else {
-        Next::End
-    }
-}
-
-// The next byte, for which the buffer is filled again if it is used up.
-pub fn next_byte(from: &mut impl Read, buf: &mut [u8], input: Input) -> io::Result<Next> {
-    let at = input.at;
-    let len = input.len;
-    if at < len {
-        return Ok(byte_at(buf, at, len));
-    }
-    let n = from.read(buf)?;
-    if n == 0 {
-        return Ok(Next::End);
-    }
-    Ok(byte_at(buf, 0, n))
-}
-
-// The next line. A line that is too long is passed over to its end, and is known by its length.
-pub fn next_line(from: &mut impl Read, buf: &mut [u8], start: Input) -> io::Result<Got> {
-    let mut input = start;
-    let mut line = Line::empty();
-    let mut turns = TURNS;
-    while 0 < turns {
-        turns -= 1;
-        let Next::Byte(b, after) = next_byte(from, buf, input)? else {
-            break;
-        };
-        input = after;
-        if b == b'\n' {
-            return Ok(Got {
-                whole: true,
-                line,
-                input,
-            });
+impl<R: Read> Buffered<R> {
+    pub fn new(from: R) -> Buffered<R> {
+        Buffered {
+            from,
+            buffer: [0; 4096],
+            at: 0,
+            end: 0,
         }
-        line = line.byte(b);
     }
-    Ok(Got {
-        whole: false,
-        line,
-        input,
-    })
 }
 
-// The next n bytes into the lent text, as many of them as it has places for; then one byte is passed over.
-pub fn next_text(
+impl<R: Read> Read for Buffered<R> {
+    fn read(&mut self, to: &mut [u8]) -> io::Result<usize> {
+        if self.at == self.end {
+            let end = self.from.read(&mut self.buffer)?;
+            self.at = 0;
+            self.end = end;
+        }
+        let ready = &self.buffer[self.at..self.end];
+        let n = ready.len().min(to.len());
+        to[..n].copy_from_slice(&ready[..n]);
+        self.at += n;
+        Ok(n)
+    }
+}
+
+// The next line. A last line without its line end is none.
+pub fn next_line(from: &mut impl Read) -> io::Result<Option<Line>> {
+    let mut line = Line::new();
+    for b in from.bytes() {
+        match b? {
+            b'\n' => return Ok(Some(line)),
+            b => {
+                let _ = line.try_push(b);
+            }
+        }
+    }
+    Ok(None)
+}
+
+// The next n bytes, as many of them as there is room for; then one byte is passed over.
+pub fn next_text<const N: usize>(
     from: &mut impl Read,
-    buf: &mut [u8],
-    start: Input,
-    text: &mut [u8],
-    n: usize,
-) -> io::Result<Took> {
-    let mut input = start;
-    let mut i = 0;
-    while i < n {
-        let Next::Byte(b, after) = next_byte(from, buf, input)? else {
-            return Ok(Took { len: i, input });
-        };
-        input = after;
-        put_byte(text, i, b);
-        i += 1;
+    text: &mut ArrayVec<u8, N>,
+    n: u32,
+) -> io::Result<()> {
+    text.clear();
+    let mut left = n;
+    for b in from.bytes() {
+        let b = b?;
+        if left == 0 {
+            break;
+        }
+        left -= 1;
+        let _ = text.try_push(b);
     }
-    Ok(Took {
-        len: i,
-        input: passed(from, buf, input)?,
-    })
-}
-
-// Where the reading stands after one byte is passed over.
-fn passed(from: &mut impl Read, buf: &mut [u8], input: Input) -> io::Result<Input> {
-    match next_byte(from, buf, input)? {
-        Next::Byte(_, after) => Ok(after),
-        Next::End => Ok(input),
-    }
+    Ok(())
 }

@@ -2,11 +2,9 @@
 // It knows nothing of the desk's answers. The form of a script is in docs/VECTORS.md.
 #![tactic(auto)]
 
+pub mod arrays;
 pub mod changes;
 pub mod commands;
 pub mod cuts;
 pub mod held;
 pub mod input;
-pub mod lines;
-pub mod parts;
-pub mod setting;

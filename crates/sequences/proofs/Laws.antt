@@ -3,22 +3,24 @@ use Prim.Native.Nat.{ℕ, ◌+◌, ◌≤◌, ◌<◌}
 use mathlib.Core.Path.{◌≡◌, refl, ap, sym, ◌∙◌, subst}
 use mathlib.Core.List.{List, [], ◌∷◌}
 use mathlib.Core.Bool.{Bool, true, false, cond, false≢true}
-use mathlib.Core.Logic.{◌↔◌, ⊎_elim, inl, inr}
-use denote.Enum.Declared.{tag_of}
-use types.Run.{OneOf}
-use borrow.Author.Tests.{eqb-false, lt-ltb, le-ltb}
+use mathlib.Core.Logic.{◌↔◌}
+use lib.Dec.{ltb}
+use borrow.Author.Tests.{lt-ltb, le-ltb}
 use Rattle.meaning.specs.Sas.{State, MayRun}
 use Rattle.meaning.specs.Split.{Task}
 use Rattle.meaning.specs.Views.{complies}
 use Rattle.meaning.specs.Quota.{may_store}
+use Rattle.tables.specs.Layout.{Tables, cost_at}
+use Rattle.tables.specs.Task.{task_of, state_of}
+use Rattle.tables.specs.Steps.{may_run, can_store}
+use Rattle.tables.proofs.Meant.{may_run_is, can_store_is}
 use Rattle.meaning.proofs.Facts.{complies_true, true_complies, by_cases, by_order}
 use Rattle.meaning.proofs.Quota.{may_store_lem, may_not_store, stores_within, stores_beyond}
-use Rattle.sequences.specs.declared.stepping.Stepped.{Stepped}
-use Rattle.sequences.specs.declared.stepping.Stepped.TheVariants.{Ran, NoSuch, MayNot, Beyond}
-use Rattle.sequences.specs.declared.choosing.Reached.TheVariants.{After}
+use Rattle.std.specs.Prelude.{Some, Result, Ok, Err}
+use Rattle.sequences.specs.declared.stepping.Hitch.{Hitch}
+use Rattle.sequences.specs.declared.stepping.Hitch.TheVariants.{NoSuch, MayNot, Beyond}
 use Rattle.sequences.specs.Stepping.{step_of, taken_apart}
-use Rattle.sequences.specs.Choosing.{reached_from}
-use Rattle.sequences.specs.contracts.stepping.Stepped as A
+use Rattle.sequences.specs.Choosing.{part, reached_from}
 
 -- ---- a step: which answer is told, in the order 10, 12, 19
 
@@ -27,23 +29,23 @@ module _ (T : Task) (n : ℕ) (s : State) (o : ℕ) where
   runs? = complies T.sas (T.sas.pre o) s
 
   -- 10 where there is no such operator, whatever its facts and marks say
-  pub no_such_first : T.sas.ops ≤ o → step_of T n s o ≡ NoSuch
+  pub no_such_first : T.sas.ops ≤ o → step_of T n s o ≡ Err NoSuch
   unfolding step_of
   no_such_first h = simp (le-ltb o T.sas.ops h)
 
   -- 12 where it may not run, whatever is stored
-  pub may_not_before_beyond : o < T.sas.ops → runs? ≡ false → step_of T n s o ≡ MayNot
+  pub may_not_before_beyond : o < T.sas.ops → runs? ≡ false → step_of T n s o ≡ Err MayNot
   unfolding step_of
   may_not_before_beyond l r =
       by_cases (may_store T n o) (λ q. simp (lt-ltb o T.sas.ops l, r, q)) (λ q. simp (lt-ltb o T.sas.ops l, r, q))
 
   -- an operator that exists, may run and stores nothing beyond the quota, one that just reaches it too, is taken at its cost
-  pub takes : o < T.sas.ops → MayRun T.sas o s → n + T.mark o ≤ T.quota → step_of T n s o ≡ Ran (T.sas.cost o)
+  pub takes : o < T.sas.ops → MayRun T.sas o s → n + T.mark o ≤ T.quota → step_of T n s o ≡ Ok (T.sas.cost o)
   unfolding step_of may_store
   takes l r q = simp (lt-ltb o T.sas.ops l, true_complies T.sas (T.sas.pre o) s r, stores_within T n o q)
 
   -- and else it is 19
-  pub beyond_last : o < T.sas.ops → MayRun T.sas o s → T.quota < n + T.mark o → step_of T n s o ≡ Beyond
+  pub beyond_last : o < T.sas.ops → MayRun T.sas o s → T.quota < n + T.mark o → step_of T n s o ≡ Err Beyond
   unfolding step_of may_store
   beyond_last l r q = simp (lt-ltb o T.sas.ops l, true_complies T.sas (T.sas.pre o) s r, stores_beyond T n o q)
 
@@ -55,14 +57,14 @@ module _ (T : Task) (n : ℕ) (s : State) (o : ℕ) where
     pub cost : x ≡ T.sas.cost o
 
   -- what each answer says
-  abbrev pub Told : Stepped → Type 0
-  Told (Ran x) = Taken x
-  Told NoSuch = T.sas.ops ≤ o
-  Told MayNot = (o < T.sas.ops) × (MayRun T.sas o s → ⊥)
-  Told Beyond = (o < T.sas.ops) × MayRun T.sas o s × (T.quota < n + T.mark o)
+  abbrev pub Told : Result ℕ Hitch → Type 0
+  Told (Ok x) = Taken x
+  Told (Err NoSuch) = T.sas.ops ≤ o
+  Told (Err MayNot) = (o < T.sas.ops) × (MayRun T.sas o s → ⊥)
+  Told (Err Beyond) = (o < T.sas.ops) × MayRun T.sas o s × (T.quota < n + T.mark o)
 
   -- it is true of the step
-  pub step_told : (m : Stepped) → step_of T n s o ≡ m → Told m
+  pub step_told : (m : Result ℕ Hitch) → step_of T n s o ≡ m → Told m
   step_told m e =
       by_order o T.sas.ops
       (λ l.
@@ -78,60 +80,36 @@ module _ (T : Task) (n : ℕ) (s : State) (o : ℕ) where
       (λ h. subst Told (sym (no_such_first h) ∙ e) h)
 
   -- and no other answer is given where it is true
-  pub told_step : (m : Stepped) → Told m → step_of T n s o ≡ m
-  told_step (Ran x) h = takes h.exists h.runs h.within ∙ ap Ran (sym h.cost)
-  told_step NoSuch h = no_such_first h
-  told_step MayNot h = by_cases runs? (λ r. absurd (h.1 (complies_true T.sas (T.sas.pre o) s r))) (may_not_before_beyond h.0)
-  told_step Beyond h = beyond_last h.0 h.1 h.2
+  pub told_step : (m : Result ℕ Hitch) → Told m → step_of T n s o ≡ m
+  told_step (Ok x) h = takes h.exists h.runs h.within ∙ ap Ok (sym h.cost)
+  told_step (Err NoSuch) h = no_such_first h
+  told_step (Err MayNot) h = by_cases runs? (λ r. absurd (h.1 (complies_true T.sas (T.sas.pre o) s r))) (may_not_before_beyond h.0)
+  told_step (Err Beyond) h = beyond_last h.0 h.1 h.2
 
   -- 19 EXACTLY IF THE OPERATOR EXISTS, MAY RUN AND STORES BEYOND THE QUOTA
-  pub beyond_told : (step_of T n s o ≡ Beyond) ↔ ((o < T.sas.ops) × MayRun T.sas o s × (T.quota < n + T.mark o))
-  beyond_told = (step_told Beyond, told_step Beyond)
+  pub beyond_told : (step_of T n s o ≡ Err Beyond) ↔ ((o < T.sas.ops) × MayRun T.sas o s × (T.quota < n + T.mark o))
+  beyond_told = (step_told (Err Beyond), told_step (Err Beyond))
+
+-- what the step's three tests say of the lent tables
+pub step_tested : (t : Tables) (n : ℕ) (s : List ℕ) (o : ℕ) → step_of (task_of t) n (state_of s) o
+    ≡ cond (ltb o t.counts.ops)
+    (cond (may_run t.counts t.facts s o) (cond (can_store t.counts t.facts n o) (Ok (cost_at t.costs o)) (Err Beyond)) (Err MayNot)) (Err NoSuch)
+unfolding step_of may_store
+step_tested t n s o = rw (may_run_is t s o, can_store_is t n o)
 
 -- ---- a step's answer, taken apart
 
--- the step was refused: its answer is another than `Ran`
-abbrev pub NotRan : Stepped → Type 0
-NotRan m = OneOf (1 ∷ 2 ∷ 3 ∷ []) (tag_of A.the_type m)
-
-pub ran_not_refused : (x : ℕ) → NotRan (Ran x) → ⊥
-ran_not_refused x o = ⊎_elim (λ e. eqb-false 0 1 refl e) (⊎_elim (λ e. eqb-false 0 2 refl e) (λ e. eqb-false 0 3 refl e)) o
-
--- an answer that is no `Ran` is a refusal
-pub not_ran : (m : Stepped) → ((x : ℕ) → m ≡ Ran x → ⊥) → NotRan m
-not_ran (Ran c) h = absurd (h c refl)
-not_ran NoSuch h = inl refl
-not_ran MayNot h = inr (inl refl)
-not_ran Beyond h = inr (inr refl)
-
--- a refusal is the same whatever would come after it
-pub refused_same : {A : Type 0} (m : Stepped) (x y z : A) (f g : ℕ → A) → NotRan m → taken_apart m x y z f ≡ taken_apart m x y z g
-refused_same (Ran c) x y z f g o = absurd (ran_not_refused c o)
-refused_same NoSuch x y z f g o = refl
-refused_same MayNot x y z f g o = refl
-refused_same Beyond x y z f g o = refl
-
--- one answer for every case
-pub all_one : {A : Type 0} (m : Stepped) (x : A) → x ≡ taken_apart m x x x (λ c. x)
-all_one (Ran c) x = refl
-all_one NoSuch x = refl
-all_one MayNot x = refl
-all_one Beyond x = refl
-
 -- what comes after a step that was taken may be put otherwise
-pub apart_same : {A : Type 0} (m : Stepped) (x y z : A) (f g : ℕ → A) → ((c : ℕ) → m ≡ Ran c → f c ≡ g c) → taken_apart m x y z f ≡ taken_apart m x y z g
-apart_same (Ran c) x y z f g h = h c refl
-apart_same NoSuch x y z f g h = refl
-apart_same MayNot x y z f g h = refl
-apart_same Beyond x y z f g h = refl
+pub apart_same : {A : Type 0} (m : Result ℕ Hitch) (out : Hitch → A) (f g : ℕ → A) → ((c : ℕ) → m ≡ Ok c → f c ≡ g c)
+    → taken_apart m out f ≡ taken_apart m out g
+apart_same (Ok c) out f g h = h c refl
+apart_same (Err w) out f g h = refl
 
 -- what no refusal answers comes of a step that was taken; what a failed test doesn't answer, of a test that held
-pub apart_taken : {A : Type 0} (m : Stepped) {x y z a : A} (f : ℕ → A) → (x ≡ a → ⊥) → (y ≡ a → ⊥) → (z ≡ a → ⊥) → taken_apart m x y z f ≡ a
-    → (c : ℕ) × (m ≡ Ran c) × (f c ≡ a)
-apart_taken (Ran c) f p q r e = (c, refl, e)
-apart_taken NoSuch f p q r e = absurd (p e)
-apart_taken MayNot f p q r e = absurd (q e)
-apart_taken Beyond f p q r e = absurd (r e)
+pub apart_taken : {A : Type 0} (m : Result ℕ Hitch) {out : Hitch → A} {a : A} (f : ℕ → A) → ((h : Hitch) → out h ≡ a → ⊥) → taken_apart m out f ≡ a
+    → (c : ℕ) × (m ≡ Ok c) × (f c ≡ a)
+apart_taken (Ok c) f n e = (c, refl, e)
+apart_taken (Err h) f n e = absurd (n h e)
 
 pub cond_held : {A : Type 0} (b : Bool) (u : A) {v z : A} → (v ≡ z → ⊥) → cond b u v ≡ z → (b ≡ true) × (u ≡ z)
 cond_held true u p e = (refl, e)
@@ -140,7 +118,7 @@ cond_held false u p e = absurd (p e)
 -- ---- up to the first goal moment
 
 -- a goal ends the walk, before the next step is looked at
-pub reached_goal : (T : Task) (k n p : ℕ) (s : State) (os : List ℕ) → complies T.sas T.sas.goal s ≡ true → reached_from T k n p s os ≡ After k p
+pub reached_goal : (T : Task) (k n p : ℕ) (s : State) (os : List ℕ) → complies T.sas T.sas.goal s ≡ true → reached_from T k n p s os ≡ Some (part k p)
 unfolding reached_from
 reached_goal T k n p s [] g = rw g
 reached_goal T k n p s (o ∷ os) g = rw g

@@ -1,70 +1,47 @@
 // Judging a lent list of operators.
 ghost use Rattle.std.specs.Prelude.{◌≡◌, ◌≤◌, length};
-ghost use Rattle.tables.specs.Task.{state_of, was};
-ghost use Rattle.sequences.specs.Inside.Steps.{Usable, task};
+ghost use Rattle.tables.specs.Task.{state_of, was, held, lent, task_of};
+ghost use Rattle.sequences.specs.Inside.Steps.{Usable};
 ghost use Rattle.meaning.specs.Limits.{most_steps};
-ghost use Rattle.sequences.specs.Judging.{onto, walked, limited};
+ghost use Rattle.sequences.specs.Judging.{walked, limited};
 
-use crate::stepping::{Stepped, copy, step};
+use crate::stepping::{Way, copy, step};
 use meaning::OpNo;
 use meaning::limits::STEPS_MOST;
 use refusals::Refusal;
-use tables::Counts;
-use tables::readers::mark_of;
-use tables::steps::{meets_goal, state_after};
+use tables::LentTables;
+use tables::steps::meets_goal;
 
-// A sequence passed, at its cost; or why it didn't.
-#[derive(Clone, Copy)]
-pub enum Judged {
-    Passed(u32),
-    Refused(Refusal),
-}
-
-// A step's refusal with its step number. (Of a step that was taken: passed.)
-pub fn refusal(m: Stepped, k: u32) -> Judged
-    ensures { result ≡ onto m k Judged.Passed }
+// The steps in order from a state; the goal last: passed at that cost, or the first refusal.
+// Beside `reach`, and no second instance of one walk: a goal on the way doesn't end this one, and a step that can't be taken is told with its number.
+pub fn walk(t: LentTables, start: [u8; 8], ops: &[u32]) -> Result<u32, Refusal>
+    requires { Usable (task_of (held t)) × (length ops.now ≤ most_steps) }
+    ensures { result ≡ walked (task_of (lent t)) 0 0 0 (state_of start) (was ops) }
 {
-    match m {
-        Stepped::Ran(cost) => Judged::Passed(cost),
-        Stepped::NoSuch => Judged::Refused(Refusal::NoSuchOperator(k)),
-        Stepped::MayNot => Judged::Refused(Refusal::MayNotRun(k)),
-        Stepped::Beyond => Judged::Refused(Refusal::BeyondQuota(k)),
-    }
-}
-
-// The steps in order from a state; the goal last.
-pub fn walk(c: Counts, facts: &[u8], costs: &[u32], start: [u8; 8], ops: &[u32]) -> Judged
-    requires { Usable (task c facts.now costs.now) × (length ops.now ≤ most_steps) }
-    ensures { result ≡ walked (task c (was facts) (was costs)) 0 0 0 (state_of start) (was ops) }
-{
-    let mut s = start;
-    let mut stored = 0u32;
-    let mut paid = 0u32;
-    let mut i = 0;
-    while i < ops.len() {
-        let o = ops[i];
-        let m = step(c, facts, costs, stored, &s, OpNo(o));
-        let Stepped::Ran(cost) = m else {
-            return refusal(m, (i + 1) as u32);
+    let mut way = Way::new(start);
+    for (i, o) in ops.iter().enumerate() {
+        let stepped = step(t, way.stored, &way.state, OpNo(*o));
+        let Ok(cost) = stepped else {
+            let k = i as u32 + 1;
+            return stepped.map_err(|hitch| hitch.at_step(k));
         };
-        s = state_after(c, facts, s, OpNo(o));
-        stored += mark_of(c, facts, OpNo(o));
-        paid += cost;
-        i += 1;
+        way.go(t, OpNo(*o), cost);
     }
-    if meets_goal(c, facts, &s) {
-        return Judged::Passed(paid);
+    if meets_goal(t.counts, t.facts, &way.state) {
+        Ok(way.paid)
+    } else {
+        Err(Refusal::NoGoal(ops.len() as u32))
     }
-    Judged::Refused(Refusal::NoGoal(i as u32))
 }
 
 // The list from the lent state, once tables and state are accepted: its length first, then its steps.
-pub fn judge_list(c: Counts, facts: &[u8], costs: &[u32], s: &[u8], ops: &[u32]) -> Judged
-    requires { Usable (task c facts.now costs.now) }
-    ensures { result ≡ limited (task c (was facts) (was costs)) (state_of (was s)) (was ops) }
+#[tactic(auto, unfolding(crate::specs::Judging::limited, meaning::specs::Limits::most_steps))]
+pub fn judge_list(t: LentTables, s: &[u8], ops: &[u32]) -> Result<u32, Refusal>
+    requires { Usable (task_of (held t)) }
+    ensures { result ≡ limited (task_of (lent t)) (state_of (was s)) (was ops) }
 {
     if ops.len() > STEPS_MOST {
-        return Judged::Refused(Refusal::SequenceTooLong);
+        return Err(Refusal::SequenceTooLong);
     }
-    walk(c, facts, costs, copy(c.vars, s), ops)
+    walk(t, copy(t.counts.vars, s), ops)
 }

@@ -1,52 +1,100 @@
-// One step of a sequence: whether it can be taken, and the state that a sequence starts from.
-ghost use Rattle.std.specs.Prelude.{◌≡◌, ◌≤◌};
+// One step of a sequence: whether it can be taken, how far a walk has come after it, and the state that a sequence starts from.
+ghost use Rattle.std.specs.Prelude.{◌≡◌, ◌+◌, ◌≤◌, ◌<◌};
 ghost use Rattle.meaning.specs.Limits.{most_vars, most_ops};
-ghost use Rattle.tables.specs.Task.{state_of, was};
-ghost use Rattle.sequences.specs.Stepping.{step_of};
-ghost use Rattle.sequences.specs.Inside.Steps.{task};
-ghost use Rattle.tables.specs.Steps.{copied};
+ghost use Rattle.tables.specs.Layout.{mark_of};
+ghost use Rattle.tables.specs.Task.{state_of, was, lent, task_of};
+ghost use Rattle.tables.specs.Steps.{copied, stepped};
+ghost use Rattle.sequences.specs.Stepping.{refusal_of, step_of};
 
 use meaning::OpNo;
-use tables::Counts;
-use tables::readers::{byte_at, cost_at};
-use tables::steps::{can_store, may_run};
+use refusals::Refusal;
+use tables::LentTables;
+use tables::readers::{cost_at, mark_of};
+use tables::steps::{can_store, may_run, state_after};
 
-// What a step answers: it was taken, at its cost; there is no such operator; it may not run; it stores beyond the quota.
-#[derive(Clone, Copy)]
-pub enum Stepped {
-    Ran(u32),
+// Why a step can't be taken: there is no such operator; it may not run; it stores beyond the quota.
+#[derive(Clone, Copy, PartialEq, Eq)]
+pub enum Hitch {
     NoSuch,
     MayNot,
     Beyond,
 }
 
-// Whether the operator can be the next step in the state, after so many stored tests. This is the one test of a step.
-pub fn step(c: Counts, facts: &[u8], costs: &[u32], stored: u32, s: &[u8], o: OpNo) -> Stepped
-    requires { c.ops ≤ most_ops }
-    ensures { result ≡ step_of (task c (was facts) (was costs)) stored (state_of (was s)) o.0 }
-{
-    if c.ops <= o.0 {
-        return Stepped::NoSuch;
+impl Hitch {
+    // The refusal of step k.
+    pub fn at_step(self, k: u32) -> Refusal
+        ensures { result ≡ refusal_of self k }
+    {
+        match self {
+            Hitch::NoSuch => Refusal::NoSuchOperator(k),
+            Hitch::MayNot => Refusal::MayNotRun(k),
+            Hitch::Beyond => Refusal::BeyondQuota(k),
+        }
     }
-    if !may_run(c, facts, s, o) {
-        return Stepped::MayNot;
-    }
-    if !can_store(c, facts, stored, o) {
-        return Stepped::Beyond;
-    }
-    Stepped::Ran(cost_at(costs, o))
 }
 
-// The lent state by value: a place for each of 8 variables, those beyond the task's 0.
+// How far a walk over a list of operators has come: the state that it is in, how many tests it has stored, and what it has paid.
+#[derive(Clone, Copy)]
+pub struct Way {
+    pub state: [u8; 8],
+    pub stored: u32,
+    pub paid: u32,
+}
+
+impl Way {
+    // Before the first step.
+    pub fn new(state: [u8; 8]) -> Way
+        ensures state { result.state ≡ state }
+        ensures stored { result.stored ≡ 0 }
+        ensures paid { result.paid ≡ 0 }
+    {
+        Way {
+            state,
+            stored: 0,
+            paid: 0,
+        }
+    }
+
+    // Goes on by a step, which is taken at that cost.
+    pub fn go(&mut self, t: LentTables, o: OpNo, cost: u32)
+        requires vars { t.counts.vars ≤ most_vars }
+        requires op { o.0 < most_ops }
+        requires stored { self.old.stored + mark_of t.counts t.facts.now o.0 < 4294967296 }
+        requires paid { self.old.paid + cost < 4294967296 }
+        ensures state { self.new.state ≡ stepped (lent t).counts (lent t).facts self.old.state o.0 }
+        ensures stored { self.new.stored ≡ self.old.stored + mark_of (lent t).counts (lent t).facts o.0 }
+        ensures paid { self.new.paid ≡ self.old.paid + cost }
+    {
+        self.state = state_after(t.counts, t.facts, self.state, o);
+        self.stored += mark_of(t.counts, t.facts, o);
+        self.paid += cost;
+    }
+}
+
+// Whether the operator can be the next step in the state, after so many stored tests: then at what cost. This is the one test of a step.
+pub fn step(t: LentTables, stored: u32, s: &[u8], o: OpNo) -> Result<u32, Hitch>
+    requires { t.counts.ops ≤ most_ops }
+    ensures { result ≡ step_of (task_of (lent t)) stored (state_of (was s)) o.0 }
+{
+    if t.counts.ops <= o.0 {
+        return Err(Hitch::NoSuch);
+    }
+    if !may_run(t.counts, t.facts, s, o) {
+        return Err(Hitch::MayNot);
+    }
+    if !can_store(t.counts, t.facts, stored, o) {
+        return Err(Hitch::Beyond);
+    }
+    Ok(cost_at(t.costs, o))
+}
+
+// The lent state by value: a place for each of 8 variables, those beyond the task's, or beyond the list's end, 0.
 pub fn copy(vars: u32, s: &[u8]) -> [u8; 8]
     requires { vars ≤ most_vars }
     ensures { result ≡ copied (was s) vars }
 {
+    let n = s.len().min(vars as usize);
     let mut t = [0u8; 8];
-    let mut v = 0usize;
-    while v < vars as usize {
-        t[v] = byte_at(s, v);
-        v += 1;
-    }
+    t[..n].copy_from_slice(&s[..n]);
     t
 }

@@ -1,5 +1,5 @@
--- Laws of the task of a map's classes: numbers of classes, facts seen by classes, and images. Assumes nothing.
-use mathlib.Core.Path.{◌≡◌, refl, sym, ap, ap₂, ◌∙◌, subst}
+-- Laws of the task of a map's classes: numbers of classes, the table, and images. Assumes nothing.
+use mathlib.Core.Path.{◌≡◌, ap, ap₂, ◌∙◌, subst}
 use mathlib.Core.List.{List, []}
 use Prim.Native.Nat.{ℕ, zero, suc, ◌+◌, ◌*◌, ◌-◌, ◌%◌, ◌≤◌, ◌<◌, zero-le}
 use native.Mathlib.Nat.{le_refl, mod-eq_of_lt, mul-add-mod_self_right}
@@ -17,15 +17,6 @@ use Rattle.tables.specs.Task.{state_of}
 use Rattle.sweep.specs.Inside.Sweeps.{Made}
 use Rattle.sweep.specs.Inside.Classes.{unpriced, view_of, seen_places, SeenAt, Classed}
 use Rattle.sweep.proofs.Walking.{Digital}
-
--- ---- a fact seen by classes
-
-pub seen_nothing : (c : ℕ → ℕ) (f : ℕ) → f ≡ 0 → 0 ≡ seen c f
-seen_nothing c f e = subst (λ (x : ℕ). 0 ≡ seen c x) (sym e) refl
-
-pub seen_said : (c : ℕ → ℕ) (f : ℕ) → (f ≡ 0 → ⊥) → c (f - 1) + 1 ≡ seen c f
-seen_said c zero h = absurd (h refl)
-seen_said c (suc k) h = let e : suc k - 1 ≡ k = omega arith in rw e (omega arith)
 
 -- ---- the number of classes
 
@@ -58,11 +49,6 @@ module _ (c : Counts) (facts : List ℕ) (m : ℕ) where
 -- ---- the classes of an accepted task
 
 module _ (c : Counts) (facts : List ℕ) (m : ℕ) (ok : Valid (unpriced c facts)) (lm : m < c.maps) where
-  pub class_below : (v : ℕ) → v < c.vars → (dom row : ℕ) → dom ≡ dom_at facts v → row ≡ class_row m v
-      → (dom ≤ 8) × ((x : ℕ) → x < dom → row_at facts row x < dom)
-  class_below v lv dom row d r =
-      (omega (arith, ok.values v lv), λ x l. rw r (omega (arith, ok.classes m v x lm lv (omega arith))))
-
   pub count_is : (v dom row n : ℕ) → dom ≡ dom_at facts v → row ≡ class_row m v → n ≡ count_of (row_at facts row) dom
       → n ≡ count_of (class_at facts m v) (dom_at facts v)
   count_is v dom row n d r e = e ∙ ap₂ (λ x y. count_of (row_at facts x) y) r d

@@ -1,6 +1,6 @@
 -- Laws of what a number of a table says. Assumes nothing.
 use mathlib.Core.Path.{◌≡◌, refl, sym, ap, ◌∙◌}
-use mathlib.Core.Bool.{Bool, true, false}
+use mathlib.Core.Bool.{Bool}
 use mathlib.Core.List.{List}
 use Prim.Native.Nat.{ℕ, ◌+◌, ◌≤◌, ◌<◌}
 use native.Mathlib.Decide.{ℕ_discrete}
@@ -10,7 +10,7 @@ use lib.ListN.{get_or}
 use borrow.Author.Tests.{ne_eqb, eq-eqb, lt-ltb, le-ltb}
 use Rattle.graph.specs.Cost.{none, fin, lower, plus}
 use Rattle.graph.specs.Graph.{Next, stop, to}
-use Rattle.graph.specs.Least.{at_goal, after_step}
+use Rattle.graph.specs.Least.{after_step}
 use Rattle.graph.specs.Noted.{under}
 use Rattle.sweep.specs.Said.{NONE, cost_if, said, said_at}
 use Rattle.sweep.specs.Inside.Sweeps.{most_addable, Addable}
@@ -41,16 +41,6 @@ said_inj x y e = go (ℕ_discrete x NONE) (ℕ_discrete y NONE)
         let w : ◌≡◌ {A = ℕ} 0 1 = cc in
         omega arith
     go (no p) (no q) = let z : fin x ≡ fin y = sym (said_fin x p) ∙ e ∙ said_fin y q in cc
-
--- ---- the cost over no steps
-
-pub start_goal : (g : Bool) → g ≡ true → said 0 ≡ at_goal g
-unfolding said
-start_goal g e = rw e
-
-pub start_other : (g : Bool) → g ≡ false → said NONE ≡ at_goal g
-unfolding said
-start_other g e = rw e
 
 -- ---- a price and what it costs beyond
 

@@ -4,7 +4,7 @@ use mathlib.Core.Path.{◌≡◌, refl, sym, ap, ap₂, ◌∙◌, subst}
 use mathlib.Core.Logic.{⊎_elim}
 use mathlib.Core.Bool.{Bool, true, false}
 use mathlib.Core.List.{List, []}
-use Prim.Native.Nat.{ℕ, zero, suc, ◌+◌, ◌*◌, ◌/◌, ◌%◌, ◌≤◌, ◌<◌}
+use Prim.Native.Nat.{ℕ, zero, suc, ◌+◌, ◌*◌, ◌/◌, ◌%◌, ◌^◌, ◌≤◌, ◌<◌}
 use native.Mathlib.Nat.{le_refl, le_of_suc-le-suc, eq-or-lt_of_le, mul-le-mul_right, div-div-eq-div-mul}
 use native.Mathlib.Numerals.{add-one}
 use native.Mathlib.Omega.{arith}
@@ -60,9 +60,6 @@ pub record Numbered (K D : ℕ → ℕ) (n v stride b : ℕ) : Type 0 where
   pub stride_is : stride ≡ size K v
   pub number_is : b ≡ number K D v
 
-pub numbered_none : {K D : ℕ → ℕ} {n : ℕ} → Numbered K D n 0 1 0
-numbered_none = record { low = omega arith; stride_is = refl; number_is = refl }
-
 module _ {K D : ℕ → ℕ} {n v stride b : ℕ} (w : Numbered K D n v stride b) where
   -- the numbers stay small
   pub numbered_small : Digital K D n → (stride ≤ most_states) × (b < most_states)
@@ -71,17 +68,19 @@ module _ {K D : ℕ → ℕ} {n v stride b : ℕ} (w : Numbered K D n v stride b
       let d : number K D v < size K v = number_below K D v (λ u l. W.below u (omega (arith, w.low))) in
       (omega (arith, w.stride_is, W.few), omega (arith, w.number_is, W.few))
 
-  pub numbered_all : n ≤ v → b ≡ number K D n
-  numbered_all l = let q : v ≡ n = omega (arith, w.low) in w.number_is ∙ ap (number K D) q
-
   -- one digit more, x by the radix k
-  pub numbered_more : v < n → {x k : ℕ} → x ≡ D v → k ≡ K v → Numbered K D n (v + 1) (stride * k) (b + x * stride)
-  numbered_more l hx hk =
+  pub numbered_more : v < n → {x k stride' b' : ℕ} → x ≡ D v → k ≡ K v → stride' ≡ stride * k → b' ≡ b + x * stride → Numbered K D n (v + 1) stride' b'
+  numbered_more l hx hk hs hb =
       record {
         low = omega arith;
-        stride_is = rw add-one (ap₂ ◌*◌ w.stride_is hk);
-        number_is = rw add-one (ap₂ ◌+◌ w.number_is (ap₂ ◌*◌ hx w.stride_is));
+        stride_is = rw add-one (hs ∙ ap₂ ◌*◌ w.stride_is hk);
+        number_is = rw add-one (hb ∙ ap₂ ◌+◌ w.number_is (ap₂ ◌*◌ hx w.stride_is));
       }
+
+-- which stays small too
+pub placed_small : {K D : ℕ → ℕ} {n v stride b : ℕ} → Numbered K D n v stride b → Digital K D n → v < n → {x k : ℕ} → x ≡ D v → k ≡ K v
+    → (b + x * stride < 2 ^ 32) × (stride * k < 2 ^ 32)
+placed_small w W l hx hk = let s = numbered_small (numbered_more w l hx hk refl refl) W in (omega (arith, s.1), omega (arith, s.0))
 
 -- ---- the step
 
@@ -111,10 +110,6 @@ module _ (c : Counts) (facts prices : List ℕ) where
       meets_goal_is t s ∙ complies_same (sas_of t) (sas_of t).goal (state_of s) (digit (dom_at facts) a) h
 
   module _ (W : Walkable c facts) where
-    -- the digits of a state are values
-    pub spelt_digits : (a : ℕ) (s : List ℕ) → HasDigits c.vars facts a s → Digits (dom_at facts) (state_of s) c.vars
-    spelt_digits a s h v l = rw (h v l) (digit_below (dom_at facts) a c.vars W.values v l)
-
     -- the values after an operator are values
     pub after_digits : (o : ℕ) (s : ℕ → ℕ) → o < c.ops → Digits (dom_at facts) s c.vars
         → Digits (dom_at facts) (λ v. put (eff_at facts o v) (s v)) c.vars

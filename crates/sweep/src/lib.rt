@@ -3,5 +3,7 @@
 
 pub mod classes;
 pub mod maps;
+pub mod number;
 pub mod rounds;
+pub mod space;
 pub mod walk;

@@ -9,9 +9,10 @@ ghost use Rattle.sweep.specs.Inside.Sweeps.{PricesSmall, Counted};
 ghost use Rattle.sweep.specs.Inside.Classes.{unpriced, view_graph_of, SharesSmall, AtImage};
 
 use crate::classes::{class_facts, image_of, states_of};
-use crate::rounds::{Pick, count_rounds};
-use meaning::limits::{OPS_MOST, STATES_ROOM};
-use meaning::{OpNo, state_index};
+use crate::rounds::Pick;
+use crate::space::Space;
+use meaning::OpNo;
+use meaning::limits::STATES_ROOM;
 use tables::Counts;
 use tables::readers::share_at;
 
@@ -32,9 +33,14 @@ pub fn view_rounds(
     ensures { Counted (view_graph_of c (was facts) map (was prices)) out.old out.new best.old best.new result }
 {
     let seen = class_facts(c, facts, map);
-    let n = states_of(c, &seen);
+    let space = Space {
+        c,
+        facts: &seen,
+        prices,
+        states: states_of(c, &seen),
+    };
     let mut work = [0u32; STATES_ROOM];
-    count_rounds(c, &seen, prices, n, out, best, &mut work)
+    space.count_rounds(out, best, &mut work)
 }
 
 // A map's row of shares.
@@ -42,15 +48,13 @@ pub fn share_row(shares: &[u32], map: u32) -> [u32; PRICES_ROOM]
     ensures { (o : ℕ) → o < most_ops → get_or result o 0 ≡ share_at (was shares) map o }
 {
     let mut prices = [0u32; PRICES_ROOM];
-    let mut o = 0u32;
-    while o < OPS_MOST {
-        prices[o as usize] = share_at(shares, map, OpNo(o));
-        o += 1;
+    for (o, price) in prices.iter_mut().enumerate() {
+        *price = share_at(shares, map, OpNo(o as u32));
     }
     prices
 }
 
-// What a map has at a state's image, as its tables have it: the distance, and the best step.
+// What a map has at a state's image, in the words of its two tables: the distance, and the best step. The entries tell none by None (`told`, crates/views/src/sums.rt).
 pub fn at_image(c: Counts, facts: &[u8], shares: &[u32], map: u32, s: &[u8]) -> Pick
     requires { Valid (unpriced c facts.now) × (map < c.maps) × SharesSmall c shares.now map × IsState (unpriced c facts.now).sas (state_of s.now) }
     ensures { AtImage (task_of (tables c (was facts) [] (was shares))) (state_of (was s)) map result }
@@ -59,7 +63,7 @@ pub fn at_image(c: Counts, facts: &[u8], shares: &[u32], map: u32, s: &[u8]) -> 
     let mut out = [0u32; STATES_ROOM];
     let mut best = [0u8; STATES_ROOM];
     view_rounds(c, facts, &prices, map, &mut out, &mut best);
-    let a = state_index(image_of(c, facts, map, s));
+    let a = usize::from(image_of(c, facts, map, s));
     Pick {
         cost: out[a],
         op: best[a],

@@ -1,29 +1,28 @@
 // Least costs to a goal, round by round: one table read and another written, until a round changes nothing. Wherever a number falls, the operator that
 // makes it fall is noted, and at the last fall that is the best step.
-ghost use Rattle.std.specs.Prelude.{◌≡◌, ◌+◌, ◌≤◌, ◌<◌, [], length};
+ghost use Rattle.std.specs.Prelude.{◌≡◌, ◌+◌, ◌≤◌, ◌<◌, length};
 ghost use Rattle.graph.specs.Cost.{plus};
 ghost use Rattle.graph.specs.Least.{at_goal, after_step};
 ghost use Rattle.graph.specs.Noted.{under, choose};
-ghost use Rattle.meaning.specs.Numbering.{size};
-ghost use Rattle.tables.specs.Layout.{dom_at};
 ghost use Rattle.sweep.specs.Said.{NONE, said, said_at, advised};
-ghost use Rattle.sweep.specs.Inside.Walks.{Walkable, next_of, space_of};
-ghost use Rattle.sweep.specs.Inside.Sweeps.{PricesSmall, Addable, Filled, Cleared, Copied, Picks, Swept, Noted, Counted};
+ghost use Rattle.sweep.specs.Inside.Walks.{next_of};
+ghost use Rattle.sweep.specs.Inside.Spaces.{graph_of};
+ghost use Rattle.sweep.specs.Inside.Sweeps.{Addable, Filled, Cleared, Copied, Picks, Swept, Noted, Counted};
 ghost use Rattle.tables.specs.Task.{was};
 
-use crate::walk::{Step, digits, step_from};
-use meaning::{OpNo, StateNo, state_index};
-use tables::Counts;
-use tables::readers::{cost_at, word_at};
+use crate::space::Space;
+use crate::walk::{digits, step_from};
+use meaning::{OpNo, StateNo};
+use tables::readers::{cost_at, get_or};
 use tables::steps::meets_goal;
 
-// Stands for no distance in a table.
+// Stands for no distance in a table. A word and no Option, as is all that is compared here: the tables that are lent hold it (`said`).
 pub const NO_COST: u32 = 4294967295;
 
-// Stands for no operator in a table of best steps.
+// Stands for no operator in a table of best steps, likewise (`advised`).
 pub const NO_OP: u8 = 255;
 
-// A least cost, and the lowest operator that attains it.
+// A least cost, and the lowest operator that attains it, as the two tables hold them.
 #[derive(Clone, Copy)]
 pub struct Pick {
     pub cost: u32,
@@ -31,6 +30,7 @@ pub struct Pick {
 }
 
 // The cost over no steps: 0 at a goal, else none.
+#[tactic(auto, unfolding(crate::specs::Said::said))]
 fn start(goal: bool) -> u32
     ensures { said result ≡ at_goal goal }
 {
@@ -38,6 +38,7 @@ fn start(goal: bool) -> u32
 }
 
 // A price and what it costs beyond; none is never added like a number.
+#[tactic(auto, using(crate::proofs::Saids::price_none, crate::proofs::Saids::price_added))]
 fn with_price(price: u32, beyond: u32) -> u32
     requires { beyond < NONE → price + beyond < NONE }
     ensures { said result ≡ plus price (said beyond) }
@@ -50,137 +51,109 @@ fn with_price(price: u32, beyond: u32) -> u32
 }
 
 // What a table says of where a step leads.
-fn beyond(old: &[u32], s: Step) -> u32
-    ensures { said result ≡ after_step (said_at (was old)) (next_of s) }
+#[tactic(auto, unfolding(crate::specs::Said::said))]
+fn beyond(old: &[u32], next: Option<StateNo>) -> u32
+    ensures { said result ≡ after_step (said_at (was old)) (next_of next) }
 {
-    match s {
-        Step::To(b) => word_at(old, state_index(b)),
-        Step::Stop => NO_COST,
+    match next {
+        Some(b) => get_or(old, usize::from(b), 0),
+        None => NO_COST,
     }
-}
-
-// The least cost from a state over one step more than `old` has, and the lowest operator that attains it.
-fn cell(c: Counts, facts: &[u8], prices: &[u32], old: &[u32], a: StateNo) -> Pick
-    requires { Walkable c facts.now × PricesSmall c prices.now × (a.0 < size (dom_at facts.now) c.vars) × Addable (size (dom_at facts.now) c.vars) old.now }
-    ensures { Picks (space_of c (was facts) (was prices)) (said_at (was old)) a.0 c.ops result }
-{
-    let s = digits(c.vars, facts, a);
-    let ops = c.ops;
-    let mut cost = start(meets_goal(c, facts, &s));
-    let mut op = NO_OP;
-    let mut o = 0u32;
-    while o < ops {
-        let x = with_price(
-            cost_at(prices, OpNo(o)),
-            beyond(old, step_from(c, facts, &s, OpNo(o))),
-        );
-        if x < cost {
-            cost = x;
-            op = o as u8;
-        }
-        o += 1;
-    }
-    Pick { cost, op }
 }
 
 // The operator noted at a state: the pick's where its cost is below that of before.
+#[tactic(auto, using(crate::proofs::Picking::note_fallen, crate::proofs::Picking::note_kept))]
 fn note(noted: u8, before: u32, p: Pick) -> u8
     ensures { advised result ≡ choose (under (said p.cost) (said before)) (advised p.op) (advised noted) }
 {
     if p.cost < before { p.op } else { noted }
 }
 
-// Sets `new` to the round after that of `old`, notes in `best` the operators that make a number fall, and says whether the two tables differ.
-fn sweep(
-    c: Counts,
-    facts: &[u8],
-    prices: &[u32],
-    n: u32,
-    old: &[u32],
-    new: &mut [u32],
-    best: &mut [u8],
-) -> bool
-    requires walkable { Walkable c facts.now × PricesSmall c prices.now × (n ≡ size (dom_at facts.now) c.vars) }
-    requires n_in_bounds { (n ≤ length old.now) × (n ≤ length new.old) × (n ≤ length best.old) × Addable n old.now }
-    ensures swept { Swept n (space_of c (was facts) (was prices)) (was old) new.old new.new result }
-    ensures noted { Noted n (space_of c (was facts) (was prices)) (was old) best.old best.new }
-{
-    let mut changed = false;
-    let mut a = 0u32;
-    while a < n {
-        let p = cell(c, facts, prices, old, StateNo(a));
-        let before = old[a as usize];
-        let d = p.cost;
-        if d != before {
-            changed = true;
-        }
-        new[a as usize] = d;
-        best[a as usize] = note(best[a as usize], before, p);
-        a += 1;
-    }
-    changed
-}
-
-// Sets the places of the states to the costs over no steps.
-fn fill(c: Counts, facts: &[u8], n: u32, t: &mut [u32])
-    requires { Walkable c facts.now × (n ≡ size (dom_at facts.now) c.vars) × (n ≤ length t.old) }
-    ensures { Filled n (space_of c (was facts) []) t.old t.new }
-{
-    let mut a = 0u32;
-    while a < n {
-        let s = digits(c.vars, facts, StateNo(a));
-        t[a as usize] = start(meets_goal(c, facts, &s));
-        a += 1;
-    }
-}
-
-// Sets the places of the states to no operator.
+// Sets the first n places to no operator. n beside the table: the contract tells of the places past them too, that they stay (`Made`).
 fn clear(n: u32, best: &mut [u8])
     requires { n ≤ length best.old }
     ensures { Cleared n best.old best.new }
 {
-    let mut a = 0u32;
-    while a < n {
-        best[a as usize] = NO_OP;
-        a += 1;
-    }
+    best[..n as usize].fill(NO_OP);
 }
 
-// Sets the first places of `to` to those of `from`.
+// Sets the first n places of `to` to those of `from`, and those past them stay.
 fn copy(n: u32, from: &[u32], to: &mut [u32])
     requires { (n ≤ length from.now) × (n ≤ length to.old) }
     ensures { Copied n (was from) to.old to.new }
 {
-    let mut a = 0u32;
-    while a < n {
-        to[a as usize] = from[a as usize];
-        a += 1;
-    }
+    to[..n as usize].copy_from_slice(&from[..n as usize]);
 }
 
-// The count of rounds: the first that changes nothing; `t` holds the distances then, and `best` the best steps. `w` is a table to work in.
-pub fn count_rounds(
-    c: Counts,
-    facts: &[u8],
-    prices: &[u32],
-    n: u32,
-    t: &mut [u32],
-    best: &mut [u8],
-    w: &mut [u32],
-) -> u32
-    requires walkable { Walkable c facts.now × PricesSmall c prices.now × (n ≡ size (dom_at facts.now) c.vars) }
-    requires n_in_bounds { (n ≤ length t.old) × (n ≤ length best.old) × (n ≤ length w.old) }
-    ensures { Counted (space_of c (was facts) (was prices)) t.old t.new best.old best.new result }
-{
-    fill(c, facts, n, t);
-    clear(n, best);
-    let mut rounds = 0u32;
-    loop {
-        let changed = sweep(c, facts, prices, n, t, w, best);
-        rounds += 1;
-        if !changed {
-            return rounds;
+impl Space<'_> {
+    // The least cost from a state over one step more than `old` has, and the lowest operator that attains it.
+    fn cell(&self, old: &[u32], a: StateNo) -> Pick
+        requires { (a.0 < self.now.states) × Addable self.now.states old.now }
+        ensures { Picks (graph_of self.now) (said_at (was old)) a.0 self.now.c.ops result }
+    {
+        let s = digits(self.c.vars, self.facts, a);
+        let mut least = Pick {
+            cost: start(meets_goal(self.c, self.facts, &s)),
+            op: NO_OP,
+        };
+        for o in 0..self.c.ops {
+            let next = step_from(self.c, self.facts, &s, OpNo(o));
+            let cost = with_price(cost_at(self.prices, OpNo(o)), beyond(old, next));
+            if cost < least.cost {
+                least = Pick { cost, op: o as u8 };
+            }
         }
-        copy(n, w, t);
+        least
+    }
+
+    // Sets `new` to the round after that of `old`, notes in `best` the operators that make a number fall, and says whether the two tables differ.
+    fn sweep(&self, old: &[u32], new: &mut [u32], best: &mut [u8]) -> bool
+        requires { (self.now.states ≤ length old.now) × (self.now.states ≤ length new.old) × (self.now.states ≤ length best.old) × Addable self.now.states old.now }
+        ensures swept { Swept self.now.states (graph_of self.now) (was old) new.old new.new result }
+        ensures noted { Noted self.now.states (graph_of self.now) (was old) best.old best.new }
+    {
+        let mut changed = false;
+        // By number: a is the state that is asked for, and its place in three tables, two of which are written.
+        for a in 0..self.states {
+            let p = self.cell(old, StateNo(a));
+            let before = old[a as usize];
+            if p.cost != before {
+                changed = true;
+            }
+            new[a as usize] = p.cost;
+            best[a as usize] = note(best[a as usize], before, p);
+        }
+        changed
+    }
+
+    // Sets the places of the states to the costs over no steps.
+    fn fill(&self, t: &mut [u32])
+        requires { self.now.states ≤ length t.old }
+        ensures { Filled self.now.states (graph_of self.now) t.old t.new }
+    {
+        // By number: a is the state whose values are asked for.
+        for a in 0..self.states {
+            let s = digits(self.c.vars, self.facts, StateNo(a));
+            t[a as usize] = start(meets_goal(self.c, self.facts, &s));
+        }
+    }
+
+    // The count of rounds: the first that changes nothing; `t` holds the distances then, and `best` the best steps. `w` is a table to work in.
+    pub fn count_rounds(&self, t: &mut [u32], best: &mut [u8], w: &mut [u32]) -> u32
+        requires { (self.now.states ≤ length t.old) × (self.now.states ≤ length best.old) × (self.now.states ≤ length w.old) }
+        ensures { Counted (graph_of self.now) t.old t.new best.old best.new result }
+    {
+        self.fill(t);
+        clear(self.states, best);
+        let mut rounds = 0u32;
+        // A loop and no range: that it ends is because each round but the last changes something.
+        loop {
+            let changed = self.sweep(t, w, best);
+            rounds += 1;
+            if !changed {
+                return rounds;
+            }
+            copy(self.states, w, t);
+        }
     }
 }

@@ -5,6 +5,7 @@ use denote.Triple.Both.{Both}
 use Rattle.meaning.specs.Sas.{State, Sas}
 use Rattle.meaning.specs.Split.{Task}
 use Rattle.tables.specs.declared.Counts.{Counts}
+use Rattle.tables.specs.declared.LentTables.{LentTables}
 use Rattle.tables.specs.Layout.{Tables, dom_at, init_at, goal_at, pre_at, eff_at, class_at, cost_at, share_at, quota_of, mark_of}
 
 abbrev pub sas_of : Tables → Sas
@@ -42,9 +43,13 @@ was s = s.entry.now
 abbrev pub Slice : Type 0
 Slice = Both (Bor (List ℕ)) (Bor (List ℕ))
 
--- the tables that are lent: what stands in the three slices beside the counts
-abbrev pub lent : Counts → Slice → Slice → Slice → Tables
-lent c facts costs shares = tables c (was facts) (was costs) (was shares)
+-- what stands in lent tables
+abbrev pub held : LentTables → Tables
+held t = tables t.counts t.facts.now t.costs.now t.shares.now
+
+-- the tables that are lent, in a contract
+abbrev pub lent : Both LentTables LentTables → Tables
+lent t = held t.entry
 
 -- a value for each variable, from place 0 on
 abbrev pub state_of : List ℕ → State

@@ -9,17 +9,9 @@ ghost use Rattle.tables.specs.Task.{was};
 
 use crate::readers::row_at;
 
-// The classes of a row as a mask, or a class beyond them all.
-#[derive(Clone, Copy)]
-pub enum Mask {
-    Bits(u32),
-    Beyond,
-}
-
-// What a variable's classes are: so many with none missing; or one is missing, or outside.
-#[derive(Clone, Copy)]
-pub enum Classes {
-    Count(u32),
+// Why the classes of a variable's values are not 0 to k - 1: one of these is missing, or a class is not below the number of values.
+#[derive(Clone, Copy, Debug, PartialEq, Eq)]
+pub enum ClassFault {
     Missing,
     Outside,
 }
@@ -28,48 +20,45 @@ pub enum Classes {
 pub fn word_of(facts: &[u8], row: u32, x: u32) -> u32
     ensures { result ≡ row_at (was facts) row x }
 {
-    row_at(facts, row, x) as u32
+    u32::from(row_at(facts, row, x))
 }
 
-// The mask of the classes of a variable with so many values.
-fn mask_of(facts: &[u8], dom: u32, row: u32) -> Mask
+// The mask of the classes of a variable with so many values, each class below that number.
+fn mask_of(facts: &[u8], dom: u32, row: u32) -> Option<u32>
     requires { dom ≤ most_values }
     ensures { result ≡ mask_found (row_at (was facts) row) dom }
 {
     let mut mask = 0u32;
-    let mut x = 0;
-    while x < dom {
+    for x in 0..dom {
         let k = word_of(facts, row, x);
         if dom <= k {
-            return Mask::Beyond;
+            return None;
         }
-        mask = mask | (1u32 << k);
-        x += 1;
+        mask |= 1 << k;
     }
-    Mask::Bits(mask)
+    Some(mask)
 }
 
 // The width of a mask: one more than its largest class.
 fn width(mask: u32) -> u32
     ensures { result ≡ 32 - count_leading_zeros 32 mask }
 {
-    32 - u32::leading_zeros(mask)
+    32 - mask.leading_zeros()
 }
 
-// The classes of a variable with so many values.
-pub fn classes_of(facts: &[u8], dom: u32, row: u32) -> Classes
+// How many classes a variable with so many values has, where none is missing and none is outside.
+pub fn classes_of(facts: &[u8], dom: u32, row: u32) -> Result<u32, ClassFault>
     requires { dom ≤ most_values }
     ensures { result ≡ classes_of (row_at (was facts) row) dom }
 {
-    let found = mask_of(facts, dom, row);
-    let Mask::Bits(mask) = found else {
-        return Classes::Outside;
+    let Some(mask) = mask_of(facts, dom, row) else {
+        return Err(ClassFault::Outside);
     };
     let k = width(mask);
-    if k == u32::count_ones(mask) {
-        Classes::Count(k)
+    if k == mask.count_ones() {
+        Ok(k)
     } else {
-        Classes::Missing
+        Err(ClassFault::Missing)
     }
 }
 
@@ -78,9 +67,5 @@ pub fn count_of(facts: &[u8], dom: u32, row: u32) -> u32
     requires { (dom ≤ most_values) × ((x : ℕ) → x < dom → row_at facts.now row x < dom) }
     ensures { result ≡ count_of (row_at (was facts) row) dom }
 {
-    let found = mask_of(facts, dom, row);
-    let Mask::Bits(mask) = found else {
-        return 0;
-    };
-    width(mask)
+    width(mask_of(facts, dom, row).unwrap())
 }

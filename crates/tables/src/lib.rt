@@ -7,11 +7,20 @@ pub mod readers;
 pub mod steps;
 
 // How many variables, operators and maps the task has; the edition of its text, and the quota of stored tests, which edition 1 hasn't: there it isn't read.
-#[derive(Clone, Copy)]
+#[derive(Clone, Copy, PartialEq, Eq)]
 pub struct Counts {
     pub vars: u32,
     pub ops: u32,
     pub maps: u32,
     pub edition: u32,
     pub quota: u32,
+}
+
+// The lent tables of a task: its counts, and the three slices that its numbers stand in.
+#[derive(Clone, Copy)]
+pub struct LentTables<'a> {
+    pub counts: Counts,
+    pub facts: &'a [u8],
+    pub costs: &'a [u32],
+    pub shares: &'a [u32],
 }

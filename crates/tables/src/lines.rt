@@ -20,6 +20,7 @@ pub const GOAL_LINE: u32 = 5;
 pub const QUOTA_LINE: u32 = 6;
 
 // How many lines say the quota.
+#[tactic(auto, using(crate::proofs::Editions::read_second, crate::proofs::Editions::read_first), unfolding(crate::specs::Lines::quota_lines))]
 pub fn quota_lines(edition: u32) -> u32
     ensures { (result ≡ quota_lines edition) × (result ≤ 1) }
 {
@@ -34,33 +35,36 @@ pub fn ops_line(edition: u32) -> u32
 }
 
 // An operator's line.
+#[tactic(auto, using(crate::proofs::Editions::lines_most))]
 pub fn op_line(edition: u32, o: OpNo) -> u32
     requires { o.0 ≤ most_ops }
     ensures { result ≡ line_of_op edition o.0 }
 {
-    7 + quota_lines(edition) + o.0
+    ops_line(edition) + 1 + o.0
 }
 
-// The line that says how many maps there are.
+// The line that says how many maps there are: it follows the last operator's.
 pub fn maps_line(edition: u32, ops: u32) -> u32
     requires { ops ≤ most_ops }
     ensures { result ≡ line_of_maps edition ops }
 {
-    7 + quota_lines(edition) + ops
+    op_line(edition, OpNo(ops))
 }
 
 // A map's line.
+#[tactic(auto, using(crate::proofs::Editions::lines_most))]
 pub fn map_line(edition: u32, ops: u32, m: u32) -> u32
     requires { (ops ≤ most_ops) × (m ≤ most_maps) }
     ensures { result ≡ line_of_map edition ops m }
 {
-    8 + quota_lines(edition) + ops + m
+    maps_line(edition, ops) + 1 + m
 }
 
-// The line of a map's shares.
+// The line of a map's shares: they follow the last map's line.
+#[tactic(auto, using(crate::proofs::Editions::lines_most))]
 pub fn shares_line(edition: u32, ops: u32, maps: u32, m: u32) -> u32
     requires { (ops ≤ most_ops) × (maps ≤ most_maps) × (m ≤ most_maps) }
     ensures { result ≡ line_of_shares edition ops maps m }
 {
-    8 + quota_lines(edition) + ops + maps + m
+    map_line(edition, ops, maps) + m
 }

@@ -5,8 +5,8 @@ ghost use Rattle.tables.specs.Layout.{row_at, pre_row, eff_row, class_row, cost_
 ghost use Rattle.tables.specs.Task.{was};
 
 use crate::Counts;
+use meaning::OpNo;
 use meaning::limits::QUOTA_EDITION;
-use meaning::{OpNo, op_index};
 
 // The row of the variables' numbers of values, of the initial state, of the goal.
 pub const DOM_ROW: u32 = 0;
@@ -31,7 +31,7 @@ pub const COSTS_ROOM: usize = 64;
 
 pub const SHARES_ROOM: usize = 512;
 
-// The row of an operator's preconditions.
+// The row of an operator's preconditions, and below of its effects: a function each, as each has a definition and callers ask for one of them by name.
 pub fn pre_row(o: OpNo) -> u32
     requires { o.0 < most_ops }
     ensures { result ≡ pre_row o.0 }
@@ -55,47 +55,44 @@ pub fn class_row(m: u32, v: u32) -> u32
     CLASS_ROWS + (m * 8 + v)
 }
 
-// The byte at a place.
-pub fn byte_at(table: &[u8], at: usize) -> u8
-    ensures { result ≡ get_or (was table) at 0 }
+// What stands at a place, or `none` past the table's end.
+pub fn get_or<T: Copy>(table: &[T], at: usize, none: T) -> T
+    ensures { result ≡ get_or (was table) at none }
 {
-    if at < table.len() { table[at] } else { 0 }
+    table.get(at).copied().unwrap_or(none)
 }
 
-// The byte at a place; where it is known to be there, it isn't looked for.
+// The byte at a place; where it is known to be there, it isn't looked for: the steps ask once for all their places, and take half the time.
 pub fn known_byte(table: &[u8], at: usize, known: bool) -> u8
     requires { known ≡ true → at < length table.now }
     ensures { result ≡ get_or (was table) at 0 }
 {
-    if known { table[at] } else { byte_at(table, at) }
-}
-
-// The word at a place.
-pub fn word_at(table: &[u32], at: usize) -> u32
-    ensures { result ≡ get_or (was table) at 0 }
-{
-    if at < table.len() { table[at] } else { 0 }
+    if known {
+        table[at]
+    } else {
+        get_or(table, at, 0)
+    }
 }
 
 // What a row of the facts says at a variable, or in a row of classes at a value.
 pub fn row_at(facts: &[u8], row: u32, v: u32) -> u8
     ensures { result ≡ row_at (was facts) row v }
 {
-    byte_at(facts, row as usize * 8 + v as usize)
+    get_or(facts, row as usize * 8 + v as usize, 0)
 }
 
 // What an operator costs.
 pub fn cost_at(costs: &[u32], o: OpNo) -> u32
     ensures { result ≡ cost_at (was costs) o.0 }
 {
-    word_at(costs, op_index(o))
+    get_or(costs, usize::from(o), 0)
 }
 
 // What an operator costs in a map.
 pub fn share_at(shares: &[u32], m: u32, o: OpNo) -> u32
     ensures { result ≡ share_at (was shares) m o.0 }
 {
-    word_at(shares, m as usize * 64 + op_index(o))
+    get_or(shares, m as usize * 64 + usize::from(o), 0)
 }
 
 // The quota of stored tests: edition 2 alone has one.
@@ -114,7 +111,7 @@ pub fn mark_of(c: Counts, facts: &[u8], o: OpNo) -> u32
     ensures { result ≡ mark_of c (was facts) o.0 }
 {
     if c.edition == QUOTA_EDITION {
-        row_at(facts, MARK_ROW, o.0) as u32
+        u32::from(row_at(facts, MARK_ROW, o.0))
     } else {
         0
     }

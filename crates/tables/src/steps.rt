@@ -8,15 +8,15 @@ ghost use Rattle.tables.specs.Task.{was};
 
 use crate::Counts;
 use crate::readers::{
-    EFF_ROWS, GOAL_ROW, PRE_ROWS, byte_at, eff_row, known_byte, mark_of, pre_row, quota_of,
+    EFF_ROWS, GOAL_ROW, PRE_ROWS, eff_row, get_or, known_byte, mark_of, pre_row, quota_of,
 };
-use meaning::{OpNo, op_index};
+use meaning::OpNo;
 
 // What is said of a variable holds of the value x.
 pub fn fact_holds(fact: u8, x: u8) -> bool
     ensures { result ≡ holds fact x }
 {
-    if fact == 0 { true } else { x == fact - 1 }
+    fact == 0 || x == fact - 1
 }
 
 // The value of a variable after an effect on it.
@@ -26,21 +26,24 @@ pub fn value_after(fact: u8, x: u8) -> u8
     if fact == 0 { x } else { fact - 1 }
 }
 
-// What a row of facts says of the first variables holds in the state. Whether both have all places is asked once, so that a turn looks at no length.
+// What a row of facts says of the first variables holds in the state. Whether both have all places is asked once, so that a turn looks at no length:
+// `all` over reads that look each time takes twice as long.
 pub fn row_holds(vars: u32, facts: &[u8], row: u32, s: &[u8]) -> bool
     ensures { result ≡ row_holds vars (was facts) row (was s) }
 {
     let n = vars as usize;
     let at = row as usize * 8;
     let there = at + n <= facts.len() && n <= s.len();
-    let mut v = 0usize;
-    while v < n && fact_holds(known_byte(facts, at + v, there), known_byte(s, v, there)) {
-        v += 1;
+    for v in 0..n {
+        if !fact_holds(known_byte(facts, at + v, there), known_byte(s, v, there)) {
+            return false;
+        }
     }
-    v == n
+    true
 }
 
 // Each precondition of the operator holds in the state.
+#[tactic(auto, unfolding(crate::specs::Steps::may_run))]
 pub fn may_run(c: Counts, facts: &[u8], s: &[u8], o: OpNo) -> bool
     requires { o.0 < most_ops }
     ensures { result ≡ may_run c (was facts) (was s) o.0 }
@@ -53,14 +56,11 @@ pub fn can_store(c: Counts, facts: &[u8], stored: u32, o: OpNo) -> bool
     ensures { result ≡ can_store c (was facts) stored o.0 }
 {
     let quota = quota_of(c);
-    if stored <= quota {
-        mark_of(c, facts, o) <= quota - stored
-    } else {
-        false
-    }
+    stored <= quota && mark_of(c, facts, o) <= quota - stored
 }
 
 // The state meets the goal.
+#[tactic(auto, unfolding(crate::specs::Steps::meets_goal))]
 pub fn meets_goal(c: Counts, facts: &[u8], s: &[u8]) -> bool
     ensures { result ≡ meets_goal c (was facts) (was s) }
 {
@@ -76,6 +76,7 @@ pub fn state_after(c: Counts, facts: &[u8], s: [u8; 8], o: OpNo) -> [u8; 8]
     let at = eff_row(o) as usize * 8;
     let there = at + n <= facts.len();
     let mut t = s;
+    // A variable's number names a place of the row and of the state: no one list is gone through.
     for v in 0..n {
         t[v] = value_after(known_byte(facts, at + v, there), t[v]);
     }
@@ -86,19 +87,14 @@ pub fn state_after(c: Counts, facts: &[u8], s: [u8; 8], o: OpNo) -> [u8; 8]
 pub fn is_asked(pre: u8, eff: u8) -> bool
     ensures { result ≡ asked pre eff }
 {
-    if eff == 0 { true } else { eff == pre }
+    eff == 0 || eff == pre
 }
 
 // The operator is idle: each of its effects stands among its preconditions.
 pub fn is_idle(vars: u32, facts: &[u8], o: OpNo) -> bool
     ensures { result ≡ is_idle vars (was facts) o.0 }
 {
-    let n = vars as usize;
-    let pre = (PRE_ROWS as usize + op_index(o)) * 8;
-    let eff = (EFF_ROWS as usize + op_index(o)) * 8;
-    let mut v = 0usize;
-    while v < n && is_asked(byte_at(facts, pre + v), byte_at(facts, eff + v)) {
-        v += 1;
-    }
-    v == n
+    let pre = (PRE_ROWS as usize + usize::from(o)) * 8;
+    let eff = (EFF_ROWS as usize + usize::from(o)) * 8;
+    (0..vars as usize).all(|v| is_asked(get_or(facts, pre + v, 0), get_or(facts, eff + v, 0)))
 }

@@ -11,8 +11,8 @@ use borrow.Author.Tests.{ne_eqb, eqb-true, leb-true, leb-false, lt-leb}
 use Rattle.refusals.specs.declared.Refusal.TheVariants.{NotRising}
 use Rattle.tables.specs.declared.Counts.{Counts}
 use Rattle.tables.specs.Layout.{Tables, dom_at}
-use Rattle.text.specs.declared.Ctrl.{Ctrl}
 use Rattle.text.specs.declared.Halt.TheVariants.{Going, Order}
+use Rattle.text.specs.declared.Ctrl.{Ctrl}
 use Rattle.grammar.specs.Fields.{is_digit, comma, dash, colon}
 use Rattle.grammar.specs.Grammar.{refused, Rest, Part, ◌▸◌, nothing, ask, keep, demand, lit, choice, fits, numeral, put_fact, facts_from, fact_list}
 use Rattle.text.specs.Inside.Area.{put_byte, dom_in}

@@ -21,8 +21,8 @@ use Rattle.tables.specs.Task.{sas_of, task_of}
 use Rattle.tables.specs.Classes.{none_missing}
 use Rattle.tables.specs.Inside.Masks.{mask_of}
 use Rattle.tables.proofs.Masks.{mask_width, mask_whole}
-use Rattle.text.specs.declared.Ctrl.{Ctrl}
 use Rattle.text.specs.declared.Halt.TheVariants.{Going, Missing, States}
+use Rattle.text.specs.declared.Ctrl.{Ctrl}
 use Rattle.grammar.specs.Fields.{comma, slash, line_end}
 use Rattle.grammar.specs.Grammar.{Rest, ◌▸◌, nothing, ask, keep, demand, lit, fits, parted, put_fact, number_row, class_list, class_lists, map_classes}
 use Rattle.grammar.proofs.SpellClasses.{count_same, size_same}

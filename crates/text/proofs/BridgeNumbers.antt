@@ -7,13 +7,13 @@ use mathlib.Core.Bool.{Bool, true, false}
 use lib.ListN.{get_or, take, drop}
 use lib.Dec.{ltb, leb, eqb}
 use borrow.Author.Tests.{eq-eqb, ne_eqb, eqb-true, eqb-false, le-leb, lt-leb, lt-ltb, le-ltb, leb-true, leb-false, ltb-true, ltb-false}
+use Rattle.std.specs.Prelude.{Err}
 use Rattle.refusals.specs.declared.Refusal.{Refusal}
 use Rattle.refusals.specs.declared.Refusal.TheVariants.{OffForm, OutOfRange}
 use Rattle.tables.specs.Layout.{Tables}
 use Rattle.text.specs.declared.Ctrl.{Ctrl}
 use Rattle.text.specs.declared.Halt.{Halt}
 use Rattle.text.specs.declared.Halt.TheVariants.{Going, Form, Range}
-use Rattle.scan.specs.declared.Found.TheVariants.{Fault}
 use Rattle.grammar.specs.Fields.{is_digit}
 use Rattle.grammar.specs.Grammar.{Verdict, refused, Rest, Part, ◌▸◌, demand, run_len, decimal, formed, fits, numeral}
 use Rattle.text.specs.Inside.Control.{mk, run_zero, run_on, going, stopped, with_digit, field_end}
@@ -166,7 +166,7 @@ module _ (c : Ctrl) (w : List ℕ) where
 
   -- a run with a fault of its own
   pub faulty : (r v : ℕ) (k : Halt) (f : Refusal) {t : List ℕ} → (c.spot.field ≡ field_end → ⊥) → (r ≡ 0 → ⊥) → Stop t → fault (with_digit c r v) w ≡ k → going k ≡ false
-      → refusal_of k c.line ≡ Fault f → reading (with_digit c r v) w t ≡ refused f
+      → refusal_of k c.line ≡ Err f → reading (with_digit c r v) w t ≡ refused f
   unfolding with_digit closed
   faulty r v k f {t} h z o e n q =
       stops_at (with_digit c r v) (with_digit c r v) w w t k f h (closes r v (next t) z (stop_next o) ∙ simp (e, n)) n q

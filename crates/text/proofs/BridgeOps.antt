@@ -8,6 +8,7 @@ use mathlib.Core.List.{List, [], ◌∷◌}
 use mathlib.Core.Bool.{Bool, true, false, not, cond}
 use lib.Dec.{ltb, eqb}
 use borrow.Author.Tests.{eq-eqb, ne_eqb, lt-ltb, le-ltb}
+use Rattle.std.specs.Prelude.{Err}
 use Rattle.refusals.specs.declared.Refusal.TheVariants.{IdleOperator}
 use Rattle.tables.specs.declared.Counts.{Counts}
 use Rattle.tables.specs.Editions.{has_quota}
@@ -16,9 +17,8 @@ use Rattle.tables.specs.Steps.{is_idle}
 use Rattle.tables.specs.Task.{sas_of}
 use Rattle.meaning.specs.Views.{idle}
 use Rattle.meaning.proofs.Facts.{by_cases}
-use Rattle.scan.specs.declared.Found.TheVariants.{Fault}
-use Rattle.text.specs.declared.Ctrl.{Ctrl}
 use Rattle.text.specs.declared.Halt.TheVariants.{Idle}
+use Rattle.text.specs.declared.Ctrl.{Ctrl}
 use Rattle.grammar.specs.Fields.{line_end, semicolon, bytes_of, dash}
 use Rattle.grammar.specs.Grammar.{
   Rest,
@@ -116,7 +116,7 @@ module _ (l r : ℕ) (n : Counts) (sized : Fits n) (h : r < 64) (k : Rest)
     where
       split : (q : Bool) → reading (cond q (stopped c Idle) (sign c (next t) line_end (after_op l r n))) w (behind t)
           ≡ demand (not q) IdleOperator t l (tables_of n w) (eol k)
-      split true = stops c Idle (IdleOperator l) w (behind t) refl (ap (λ (m : ℕ). Fault (IdleOperator m)) e)
+      split true = stops c Idle (IdleOperator l) w (behind t) refl (ap (λ (m : ℕ). Err (IdleOperator m)) e)
       split false = sign_ends n line_end (after_op l r n) l (λ u m U. k u (m + 1) U) refl ok c e w p t a
 
   -- the mark is kept, and then the operator ends

@@ -7,6 +7,7 @@ use mathlib.Core.Bool.{Bool, true, false, cond}
 use lib.ListN.{get_or, take, drop}
 use lib.Dec.{eqb}
 use borrow.Author.Tests.{ne_eqb, eqb-true}
+use Rattle.std.specs.Prelude.{Err}
 use Rattle.refusals.specs.declared.Refusal.{Refusal}
 use Rattle.refusals.specs.declared.Refusal.TheVariants.{OffForm}
 use Rattle.tables.specs.declared.Counts.{Counts}
@@ -14,7 +15,6 @@ use Rattle.tables.specs.Layout.{Tables, facts_room, costs_room, shares_room}
 use Rattle.text.specs.declared.Ctrl.{Ctrl}
 use Rattle.text.specs.declared.Halt.{Halt}
 use Rattle.text.specs.declared.Halt.TheVariants.{Going, Form}
-use Rattle.scan.specs.declared.Found.TheVariants.{Fault}
 use Rattle.grammar.specs.Grammar.{Verdict, refused, Rest, Part, ◌▸◌, demand, lit, choice, settled}
 use Rattle.text.specs.Inside.Area.{costs_byte, shares_byte, threes}
 use Rattle.text.specs.Inside.Control.{mk, part_key, going, up, spot_at, no_digits, first_turn, none_seen, stopped, part_begun, next_key, opened, St, field_end}
@@ -72,7 +72,7 @@ stays_ended : (c : Ctrl) (w : List ℕ) → going c.halt ≡ false → ended (mk
 unfolding ended
 stays_ended c w h = rw (stays c w no_byte h) (pick_same (eqb c.spot.field field_end) (mk c w))
 
-pub stops : (c : Ctrl) (k : Halt) (r : Refusal) (w t : List ℕ) → going k ≡ false → refusal_of k c.line ≡ Fault r → reading (stopped c k) w t ≡ refused r
+pub stops : (c : Ctrl) (k : Halt) (r : Refusal) (w t : List ℕ) → going k ≡ false → refusal_of k c.line ≡ Err r → reading (stopped c k) w t ≡ refused r
 unfolding reading told judged feed last_fault settled stopped
 stops c k r w [] h e = ap judged (stays_ended (stopped c k) w h) ∙ simp e
 stops c k r w (b ∷ t) h e = ap (λ (s : St). told (feed s t)) (stays (stopped c k) w b h) ∙ stops c k r w t h e
@@ -97,7 +97,7 @@ goes_on c d w u [] h e s = ap judged (ended_early c w h ∙ e ∙ sym (stays_end
 goes_on c d w u (b ∷ t) h e s = moves c d w u b t e
 
 pub stops_at : (c d : Ctrl) (w u t : List ℕ) (k : Halt) (r : Refusal) → (c.spot.field ≡ field_end → ⊥) → byte_read (mk c w) (next t) ≡ mk (stopped d k) u
-    → going k ≡ false → refusal_of k d.line ≡ Fault r → reading c w t ≡ refused r
+    → going k ≡ false → refusal_of k d.line ≡ Err r → reading c w t ≡ refused r
 unfolding stopped
 stops_at c d w u t k r h e n q = goes_on c (stopped d k) w u t h e (λ z. n) ∙ stops d k r u (behind t) n q
 

@@ -9,8 +9,8 @@ use lib.Dec.{leb, eqb}
 use borrow.Author.Tests.{ne_eqb, eqb-true, eqb-false, le-leb}
 use Rattle.tables.specs.declared.Counts.{Counts}
 use Rattle.tables.specs.Layout.{Tables}
-use Rattle.text.specs.declared.Ctrl.{Ctrl}
 use Rattle.text.specs.declared.Halt.TheVariants.{Going, Order}
+use Rattle.text.specs.declared.Ctrl.{Ctrl}
 use Rattle.grammar.specs.Fields.{comma}
 use Rattle.grammar.specs.Grammar.{Rest, ◌▸◌, keep, lit, fits, numeral, parted, number_row}
 use Rattle.text.specs.Inside.Area.{area_room, put_byte, put_word, dom_in}

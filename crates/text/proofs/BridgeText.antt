@@ -5,10 +5,9 @@ use mathlib.Core.Path.{◌≡◌, refl, ap, ◌∙◌}
 use mathlib.Core.List.{List, [], ◌∷◌}
 use lib.ListN.{length, get_or, take, replicate, length-replicate}
 use borrow.Author.Tests.{ne_eqb}
+use Rattle.scan.specs.Found.{Found}
+use Rattle.std.specs.Prelude.{Ok, Err}
 use Rattle.tables.specs.declared.Counts.{Counts}
-use Rattle.scan.specs.declared.Found.{Found}
-use Rattle.scan.specs.declared.Found.TheVariants.{Clean, Fault}
-use Rattle.text.specs.declared.Halt.TheVariants.{Form}
 use Rattle.tables.specs.Layout.{Tables, facts_room, costs_room, shares_room}
 use Rattle.grammar.specs.Fields.{Outcome, admitted}
 use Rattle.grammar.specs.Grammar.{
@@ -31,6 +30,7 @@ use Rattle.grammar.specs.Grammar.{
   outcome,
   read_text,
 }
+use Rattle.text.specs.declared.Halt.TheVariants.{Form}
 use Rattle.text.specs.Inside.Area.{area_room, word_in, threes, costs_byte, shares_byte}
 use Rattle.text.specs.Inside.Control.{mk, start, stopped, St, field_edition, field_dom, field_maps, field_end}
 use Rattle.text.specs.Inside.Fields.{key_byte}
@@ -126,8 +126,8 @@ unfolding machine_end settled_as told judged outcome settled written tables_of
 machine_end_is s f c h = split (ended s) (last_fault (ended s))
   where
     split : (e : St) (d : Found) → left_behind d e f c h ≡ outcome (settled d (tables_of e.ctrl.counts e.area)) f c h
-    split e (Fault r) = refl
-    split e Clean = refl
+    split e (Err r) = refl
+    split e (Ok tt) = refl
 
 pub read_bytes : (text f c s : List ℕ) → Bytes text → read_all text f c s ≡ read_text text f c s
 unfolding read_all machine_read read_text reading

@@ -10,13 +10,12 @@ use mathlib.Core.Bool.{Bool, true, false, cond}
 use mathlib.Core.List.{List, [], ◌∷◌, append-nil}
 use lib.ListN.{length, get_or, take, drop, get_or-eq_default}
 use lib.Seq.{drop-cons, take_all}
+use Rattle.std.specs.Prelude.{Ok, Err}
+use Rattle.scan.specs.Found.{Found, clean}
 use Rattle.meaning.specs.Views.{every}
 use Rattle.meaning.proofs.Facts.{every_true}
 use Rattle.refusals.specs.declared.Refusal.{Refusal}
 use Rattle.tables.specs.Layout.{facts_room, costs_room, shares_room}
-use Rattle.scan.specs.declared.Found.{Found}
-use Rattle.scan.specs.declared.Found.TheVariants.{Clean, Fault}
-use Rattle.grammar.specs.declared.Reading.TheVariants.{Accepted, Refused}
 use Rattle.grammar.specs.Fields.{leaves, filled}
 use Rattle.text.specs.Inside.Area.{threes, costs_byte, shares_byte}
 use Rattle.text.specs.Inside.Control.{St}
@@ -63,12 +62,12 @@ table_else fs l h f n = split (ltb f (length l)) refl
 
 -- what a reading that is over leaves behind: nothing on a refusal, else the tables
 module _ (s : St) (facts costs shares : List ℕ) (o : Found) (told : o ≡ last_fault s) where
-  pub settled_refused : (r : Refusal) → o ≡ Fault r → leaves (Refused r) facts costs shares ≡ settled_as s facts costs shares
+  pub settled_refused : (r : Refusal) → o ≡ Err r → leaves (Err r) facts costs shares ≡ settled_as s facts costs shares
   unfolding settled_as
   settled_refused r e = rw (← told, e)
 
-  pub settled_accepted : (f k h : List ℕ) → o ≡ Clean → f ≡ filled facts_room (take facts_room s.area) facts → k ≡ filled costs_room (threes costs_room costs_byte s.area) costs
-      → h ≡ filled shares_room (threes shares_room shares_byte s.area) shares → leaves (Accepted s.ctrl.counts) f k h ≡ settled_as s facts costs shares
+  pub settled_accepted : (f k h : List ℕ) → o ≡ clean → f ≡ filled facts_room (take facts_room s.area) facts → k ≡ filled costs_room (threes costs_room costs_byte s.area) costs
+      → h ≡ filled shares_room (threes shares_room shares_byte s.area) shares → leaves (Ok s.ctrl.counts) f k h ≡ settled_as s facts costs shares
   unfolding settled_as written
   settled_accepted f k h e a b d = rw (← told, e, a, b, d)
 

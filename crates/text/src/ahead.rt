@@ -1,17 +1,17 @@
 // Numbers read ahead: those that stand whole in the piece, without a fault, each with the comma after it and a byte more. They are read in loops over a few
 // words; what is in doubt, a fault or the last of a list, is left to the step of one byte.
-ghost use Rattle.std.specs.Prelude.{true, ◌≡◌, ◌<◌, length};
-ghost use Rattle.text.specs.Inside.Ahead.{Onward, Due, NoneSeen, facts_place, FactsRead, FactHere, ClassesRead, ClassHere, SharesRead, Numbered, ShareHere};
+ghost use Rattle.std.specs.Prelude.{true, ◌≡◌, ◌+◌, ◌<◌, length, IfSome, MatchOption};
+ghost use Rattle.text.specs.Inside.Ahead.{digit_at, Onward, Due, NoneSeen, facts_place, FactsRead, FactHere, ClassesRead, ClassHere, SharesRead, Numbered, ShareHere};
 ghost use Rattle.text.specs.Inside.Control.{mk, due, field_class, field_share};
 
-use crate::area::{put_byte, put_word, values_of, wide, word};
+use crate::area::{put_byte, put_word, values_of};
 use crate::control::{NONE_SEEN, goes_on, one_more};
 use crate::mask::add_class;
 use crate::names::{
     COLON, COMMA, FIELD_CLASS, FIELD_EFF_VAR, FIELD_GOAL_VAR, FIELD_PRE_VAR, FIELD_SHARE,
     PART_NUMBER, RUN_NONE,
 };
-use crate::numbers::{NO_DIGIT, Run, digit_at, number_from};
+use crate::numbers::{Run, digit_at, number_from};
 use crate::places::{class_place, eff_place, goal_place, pre_place, share_byte};
 use crate::{Ctrl, Seen, Turn};
 use meaning::limits::COST_MOST;
@@ -24,132 +24,111 @@ pub struct Ahead {
     pub seen: Seen,
 }
 
-// How far the items of a loop reach, the next of them, and the classes seen.
+// How far the items of a loop reach, and the next of them.
 #[derive(Clone, Copy)]
 pub struct Items {
     pub at: usize,
     pub next: u32,
+}
+
+// The same of classes, and those seen.
+#[derive(Clone, Copy)]
+pub struct Classes {
+    pub items: Items,
     pub mask: u32,
+}
+
+// A fact of a list: the variable and its value.
+#[derive(Clone, Copy)]
+pub struct Fact {
+    pub var: u32,
+    pub val: u32,
 }
 
 // A number is due, and nothing of it is read.
 pub fn number_due(c: Ctrl) -> bool
     ensures { result ≡ true → Due c }
 {
-    let k = c.halt;
-    if !goes_on(k) {
-        return false;
-    }
-    if c.spot.part != PART_NUMBER {
-        return false;
-    }
-    if c.digits.run != RUN_NONE {
-        return false;
-    }
-    if c.digits.val != 0 {
-        return false;
-    }
-    c.spot.key == 0
+    goes_on(c.halt)
+        && c.spot.part == PART_NUMBER
+        && c.digits.run == RUN_NONE
+        && c.digits.val == 0
+        && c.spot.key == 0
 }
 
 // No variable's classes are read.
 pub fn none_seen(c: Ctrl) -> bool
     ensures { result ≡ true → NoneSeen c }
 {
-    if c.turn.var != 0 {
-        return false;
-    }
-    if c.seen.mask != 0 {
-        return false;
-    }
-    c.seen.prod == 1
+    c.turn.var == 0 && c.seen.mask == 0 && c.seen.prod == 1
 }
 
 // Nothing was read ahead.
 pub fn stay(c: Ctrl, i: usize) -> Ahead
     ensures { (result.at ≡ i) × (result.turn ≡ c.turn) × (result.seen ≡ c.seen) }
 {
-    let turn = c.turn;
-    let seen = c.seen;
     Ahead {
         at: i,
-        turn: turn,
-        seen: seen,
+        turn: c.turn,
+        seen: c.seen,
     }
 }
 
-// Where the facts of a list begin in the area, by the field of its variables; 0 for all other fields.
-pub fn facts_place(f: u32, o: u32) -> usize
-    ensures { (result ≡ facts_place f o) × (result < 1099511627776) }
+// Where the facts of a list begin in the area, by the field of its variables.
+#[tactic(auto, unfolding(crate::specs::Inside::Ahead::facts_place))]
+pub fn facts_place(f: u32, o: u32) -> Option<usize>
+    ensures { MatchOption result (facts_place f o ≡ 0) (λ p. (facts_place f o ≡ p) × (0 < p) × (p < 1099511627776)) }
 {
     match f {
-        FIELD_GOAL_VAR => goal_place(0),
-        FIELD_PRE_VAR => pre_place(o, 0),
-        FIELD_EFF_VAR => eff_place(o, 0),
-        _ => 0,
+        FIELD_GOAL_VAR => Some(goal_place(0)),
+        FIELD_PRE_VAR => Some(pre_place(o, 0)),
+        FIELD_EFF_VAR => Some(eff_place(o, 0)),
+        _ => None,
     }
 }
 
 // A fact of one digit each, in range and order, its comma, and a byte more.
-pub fn fact_here(s: &[u8], i: usize, w: &[u8], vars: u32, least: u32) -> bool
+pub fn fact_here(s: &[u8], i: usize, w: &[u8], vars: u32, least: u32) -> Option<Fact>
     requires { i < length s.now }
-    ensures { result ≡ true → FactHere s.now i w.now vars least }
+    ensures { IfSome result (λ f. FactHere s.now i w.now vars least × (digit_at s.now i ≡ f.var) × (digit_at s.now (i + 2) ≡ f.val)) }
 {
     if s.len() - i < 5 {
-        return false;
+        return None;
     }
-    let v = digit_at(s, i);
-    let x = digit_at(s, i + 2);
-    if NO_DIGIT <= v {
-        return false;
+    let var = digit_at(s, i)?;
+    let val = digit_at(s, i + 2)?;
+    if u32::from(s[i + 1]) != COLON || u32::from(s[i + 3]) != COMMA {
+        return None;
     }
-    if NO_DIGIT <= x {
-        return false;
+    if vars <= var || var < least || values_of(w, var) <= val {
+        return None;
     }
-    if word(s[i + 1]) != COLON {
-        return false;
-    }
-    if word(s[i + 3]) != COMMA {
-        return false;
-    }
-    if vars <= v {
-        return false;
-    }
-    if v < least {
-        return false;
-    }
-    x < values_of(w, v)
+    Some(Fact { var, val })
 }
 
 // The facts of a list from i on, the first of them of a variable from `least` on. Here and below the loop has words of its own, and not the control: so they
-// stay in registers.
+// stay in registers; and it is a `while` over a cursor, which moves on by as many bytes as an item has.
 pub fn facts_ahead(s: &[u8], i: usize, w: &mut [u8], place: usize, vars: u32, least: u32) -> Items
     requires { (i < length s.now) × (place < 1099511627776) }
     ensures { FactsRead s.now place vars i least w.old result.at result.next w.new }
 {
     let mut at = i;
     let mut next = least;
-    while fact_here(s, at, w, vars, next) {
-        let v = digit_at(s, at);
-        put_byte(w, place + wide(v), one_more(digit_at(s, at + 2)));
-        next = one_more(v);
+    while let Some(f) = fact_here(s, at, w, vars, next) {
+        put_byte(w, place + f.var as usize, one_more(f.val));
+        next = one_more(f.var);
         at += 4;
     }
-    Items {
-        at: at,
-        next: next,
-        mask: 0,
-    }
+    Items { at, next }
 }
 
 pub fn facts_due(c: Ctrl, s: &[u8], i: usize, w: &mut [u8]) -> Ahead
     requires { Due c × NoneSeen c × (i < length s.now) }
     ensures { Onward s.now (mk c w.old) i (mk (due c c.spot.field result.turn result.seen) w.new) result.at }
 {
-    let place = facts_place(c.spot.field, c.spot.row);
-    if place == 0 {
+    let Some(place) = facts_place(c.spot.field, c.spot.row) else {
         return stay(c, i);
-    }
+    };
     if c.turn.item != 0 {
         return stay(c, i);
     }
@@ -166,24 +145,18 @@ pub fn facts_due(c: Ctrl, s: &[u8], i: usize, w: &mut [u8]) -> Ahead
 }
 
 // A class of one digit, in range and not its variable's last, its comma, and a byte more.
-pub fn class_here(s: &[u8], i: usize, values: u32, item: u32) -> bool
+pub fn class_here(s: &[u8], i: usize, values: u32, item: u32) -> Option<u32>
     requires { i < length s.now }
-    ensures { result ≡ true → ClassHere s.now i values item }
+    ensures { IfSome result (λ x. ClassHere s.now i values item × (digit_at s.now i ≡ x)) }
 {
     if s.len() - i < 3 {
-        return false;
+        return None;
     }
-    let x = digit_at(s, i);
-    if NO_DIGIT <= x {
-        return false;
+    let class = digit_at(s, i)?;
+    if u32::from(s[i + 1]) != COMMA || values <= class || values <= one_more(item) {
+        return None;
     }
-    if word(s[i + 1]) != COMMA {
-        return false;
-    }
-    if values <= x {
-        return false;
-    }
-    one_more(item) < values
+    Some(class)
 }
 
 // The classes of a variable from that of value `item` on, after those of the mask `seen`.
@@ -195,24 +168,22 @@ pub fn classes_ahead(
     var: u32,
     item: u32,
     seen: u32,
-) -> Items
+) -> Classes
     requires { i < length s.now }
-    ensures { ClassesRead s.now row var i item seen w.old result.at result.next result.mask w.new }
+    ensures { ClassesRead s.now row var i item seen w.old result.items.at result.items.next result.mask w.new }
 {
     let mut at = i;
     let mut next = item;
     let mut mask = seen;
-    while class_here(s, at, values_of(w, var), next) {
-        let x = digit_at(s, at);
+    while let Some(x) = class_here(s, at, values_of(w, var), next) {
         put_byte(w, class_place(row, var, next), x);
         mask = add_class(mask, x);
         next = one_more(next);
         at += 2;
     }
-    Items {
-        at: at,
-        next: next,
-        mask: mask,
+    Classes {
+        items: Items { at, next },
+        mask,
     }
 }
 
@@ -225,38 +196,32 @@ pub fn classes_due(c: Ctrl, s: &[u8], i: usize, w: &mut [u8]) -> Ahead
     }
     let n = classes_ahead(s, i, w, c.spot.row, c.turn.var, c.turn.item, c.seen.mask);
     Ahead {
-        at: n.at,
+        at: n.items.at,
         turn: Turn {
             var: c.turn.var,
             least: 0,
-            item: n.next,
+            item: n.items.next,
         },
         seen: Seen {
             mask: n.mask,
-            prod: c.seen.prod,
+            ..c.seen
         },
     }
 }
 
-// The number from i on is a share and not its row's last, with its comma and a byte more.
-pub fn share_here(s: &[u8], i: usize, r: Run, item: u32, ops: u32) -> bool
-    requires { Numbered s.now i r.at r.val }
-    ensures { result ≡ true → ShareHere s.now i r.at r.val item ops }
+// The number from i on, if it is a share and not its row's last, with its comma and a byte more.
+pub fn share_here(s: &[u8], i: usize, item: u32, ops: u32) -> Option<Run>
+    requires { i < length s.now }
+    ensures { IfSome result (λ r. Numbered s.now i r.at r.val × ShareHere s.now i r.at r.val item ops) }
 {
-    let j = r.at;
-    if j == i {
-        return false;
+    let r = number_from(s, i)?;
+    if s.len() - r.at < 2 || u32::from(s[r.at]) != COMMA {
+        return None;
     }
-    if s.len() - j < 2 {
-        return false;
+    if COST_MOST < r.val || ops <= one_more(item) {
+        return None;
     }
-    if word(s[j]) != COMMA {
-        return false;
-    }
-    if COST_MOST < r.val {
-        return false;
-    }
-    one_more(item) < ops
+    Some(r)
 }
 
 // The shares of a row from that of operator `item` on.
@@ -266,18 +231,12 @@ pub fn shares_ahead(s: &[u8], i: usize, w: &mut [u8], row: u32, ops: u32, item: 
 {
     let mut at = i;
     let mut next = item;
-    let mut r = number_from(s, i);
-    while share_here(s, at, r, next, ops) {
+    while let Some(r) = share_here(s, at, next, ops) {
         put_word(w, share_byte(row, next), r.val);
         next = one_more(next);
         at = r.at + 1;
-        r = number_from(s, at);
     }
-    Items {
-        at: at,
-        next: next,
-        mask: 0,
-    }
+    Items { at, next }
 }
 
 pub fn shares_due(c: Ctrl, s: &[u8], i: usize, w: &mut [u8]) -> Ahead

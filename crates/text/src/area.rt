@@ -2,24 +2,10 @@
 ghost use Rattle.std.specs.Prelude.{◌≡◌, ◌+◌, ◌<◌, get_or};
 ghost use Rattle.text.specs.Inside.Area.{put_byte, word_in, put_word, dom_in};
 
-pub fn wide(x: u32) -> usize
-    ensures { result ≡ x }
-{
-    x as usize
-}
+use tables::readers::get_or;
 
-pub fn word(x: u8) -> u32
-    ensures { (result ≡ x) × (result < 256) }
-{
-    x as u32
-}
-
-pub fn byte_at(w: &[u8], i: usize) -> u8
-    ensures { result ≡ get_or w.now i 0 }
-{
-    if i < w.len() { w[i] } else { 0 }
-}
-
+// A test and no `get_mut`: after that a proof speaks of the place only by names that Rattle makes, and none was found.
+#[tactic(auto, unfolding(crate::specs::Inside::Area::put_byte))]
 pub fn put_byte(w: &mut [u8], i: usize, v: u32)
     ensures { w.new ≡ put_byte w.old i v }
 {
@@ -29,16 +15,18 @@ pub fn put_byte(w: &mut [u8], i: usize, v: u32)
 }
 
 // A number in 3 bytes, the lowest first.
+#[tactic(auto, unfolding(crate::specs::Inside::Area::word_in))]
 pub fn word_at(w: &[u8], i: usize) -> u32
     requires { i < 1099511627776 }
     ensures { (result ≡ word_in w.now i) × (result < 16777216) }
 {
-    let a = word(byte_at(w, i));
-    let b = word(byte_at(w, i + 1));
-    let c = word(byte_at(w, i + 2));
+    let a = u32::from(get_or(w, i, 0));
+    let b = u32::from(get_or(w, i + 1, 0));
+    let c = u32::from(get_or(w, i + 2, 0));
     a + 256 * b + 65536 * c
 }
 
+#[tactic(auto, unfolding(crate::specs::Inside::Area::put_word))]
 pub fn put_word(w: &mut [u8], i: usize, v: u32)
     requires { i < 1099511627776 }
     ensures { w.new ≡ put_word w.old i v }
@@ -52,5 +40,5 @@ pub fn put_word(w: &mut [u8], i: usize, v: u32)
 pub fn values_of(w: &[u8], v: u32) -> u32
     ensures { result ≡ dom_in w.now v }
 {
-    word(byte_at(w, wide(v)))
+    u32::from(get_or(w, v as usize, 0))
 }

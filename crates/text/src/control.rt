@@ -16,6 +16,9 @@ ghost use Rattle.text.specs.Inside.Control.{
   row_or,
   next_line,
   list_no,
+  goal_list,
+  pre_list,
+  eff_list,
   ends_operator,
   field_maps,
   field_cost,
@@ -25,9 +28,10 @@ ghost use Rattle.text.specs.Inside.Control.{
 ghost use Rattle.tables.specs.Editions.{has_quota};
 
 use crate::names::{
-    COUNT_CAP, EFF_LIST, FIELD_CLASS, FIELD_COST, FIELD_EDITION, FIELD_END, FIELD_MAPS, FIELD_MARK,
-    FIELD_OPS, FIELD_QUOTA, FIELD_SHARE, GOAL_LIST, PART_AFTER_DASH, PART_DASH_DUE, PART_KEY,
-    PART_NUMBER, RUN_NONE,
+    COUNT_CAP, FIELD_CLASS, FIELD_COST, FIELD_EDITION, FIELD_EFF_VAL, FIELD_EFF_VAR, FIELD_END,
+    FIELD_GOAL_VAL, FIELD_GOAL_VAR, FIELD_MAPS, FIELD_MARK, FIELD_OPS, FIELD_PRE_VAL,
+    FIELD_PRE_VAR, FIELD_QUOTA, FIELD_SHARE, PART_AFTER_DASH, PART_DASH_DUE, PART_KEY, PART_NUMBER,
+    RUN_NONE,
 };
 use crate::{Ctrl, Digits, Halt, Seen, Spot, Turn};
 use meaning::limits::QUOTA_EDITION;
@@ -50,15 +54,7 @@ pub const NONE_SEEN: Seen = Seen { mask: 0, prod: 1 };
 pub fn goes_on(k: Halt) -> bool
     ensures { result ≡ going k }
 {
-    match k {
-        Halt::Going => true,
-        Halt::Form => false,
-        Halt::Range => false,
-        Halt::Order => false,
-        Halt::Missing => false,
-        Halt::States => false,
-        Halt::Idle => false,
-    }
+    matches!(k, Halt::Going)
 }
 
 // One more, for counts that stay far below a cap.
@@ -69,11 +65,11 @@ pub fn one_more(x: u32) -> u32
 }
 
 // The control before the first byte.
+#[tactic(auto, unfolding(crate::specs::Inside::Control::start))]
 pub fn start_of_text() -> Ctrl
     ensures { result ≡ start }
 {
     Ctrl {
-        halt: Halt::Going,
         line: 1,
         spot: Spot {
             part: PART_KEY,
@@ -91,34 +87,22 @@ pub fn start_of_text() -> Ctrl
             edition: 0,
             quota: 0,
         },
+        halt: Halt::Going,
     }
 }
 
+#[tactic(auto, unfolding(crate::specs::Inside::Control::stopped))]
 pub fn stop(c: Ctrl, k: Halt) -> Ctrl
     ensures { result ≡ stopped c k }
 {
-    let spot = c.spot;
-    let digits = c.digits;
-    let turn = c.turn;
-    let seen = c.seen;
-    let counts = c.counts;
-    Ctrl {
-        halt: k,
-        line: c.line,
-        spot: spot,
-        digits: digits,
-        turn: turn,
-        seen: seen,
-        counts: counts,
-    }
+    Ctrl { halt: k, ..c }
 }
 
+#[tactic(auto, unfolding(crate::specs::Inside::Control::part_begun))]
 pub fn begin_part(c: Ctrl, l: u32, p: u32, f: u32, r: u32) -> Ctrl
     ensures { result ≡ part_begun c l p f r }
 {
-    let counts = c.counts;
     Ctrl {
-        halt: Halt::Going,
         line: l,
         spot: Spot {
             part: p,
@@ -129,47 +113,45 @@ pub fn begin_part(c: Ctrl, l: u32, p: u32, f: u32, r: u32) -> Ctrl
         digits: NO_DIGITS,
         turn: FIRST_TURN,
         seen: NONE_SEEN,
-        counts: counts,
+        halt: Halt::Going,
+        ..c
     }
 }
 
+#[tactic(auto, unfolding(crate::specs::Inside::Control::due))]
 pub fn await_number(c: Ctrl, f: u32, t: Turn, s: Seen) -> Ctrl
     ensures { result ≡ due c f t s }
 {
-    let counts = c.counts;
     Ctrl {
-        halt: Halt::Going,
-        line: c.line,
         spot: Spot {
             part: PART_NUMBER,
             field: f,
             key: 0,
-            row: c.spot.row,
+            ..c.spot
         },
         digits: NO_DIGITS,
         turn: t,
         seen: s,
-        counts: counts,
+        halt: Halt::Going,
+        ..c
     }
 }
 
+#[tactic(auto, unfolding(crate::specs::Inside::Control::next_key))]
 pub fn next_key(c: Ctrl) -> Ctrl
     ensures { result ≡ next_key c }
 {
-    let counts = c.counts;
     Ctrl {
-        halt: Halt::Going,
-        line: c.line,
         spot: Spot {
             part: PART_KEY,
-            field: c.spot.field,
             key: one_more(c.spot.key),
-            row: c.spot.row,
+            ..c.spot
         },
         digits: NO_DIGITS,
         turn: FIRST_TURN,
         seen: NONE_SEEN,
-        counts: counts,
+        halt: Halt::Going,
+        ..c
     }
 }
 
@@ -177,51 +159,44 @@ pub fn next_key(c: Ctrl) -> Ctrl
 pub fn first_part(c: Ctrl) -> u32
     ensures { result ≡ first_part c }
 {
-    if c.spot.field == FIELD_SHARE {
-        if c.counts.ops == 0 {
-            PART_DASH_DUE
-        } else {
-            PART_NUMBER
-        }
+    if c.spot.field == FIELD_SHARE && c.counts.ops == 0 {
+        PART_DASH_DUE
     } else {
         PART_NUMBER
     }
 }
 
+#[tactic(auto, unfolding(crate::specs::Inside::Control::opened))]
 pub fn open_line(c: Ctrl) -> Ctrl
     ensures { result ≡ opened c }
 {
     begin_part(c, c.line, first_part(c), c.spot.field, c.spot.row)
 }
 
+#[tactic(auto, unfolding(crate::specs::Inside::Control::with_digit))]
 pub fn grow(c: Ctrl, r: u32, v: u32) -> Ctrl
     ensures { result ≡ with_digit c r v }
 {
-    let turn = c.turn;
-    let seen = c.seen;
-    let counts = c.counts;
     Ctrl {
-        halt: Halt::Going,
-        line: c.line,
         spot: Spot {
             part: PART_NUMBER,
-            field: c.spot.field,
             key: 0,
-            row: c.spot.row,
+            ..c.spot
         },
         digits: Digits { run: r, val: v },
-        turn: turn,
-        seen: seen,
-        counts: counts,
+        halt: Halt::Going,
+        ..c
     }
 }
 
+#[tactic(auto, unfolding(crate::specs::Inside::Control::dashed))]
 pub fn take_dash(c: Ctrl) -> Ctrl
     ensures { result ≡ dashed c }
 {
     begin_part(c, c.line, PART_AFTER_DASH, c.spot.field, c.spot.row)
 }
 
+#[tactic(auto, unfolding(crate::specs::Inside::Control::to_line))]
 pub fn to_line(c: Ctrl, f: u32, r: u32) -> Ctrl
     ensures { result ≡ to_line c f r }
 {
@@ -229,6 +204,7 @@ pub fn to_line(c: Ctrl, f: u32, r: u32) -> Ctrl
 }
 
 // Another row of field f, or field g after the last of n rows.
+#[tactic(auto, unfolding(crate::specs::Inside::Control::row_or))]
 pub fn row_or(c: Ctrl, n: u32, f: u32, g: u32) -> Ctrl
     ensures { result ≡ row_or c n f g }
 {
@@ -240,10 +216,23 @@ pub fn row_or(c: Ctrl, n: u32, f: u32, g: u32) -> Ctrl
     }
 }
 
-pub fn list_of(f: u32) -> u32
-    ensures { result ≡ list_no f }
+// The field is of the goal's facts, of an operator's preconditions, of its effects.
+pub fn in_goal(f: u32) -> bool
+    ensures { result ≡ eqb (list_no f) goal_list }
 {
-    f / 2
+    f == FIELD_GOAL_VAR || f == FIELD_GOAL_VAL
+}
+
+pub fn in_preconditions(f: u32) -> bool
+    ensures { result ≡ eqb (list_no f) pre_list }
+{
+    f == FIELD_PRE_VAR || f == FIELD_PRE_VAL
+}
+
+pub fn in_effects(f: u32) -> bool
+    ensures { result ≡ eqb (list_no f) eff_list }
+{
+    f == FIELD_EFF_VAR || f == FIELD_EFF_VAL
 }
 
 // After ops=: the first operator's line, or the maps where there is none.
@@ -272,34 +261,20 @@ pub fn after_goal(c: Ctrl) -> Ctrl
 pub fn ends_operator(f: u32) -> bool
     ensures { result ≡ ends_operator f }
 {
-    if list_of(f) == EFF_LIST {
-        true
-    } else {
-        f == FIELD_MARK
-    }
+    in_effects(f) || f == FIELD_MARK
 }
 
+#[tactic(auto, unfolding(crate::specs::Inside::Control::next_line))]
 pub fn next_line(c: Ctrl) -> Ctrl
     ensures { result ≡ next_line c }
 {
-    let f = c.spot.field;
-    if f == FIELD_OPS {
-        return after_ops(c);
+    match c.spot.field {
+        FIELD_OPS => after_ops(c),
+        FIELD_CLASS => row_or(c, c.counts.maps, FIELD_CLASS, FIELD_SHARE),
+        FIELD_SHARE => row_or(c, c.counts.maps, FIELD_SHARE, FIELD_END),
+        FIELD_QUOTA => to_line(c, FIELD_OPS, 0),
+        f if in_goal(f) => after_goal(c),
+        f if ends_operator(f) => row_or(c, c.counts.ops, FIELD_COST, FIELD_MAPS),
+        f => to_line(c, one_more(f), 0),
     }
-    if f == FIELD_CLASS {
-        return row_or(c, c.counts.maps, FIELD_CLASS, FIELD_SHARE);
-    }
-    if f == FIELD_SHARE {
-        return row_or(c, c.counts.maps, FIELD_SHARE, FIELD_END);
-    }
-    if list_of(f) == GOAL_LIST {
-        return after_goal(c);
-    }
-    if f == FIELD_QUOTA {
-        return to_line(c, FIELD_OPS, 0);
-    }
-    if ends_operator(f) {
-        return row_or(c, c.counts.ops, FIELD_COST, FIELD_MAPS);
-    }
-    to_line(c, one_more(f), 0)
 }

@@ -1,5 +1,5 @@
 // What the end of the text says.
-ghost use Rattle.std.specs.Prelude.{◌≡◌, ◌≤◌, min, length};
+ghost use Rattle.std.specs.Prelude.{◌≡◌, ◌≤◌, length};
 ghost use Rattle.meaning.specs.Limits.{most_maps};
 ghost use Rattle.tables.specs.Layout.{facts_room, costs_room, shares_room};
 ghost use Rattle.meaning.specs.Split.{sum};
@@ -14,33 +14,26 @@ use crate::names::{AREA_ROOM, COSTS_BYTE, SHARES_BYTE};
 use crate::places::{cost_byte, share_byte};
 use crate::step::end_text;
 use crate::{Ctrl, Halt};
-use grammar::Reading;
 use meaning::OpNo;
 use meaning::limits::{MAPS_MOST, OPS_MOST};
 use refusals::Refusal;
-use scan::Found;
+use tables::Counts;
 use tables::lines::op_line;
 use tables::readers::{COSTS_ROOM, FACTS_ROOM, SHARES_ROOM};
 
 // What a reading that stopped in line l is refused with; nothing while it goes on.
-pub fn refusal_of(k: Halt, l: u32) -> Found
+pub fn refusal_of(k: Halt, l: u32) -> Result<(), Refusal>
     ensures { result ≡ refusal_of k l }
 {
     match k {
-        Halt::Going => Found::Clean,
-        Halt::Form => Found::Fault(Refusal::OffForm(l)),
-        Halt::Range => Found::Fault(Refusal::OutOfRange(l)),
-        Halt::Order => Found::Fault(Refusal::NotRising(l)),
-        Halt::Missing => Found::Fault(Refusal::ClassMissing(l)),
-        Halt::States => Found::Fault(Refusal::TooManyStates(l)),
-        Halt::Idle => Found::Fault(Refusal::IdleOperator(l)),
+        Halt::Going => Ok(()),
+        Halt::Form => Err(Refusal::OffForm(l)),
+        Halt::Range => Err(Refusal::OutOfRange(l)),
+        Halt::Order => Err(Refusal::NotRising(l)),
+        Halt::Missing => Err(Refusal::ClassMissing(l)),
+        Halt::States => Err(Refusal::TooManyStates(l)),
+        Halt::Idle => Err(Refusal::IdleOperator(l)),
     }
-}
-
-pub fn at_most(x: u32, n: u32) -> u32
-    ensures { result ≡ min x n }
-{
-    if x < n { x } else { n }
 }
 
 // An operator's shares in all maps together.
@@ -49,61 +42,62 @@ pub fn share_total(w: &[u8], maps: u32, o: u32) -> u32
     ensures { result ≡ sum (λ m. share_in w.now m o) maps }
 {
     let mut total = 0;
-    let mut m = 0;
-    while m < maps {
+    for m in 0..maps {
         total += word_at(w, share_byte(m, o));
-        m += 1;
     }
     total
 }
 
 // The lowest operator whose shares total above its cost.
-pub fn over_fault(c: Ctrl, w: &[u8]) -> Found
+pub fn over_fault(c: Ctrl, w: &[u8]) -> Result<(), Refusal>
     ensures { result ≡ over (mk c w.now) }
 {
-    let maps = at_most(c.counts.maps, MAPS_MOST);
-    let ops = at_most(c.counts.ops, OPS_MOST);
-    let mut o = 0;
-    while o < ops {
+    let maps = c.counts.maps.min(MAPS_MOST);
+    let ops = c.counts.ops.min(OPS_MOST);
+    for o in 0..ops {
         if word_at(w, cost_byte(o)) < share_total(w, maps, o) {
-            return Found::Fault(Refusal::SharesAboveCost(op_line(c.counts.edition, OpNo(o))));
+            return Err(Refusal::SharesAboveCost(op_line(c.counts.edition, OpNo(o))));
         }
-        o += 1;
     }
-    Found::Clean
+    Ok(())
 }
 
 // What the text is refused with at its end, if anything.
-pub fn last_fault(c: Ctrl, w: &[u8]) -> Found
+#[tactic(auto, unfolding(crate::specs::Inside::End::last_fault))]
+pub fn last_fault(c: Ctrl, w: &[u8]) -> Result<(), Refusal>
     ensures { result ≡ last_fault (mk c w.now) }
 {
-    let k = c.halt;
-    let found = refusal_of(k, c.line);
-    let Found::Clean = found else {
-        return found;
-    };
+    refusal_of(c.halt, c.line)?;
     over_fault(c, w)
 }
 
 // What a reading that is over leaves behind: the answer, and the lent tables on acceptance only.
-pub fn settle(e: Ctrl, w: &[u8], facts: &mut [u8], costs: &mut [u32], shares: &mut [u32]) -> Reading
+pub fn settle(
+    e: Ctrl,
+    w: &[u8],
+    facts: &mut [u8],
+    costs: &mut [u32],
+    shares: &mut [u32],
+) -> Result<Counts, Refusal>
     requires { (facts_room ≤ length w.now) × (facts_room ≤ length facts.old) × (costs_room ≤ length costs.old) × (shares_room ≤ length shares.old) }
     ensures { leaves result facts.new costs.new shares.new ≡ settled_as (mk e w.now) facts.old costs.old shares.old }
 {
-    let found = last_fault(e, w);
-    if let Found::Fault(r) = found {
-        return Reading::Refused(r);
-    }
+    last_fault(e, w)?;
     fill_bytes(w, FACTS_ROOM, facts);
     fill_words(w, COSTS_ROOM, COSTS_BYTE, costs);
     fill_words(w, SHARES_ROOM, SHARES_BYTE, shares);
-    let n = e.counts;
-    Reading::Accepted(n)
+    Ok(e.counts)
 }
 
 // The end of the text. It is read in a copy of the area, so that the area itself stays as it was; and `settle` is called from one place, where the copy's length is
 // known, so that it is inlined.
-pub fn finish(c: Ctrl, w: &[u8], facts: &mut [u8], costs: &mut [u32], shares: &mut [u32]) -> Reading
+pub fn finish(
+    c: Ctrl,
+    w: &[u8],
+    facts: &mut [u8],
+    costs: &mut [u32],
+    shares: &mut [u32],
+) -> Result<Counts, Refusal>
     requires { (length w.now ≡ area_room) × (facts_room ≤ length facts.old) × (costs_room ≤ length costs.old) × (shares_room ≤ length shares.old) }
     ensures { leaves result facts.new costs.new shares.new ≡ machine_end (mk c w.now) facts.old costs.old shares.old }
 {

@@ -19,12 +19,13 @@ mod places;
 pub mod step;
 mod whole;
 
-use grammar::Reading;
+use refusals::Refusal;
 use tables::Counts;
 use whole::read_by_machine;
 
-// Why a reading stopped: off form, out of range, not rising, a class missing, too many states, an idle operator.
-#[derive(Clone, Copy)]
+// Whether a reading goes on, or why it stopped: off form, out of range, not rising, a class missing, too many states, an idle operator. One enum and no Option of one:
+// an Option is a byte more in the control, and with it the longest text was read an eighth slower.
+#[derive(Clone, Copy, PartialEq, Eq)]
 pub enum Halt {
     Going,
     Form,
@@ -35,7 +36,8 @@ pub enum Halt {
     Idle,
 }
 
-// Where in the text: the part of the line, the field, the place in its keyword, and the line's row among those of its kind.
+// Where in the text: the part of the line, the field, the place in its keyword, and the line's row among those of its kind. Part and field are numbers and no enums
+// because C is lent them as words (names.rt).
 #[derive(Clone, Copy)]
 pub struct Spot {
     pub part: u32,
@@ -79,7 +81,12 @@ pub struct Ctrl {
 }
 
 // Reads a task text into the lent tables: the task's counts, or why not. What is left behind is what the grammar says.
-pub fn read(text: &[u8], facts: &mut [u8], costs: &mut [u32], shares: &mut [u32]) -> Reading
+pub fn read(
+    text: &[u8],
+    facts: &mut [u8],
+    costs: &mut [u32],
+    shares: &mut [u32],
+) -> Result<Counts, Refusal>
     ensures { leaves result facts.new costs.new shares.new ≡ read_text text.now facts.old costs.old shares.old }
 {
     read_by_machine(text, facts, costs, shares)

@@ -4,7 +4,8 @@ ghost use Rattle.grammar.specs.Fields.{is_digit};
 
 use meaning::limits::STATES_MOST;
 
-// The parts of a line.
+// The parts of a line. These, the fields and the runs are numbers and no enums: C is lent them as words, hands in any word, and gets it back as it was (`so_far_in`
+// and `words_with` of crates/lent_texts).
 pub const PART_KEY: u32 = 0;
 
 pub const PART_NUMBER: u32 = 1;
@@ -50,13 +51,6 @@ pub const FIELD_MARK: u32 = 16;
 
 pub const FIELD_END: u32 = 17;
 
-// The lists of facts, two fields each.
-pub const GOAL_LIST: u32 = 2;
-
-pub const PRE_LIST: u32 = 4;
-
-pub const EFF_LIST: u32 = 5;
-
 // The digit run: before the first digit, after a single 0, after any other digits.
 pub const RUN_NONE: u32 = 0;
 
@@ -64,30 +58,7 @@ pub const RUN_ZERO: u32 = 1;
 
 pub const RUN_ON: u32 = 2;
 
-// What follows a number: its line's end, the next of a row over the variables, a fact's colon, more facts or their end, the
-// preconditions, the next class, the next share, the operator's end.
-pub const KIND_LINE: u32 = 0;
-
-pub const KIND_ROW: u32 = 1;
-
-pub const KIND_VAR: u32 = 2;
-
-pub const KIND_VAL: u32 = 3;
-
-pub const KIND_COST: u32 = 4;
-
-pub const KIND_CLASS: u32 = 5;
-
-pub const KIND_SHARE: u32 = 6;
-
-pub const KIND_MARK: u32 = 7;
-
-// A range that ends at the variable's number of values, and one that ends at the number of variables.
-pub const BY_VALUES: u32 = 0;
-
-pub const BY_VARS: u32 = 1;
-
-// The bytes.
+// The bytes, as words and no u8: `step_byte` and what it calls take any word, and their contracts say what follows on one that is no byte.
 pub const LINE_END: u32 = b'\n' as u32;
 
 pub const EQUALS: u32 = b'=' as u32;
@@ -106,9 +77,7 @@ pub const ZERO: u32 = b'0' as u32;
 
 pub const NINE: u32 = b'9' as u32;
 
-// The caps: of a digit run's value, above every range; of lines, rows and turns, above every count; of abstract states, one too many.
-pub const VALUE_CAP: u32 = 4294967295;
-
+// The caps: of lines, rows and turns, above every count; of abstract states, one too many.
 pub const COUNT_CAP: u32 = 1000000;
 
 pub const STATES_OVER: u32 = STATES_MOST + 1;
@@ -121,14 +90,15 @@ pub const SHARES_BYTE: usize = 1816;
 pub const AREA_ROOM: usize = 3352;
 
 // A byte that is a digit, and the number that it is.
+#[tactic(auto, unfolding(grammar::specs::Fields::is_digit))]
 pub fn is_digit(b: u32) -> bool
     ensures { result ≡ is_digit b }
 {
-    if ZERO <= b { b <= NINE } else { false }
+    ZERO <= b && b <= NINE
 }
 
 pub fn digit_of(b: u32) -> u32
     ensures { result ≡ b - 48 }
 {
-    if ZERO <= b { b - ZERO } else { 0 }
+    b.saturating_sub(ZERO)
 }

@@ -1,13 +1,9 @@
 // Digits and whole numbers of a piece.
-ghost use Rattle.std.specs.Prelude.{true, ◌≡◌, ◌≤◌, ◌<◌, length};
+ghost use Rattle.std.specs.Prelude.{◌≡◌, ◌≤◌, ◌<◌, length, IfSome, MatchOption};
 ghost use Rattle.text.specs.Inside.Ahead.{digit_at, DigitHere, Longer, Numbered};
 
-use crate::area::word;
 use crate::names::{digit_of, is_digit};
 use meaning::limits::COST_MOST;
-
-// No digit: above all digits.
-pub const NO_DIGIT: u32 = 10;
 
 // Where the digits of a number end, and their value.
 #[derive(Clone, Copy)]
@@ -16,54 +12,48 @@ pub struct Run {
     pub val: u32,
 }
 
-// The digit at a place, or NO_DIGIT.
-pub fn digit_at(s: &[u8], i: usize) -> u32
+// The digit at a place, if one stands there.
+#[tactic(auto, using(grammar::proofs::Runs::digit_both), unfolding(crate::specs::Inside::Ahead::digit_at))]
+pub fn digit_at(s: &[u8], i: usize) -> Option<u32>
     requires { i < length s.now }
-    ensures { result ≡ digit_at s.now i }
+    ensures { MatchOption result (digit_at s.now i ≡ 10) (λ d. (digit_at s.now i ≡ d) × (d < 10)) }
 {
-    let b = word(s[i]);
-    if is_digit(b) { digit_of(b) } else { NO_DIGIT }
+    let b = u32::from(s[i]);
+    if is_digit(b) { Some(digit_of(b)) } else { None }
 }
 
-// A digit stands at i, and the value v leaves room for it.
-pub fn digit_here(s: &[u8], i: usize, v: u32) -> bool
-    ensures { result ≡ true → DigitHere s.now i v }
+// The digit at a place, if one stands there and the value v leaves room for it.
+pub fn digit_here(s: &[u8], i: usize, v: u32) -> Option<u32>
+    ensures { IfSome result (λ d. DigitHere s.now i v × (digit_at s.now i ≡ d)) }
 {
-    if s.len() <= i {
-        return false;
+    if s.len() <= i || COST_MOST < v {
+        return None;
     }
-    if COST_MOST < v {
-        return false;
-    }
-    digit_at(s, i) < NO_DIGIT
+    digit_at(s, i)
 }
 
-// The digits from i on, after one that is no 0 and whose value is v; past every range they need not be read to their end.
+// The digits from i on, after one that is no 0 and whose value is v; past every range they need not be read to their end. The place is a cursor, so the loop is a `while`.
 pub fn longer_from(s: &[u8], i: usize, v: u32) -> Run
     requires { i ≤ length s.now }
     ensures { Longer s.now i v result.at result.val }
 {
-    let mut at = i;
-    let mut val = v;
-    while digit_here(s, at, val) {
-        val = 10 * val + digit_at(s, at);
-        at += 1;
+    let mut run = Run { at: i, val: v };
+    while let Some(d) = digit_here(s, run.at, run.val) {
+        run.val = 10 * run.val + d;
+        run.at += 1;
     }
-    Run { at: at, val: val }
+    run
 }
 
-// The number from i on; it ends at i if none stands there.
-pub fn number_from(s: &[u8], i: usize) -> Run
+// The number from i on, if one stands there.
+pub fn number_from(s: &[u8], i: usize) -> Option<Run>
     requires { i < length s.now }
-    ensures { Numbered s.now i result.at result.val }
+    ensures { IfSome result (λ r. (i < r.at) × Numbered s.now i r.at r.val) }
 {
-    let d = digit_at(s, i);
-    if NO_DIGIT <= d {
-        return Run { at: i, val: 0 };
-    }
+    let d = digit_at(s, i)?;
     if d == 0 {
-        Run { at: i + 1, val: 0 }
+        Some(Run { at: i + 1, val: 0 })
     } else {
-        longer_from(s, i + 1, d)
+        Some(longer_from(s, i + 1, d))
     }
 }

@@ -5,15 +5,15 @@ ghost use Rattle.text.specs.Inside.Steps.{in_key, more, run_with, digit_read, ru
 
 use crate::after::{after_part, expect};
 use crate::ahead::{items_ahead, number_due};
-use crate::area::word;
 use crate::control::{await_number, goes_on, grow, next_key, open_line, stop, take_dash};
-use crate::fields::{fault_of, key_byte, kind_of, note, store};
+use crate::fields::{Kind, fault_of, key_byte, kind_of, note, store};
 use crate::names::{
-    DASH, EQUALS, FIELD_END, KIND_VAR, PART_AFTER_DASH, PART_KEY, PART_NUMBER, RUN_NONE, RUN_ON,
-    RUN_ZERO, VALUE_CAP, digit_of, is_digit,
+    DASH, EQUALS, FIELD_END, PART_AFTER_DASH, PART_KEY, PART_NUMBER, RUN_NONE, RUN_ON, RUN_ZERO,
+    digit_of, is_digit,
 };
 use crate::{Ctrl, Halt};
 
+#[tactic(auto, unfolding(crate::specs::Inside::Steps::in_key))]
 pub fn in_key(c: Ctrl, b: u32) -> Ctrl
     ensures { result ≡ in_key c b }
 {
@@ -28,27 +28,24 @@ pub fn in_key(c: Ctrl, b: u32) -> Ctrl
 }
 
 // A digit run's value, however long, capped above every range.
+#[tactic(auto, unfolding(crate::specs::Inside::Steps::more))]
 pub fn longer(v: u32, d: u32) -> u32
     ensures { result ≡ more v d }
 {
-    if v <= VALUE_CAP / 10 {
-        let x = 10 * v;
-        if d <= VALUE_CAP - x { x + d } else { VALUE_CAP }
-    } else {
-        VALUE_CAP
-    }
+    v.saturating_mul(10).saturating_add(d)
 }
 
 pub fn run_after(r: u32, d: u32) -> u32
     ensures { result ≡ run_with r d }
 {
-    if r == RUN_NONE {
-        if d == 0 { RUN_ZERO } else { RUN_ON }
+    if r == RUN_NONE && d == 0 {
+        RUN_ZERO
     } else {
         RUN_ON
     }
 }
 
+#[tactic(auto, unfolding(crate::specs::Inside::Steps::digit_read))]
 pub fn add_digit(c: Ctrl, d: u32) -> Ctrl
     ensures { result ≡ digit_read c d }
 {
@@ -59,6 +56,7 @@ pub fn add_digit(c: Ctrl, d: u32) -> Ctrl
 }
 
 // The fault of the digit run that ends here, if one does.
+#[tactic(auto, unfolding(crate::specs::Inside::Steps::run_fault))]
 pub fn run_fault(c: Ctrl, w: &[u8]) -> Halt
     ensures { result ≡ run_fault c w.now }
 {
@@ -70,6 +68,7 @@ pub fn run_fault(c: Ctrl, w: &[u8]) -> Halt
 }
 
 // The number of that run is kept.
+#[tactic(auto, unfolding(crate::specs::Inside::Steps::run_kept))]
 pub fn keep_run(c: Ctrl, w: &mut [u8]) -> Ctrl
     ensures { mk result w.new ≡ run_kept c w.old }
 {
@@ -85,11 +84,11 @@ pub fn keep_run(c: Ctrl, w: &mut [u8]) -> Ctrl
 pub fn close_part(c: Ctrl, b: u32, w: &mut [u8]) -> Ctrl
     ensures { mk result w.new ≡ part_closed c w.old b }
 {
-    let k = run_fault(c, w);
-    if goes_on(k) {
+    let fault = run_fault(c, w);
+    if goes_on(fault) {
         after_part(keep_run(c, w), w, b)
     } else {
-        stop(c, k)
+        stop(c, fault)
     }
 }
 
@@ -97,27 +96,19 @@ pub fn close_part(c: Ctrl, b: u32, w: &mut [u8]) -> Ctrl
 pub fn nothing_read(c: Ctrl) -> bool
     ensures { result ≡ nothing_read c }
 {
-    if c.digits.run == RUN_NONE {
-        c.turn.least == 0
-    } else {
-        false
-    }
+    c.digits.run == RUN_NONE && c.turn.least == 0
 }
 
 // A dash where a list of facts may begin.
+#[tactic(auto, unfolding(crate::specs::Inside::Steps::dash_here))]
 pub fn dash_here(c: Ctrl, b: u32) -> bool
     ensures { result ≡ dash_here c b }
 {
-    if b != DASH {
-        return false;
-    }
-    if kind_of(c.spot.field) != KIND_VAR {
-        return false;
-    }
-    nothing_read(c)
+    b == DASH && matches!(kind_of(c.spot.field), Kind::Var) && nothing_read(c)
 }
 
 // At a number or after a dash.
+#[tactic(auto, unfolding(crate::specs::Inside::Steps::in_value, crate::specs::Inside::Steps::at_number))]
 pub fn in_value(c: Ctrl, b: u32, w: &mut [u8]) -> Ctrl
     ensures { mk result w.new ≡ in_value c w.old b }
 {
@@ -132,6 +123,7 @@ pub fn in_value(c: Ctrl, b: u32, w: &mut [u8]) -> Ctrl
     close_part(c, b, w)
 }
 
+#[tactic(auto, using(crate::proofs::Parts::live_value), unfolding(crate::specs::Inside::Steps::live))]
 pub fn live_step(c: Ctrl, b: u32, w: &mut [u8]) -> Ctrl
     ensures { mk result w.new ≡ live c w.old b }
 {
@@ -145,14 +137,18 @@ pub fn live_step(c: Ctrl, b: u32, w: &mut [u8]) -> Ctrl
 }
 
 // One byte; a reading that has stopped stays as it is.
+#[tactic(auto, unfolding(crate::specs::Inside::Steps::byte_read))]
 pub fn step_byte(c: Ctrl, b: u32, w: &mut [u8]) -> Ctrl
     ensures { mk result w.new ≡ byte_read (mk c w.old) b }
 {
-    let k = c.halt;
-    if goes_on(k) { live_step(c, b, w) } else { c }
+    if goes_on(c.halt) {
+        live_step(c, b, w)
+    } else {
+        c
+    }
 }
 
-// A piece of the text: a byte at a time, after what can be read ahead.
+// A piece of the text: a byte at a time, after what can be read ahead. The place is a cursor that moves on by as much as was read, so the loop is a `while`.
 pub fn feed_piece(c: Ctrl, s: &[u8], w: &mut [u8]) -> Ctrl
     ensures { mk result w.new ≡ feed (mk c w.old) s.now }
 {
@@ -161,18 +157,17 @@ pub fn feed_piece(c: Ctrl, s: &[u8], w: &mut [u8]) -> Ctrl
     while i < s.len() {
         if number_due(k) {
             let n = items_ahead(k, s, i, w);
-            let turn = n.turn;
-            let seen = n.seen;
-            k = await_number(k, k.spot.field, turn, seen);
+            k = await_number(k, k.spot.field, n.turn, n.seen);
             i = n.at;
         }
-        k = step_byte(k, word(s[i]), w);
+        k = step_byte(k, u32::from(s[i]), w);
         i += 1;
     }
     k
 }
 
 // The end of the text: where not all lines were read it is as a byte that fits nowhere. It goes by a piece of one byte, so that `step_byte` is called from one place.
+#[tactic(auto, unfolding(crate::specs::Inside::Steps::ended, crate::specs::Inside::Steps::feed))]
 pub fn end_text(c: Ctrl, w: &mut [u8]) -> Ctrl
     ensures { mk result w.new ≡ ended (mk c w.old) }
 {

@@ -19,6 +19,7 @@ use Rattle.tables.specs.Layout.{dom_at, pre_at, eff_at}
 use Rattle.tables.specs.Task.{sas_of, tables}
 use Rattle.maps.specs.Inside.Walks.{space_of, states_of, Walkable}
 use Rattle.maps.proofs.Walking.{after_digits, walkable_closed}
+use Rattle.turned.specs.declared.back.Turned.{Turned}
 use Rattle.turned.specs.Inside.Wants.{want_of, wanted}
 use Rattle.turned.specs.Inside.Backs.{drop_at, count_at, back_at, BackOf}
 use Rattle.turned.specs.Inside.Turns.{lift_of, ways_of, ways_at, drop_digit, lift_digit, TurnedAt}
@@ -99,7 +100,7 @@ module _ (a : ℕ) where
 
 -- ---- an operator
 
-module _ {c : Counts} {facts turns back : List ℕ} {n : ℕ} (W : Walkable c facts) (states : n ≡ states_of c facts) {o : ℕ} (lo : o < c.ops)
+module _ {c : Counts} {facts back : List ℕ} {turns : List Turned} {n : ℕ} (W : Walkable c facts) (states : n ≡ states_of c facts) {o : ℕ} (lo : o < c.ops)
     (T : TurnedAt c facts n turns back o) where
   S : Sas
   S = sas_of (tables c facts [] [])

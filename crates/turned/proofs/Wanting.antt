@@ -1,6 +1,6 @@
 -- Laws of what is wanted after an operator: the facts with wants for preconditions and no effects can be walked like the facts, and rows that are laid of them, no values apart,
 -- are 0 exactly where all wants hold. Assumes nothing.
-use mathlib.Core.Path.{◌≡◌, refl, sym, ap, ap₂, ◌∙◌}
+use mathlib.Core.Path.{◌≡◌, sym, ap, ap₂, ◌∙◌}
 use mathlib.Core.List.{List, []}
 use Prim.Native.Nat.{ℕ, zero, suc, ◌+◌, ◌*◌, ◌≤◌, ◌<◌}
 use native.Mathlib.Omega.{arith}
@@ -18,10 +18,6 @@ use Rattle.maps.proofs.Parting.{steps_fit, steps_goal}
 use Rattle.turned.specs.Inside.Wants.{want_of, want_if, want_at, wanted, Wants, Fits}
 
 -- ---- a place
-
-pub want_some : (pre eff : ℕ) → (eff ≡ 0 → ⊥) → eff ≡ want_of pre eff
-want_some pre zero d = absurd (d refl)
-want_some pre (suc e) d = refl
 
 want_below : (pre eff k : ℕ) → pre ≤ k → eff ≤ k → want_of pre eff ≤ k
 want_below pre zero k p e = p

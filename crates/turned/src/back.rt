@@ -1,22 +1,22 @@
 // The operators turned round: for each of them, the numbers of the states from which it leads to a state. The number before a step is the number after it without
 // the effects' values, with the preconditions' values there, and with what the values can be where an effect has no precondition: the operator's offsets, listed once.
-ghost use Rattle.std.specs.Prelude.{◌≡◌, ℕ, ◌+◌, ◌*◌, ◌≤◌, ◌<◌, length, get_or};
+ghost use Rattle.std.specs.Prelude.{◌≡◌, ℕ, ◌*◌, ◌≤◌, ◌<◌, length, get_or};
 ghost use Rattle.meaning.specs.Limits.{most_values, most_states};
 ghost use Rattle.tables.specs.Task.{was};
 ghost use Rattle.maps.specs.Inside.Walks.{Walkable, states_of};
 ghost use Rattle.turned.specs.Inside.Backs.{Backs};
-ghost use Rattle.turned.specs.Inside.Turns.{lift_of, ways_of, Spread, Listed, TurnedAt, TurnedTo};
+ghost use Rattle.turned.specs.Inside.Turns.{lift_of, ways_of, Spread, Listed, TurnedTo};
 
-use maps::wide;
 use meaning::OpNo;
 use tables::Counts;
 use tables::readers::{DOM_ROW, eff_row, pre_row, row_at};
 use tables::steps::value_after;
 
-// The room for what is found of each operator: what is taken off, what is put on, how many offsets; 64 places each.
-pub const TURNS_ROOM: usize = 192;
+// The room for what is found of each operator.
+pub const TURNS_ROOM: usize = 64;
 
-// An operator turned round: what is taken off the number of the state after it, what is put on, and how many offsets there are.
+// An operator turned round: what is taken off the number of the state after it, what is put on, and how many offsets there are. A count and no slice of them:
+// all operators' offsets stand in one table that is lent for writing.
 #[derive(Clone, Copy)]
 pub struct Turned {
     pub drop: u32,
@@ -28,10 +28,7 @@ pub struct Turned {
 fn lift_of(pre: u8, eff: u8) -> u8
     ensures { result ≡ lift_of pre eff }
 {
-    if eff == 0 {
-        return 0;
-    }
-    if pre == 0 { 0 } else { pre - 1 }
+    if eff == 0 { 0 } else { pre.saturating_sub(1) }
 }
 
 // How many values will do before it.
@@ -44,73 +41,59 @@ fn ways_of(pre: u8, eff: u8, k: u32) -> u32
     if pre == 0 { k } else { 1 }
 }
 
-// Lists the first places again and again, each time with a stride more.
-fn spread(t: &mut [u16], at: usize, len: u32, ways: u32, stride: u32)
-    requires le_len { (1 ≤ len) × (1 ≤ ways) × (ways ≤ most_values) × (len * ways ≤ most_states) × (at + len * ways ≤ length t.old) × (stride ≤ most_states) }
-    requires by_index { (i : ℕ) → i < len → get_or t.old (at + i) 0 < most_states }
-    ensures { Spread at len (len * ways) stride t.old t.new }
+// Lists the first places again and again, each time with a stride more. By index, since each place is made of the one `len` before it in the same list.
+fn spread(list: &mut [u16], len: usize, ways: usize, stride: u32)
+    requires le_len { (1 ≤ len) × (1 ≤ ways) × (ways ≤ most_values) × (len * ways ≤ most_states) × (len * ways ≤ length list.old) × (stride ≤ most_states) }
+    requires by_index { (i : ℕ) → i < len → get_or list.old i 0 < most_states }
+    ensures { Spread len (len * ways) stride list.old list.new }
 {
-    let end = len * ways;
-    let mut j = len;
-    while j < end {
-        let x = t[at + (j - len) as usize] as u32 + stride;
-        t[at + j as usize] = x as u16;
-        j += 1;
+    for j in len..len * ways {
+        list[j] = (u32::from(list[j - len]) + stride) as u16;
     }
 }
 
-// The offsets of an operator, from place `at` on, with what is taken off and put on.
-fn turn_lists(c: Counts, facts: &[u8], o: OpNo, at: usize, t: &mut [u16]) -> Turned
-    requires { Walkable c facts.now × (o.0 < c.ops) × (at + states_of c facts.now ≤ length t.old) }
+// The offsets of an operator, with what is taken off and put on.
+fn turn_lists(c: Counts, facts: &[u8], o: OpNo, list: &mut [u16]) -> Turned
+    requires { Walkable c facts.now × (o.0 < c.ops) × (states_of c facts.now ≤ length list.old) }
     ensures turned_to { TurnedTo c (was facts) o.0 result }
-    ensures listed { Listed (was facts) o.0 at c.vars result.count t.old t.new }
+    ensures listed { Listed (was facts) o.0 c.vars result.count list.old list.new }
 {
-    let vars = c.vars;
-    let mut stride = 1u32;
-    let mut count = 1u32;
-    let mut drop = 0u32;
-    let mut lift = 0u32;
-    t[at] = 0;
-    let mut v = 0u32;
-    while v < vars {
-        let k = wide(row_at(facts, DOM_ROW, v));
+    let mut stride = 1;
+    let mut count = 1;
+    let mut drop = 0;
+    let mut lift = 0;
+    list[0] = 0;
+    for v in 0..c.vars {
+        let k = u32::from(row_at(facts, DOM_ROW, v));
         let pre = row_at(facts, pre_row(o), v);
         let eff = row_at(facts, eff_row(o), v);
-        drop = drop + wide(value_after(eff, 0)) * stride;
-        lift = lift + wide(lift_of(pre, eff)) * stride;
+        drop += u32::from(value_after(eff, 0)) * stride;
+        lift += u32::from(lift_of(pre, eff)) * stride;
         let ways = ways_of(pre, eff, k);
-        spread(t, at, count, ways, stride);
-        count = count * ways;
-        stride = stride * k;
-        v += 1;
+        spread(list, count as usize, ways as usize, stride);
+        count *= ways;
+        stride *= k;
     }
     Turned { drop, lift, count }
 }
 
-// Turns one operator round.
-fn turn_op(c: Counts, facts: &[u8], n: u32, o: OpNo, turns: &mut [u32], back: &mut [u16])
-    requires walkable { Walkable c facts.now × (n ≡ states_of c facts.now) × (o.0 < c.ops) × (length turns.old ≡ 192) × (c.ops * n ≤ length back.old) }
-    requires by_index { (p : ℕ) → p < o.0 → TurnedAt c facts.now n turns.old back.old p }
-    ensures by_index_2 { (p : ℕ) → p < o.0 + 1 → TurnedAt c (was facts) n turns.new back.new p }
-    ensures turns_len { (length turns.new ≡ 192) × (length back.new ≡ length back.old) }
-{
-    let i = o.0 as usize;
-    let r = turn_lists(c, facts, o, i * n as usize, back);
-    turns[i] = r.drop;
-    turns[64 + i] = r.lift;
-    turns[128 + i] = r.count;
-}
-
 // Turns every operator round; of the n states' numbers each has n places in `back`.
-pub fn turn_all(c: Counts, facts: &[u8], n: u32, turns: &mut [u32], back: &mut [u16])
-    requires { Walkable c facts.now × (n ≡ states_of c facts.now) × (length turns.old ≡ 192) × (c.ops * n ≤ length back.old) }
-    ensures backs { Backs c (was facts) n turns.new back.new }
-    ensures turns_len { (length turns.new ≡ 192) × (length back.new ≡ length back.old) }
+pub fn turn_all(c: Counts, facts: &[u8], n: usize, back: &mut [u16]) -> [Turned; TURNS_ROOM]
+    requires { Walkable c facts.now × (n ≡ states_of c facts.now) × (c.ops * n ≤ length back.old) }
+    ensures backs { Backs c (was facts) n result back.new }
+    ensures turns_len { length result ≡ 64 }
+    ensures back_len { length back.new ≡ length back.old }
 {
-    let ops = c.ops;
-    let mut o = 0u32;
-    while o < ops {
-        turn_op(c, facts, n, OpNo(o), turns, back);
-        o += 1;
+    let none = Turned {
+        drop: 0,
+        lift: 0,
+        count: 0,
+    };
+    let mut turns = [none; TURNS_ROOM];
+    // By number: o is the operator that is turned round, its place, and where its offsets begin.
+    for o in 0..c.ops {
+        let at = o as usize * n;
+        turns[o as usize] = turn_lists(c, facts, OpNo(o), &mut back[at..at + n]);
     }
+    turns
 }

@@ -7,13 +7,12 @@ ghost use Rattle.maps.specs.Inside.Walks.{Walkable, states_of};
 ghost use Rattle.maps.specs.Inside.Rows.{lanes};
 ghost use Rattle.turned.specs.Inside.Wants.{want_of, want_at, Wants, Fits};
 
+use maps::classes::SEEN;
 use maps::parts::lay_steps;
 use tables::Counts;
-use tables::readers::byte_at;
+use tables::readers::get_or;
 
-// The places of the rows from the numbers of values to the last operator's effects; and where the preconditions begin, 8 an operator.
-const SEEN: usize = 1048;
-
+// Where the preconditions begin, 8 an operator.
 const PRES: usize = 24;
 
 // What is wanted of a variable after a step.
@@ -29,9 +28,9 @@ fn want_at(facts: &[u8], i: usize) -> u8
     ensures { result ≡ want_at (was facts) i }
 {
     if PRES <= i {
-        want_of(byte_at(facts, i), byte_at(facts, i + 512))
+        want_of(get_or(facts, i, 0), get_or(facts, i + 512, 0))
     } else {
-        byte_at(facts, i)
+        get_or(facts, i, 0)
     }
 }
 
@@ -41,11 +40,10 @@ fn wants(c: Counts, facts: &[u8]) -> [u8; SEEN]
     ensures { Wants c.ops (was facts) result }
 {
     let end = PRES + c.ops as usize * 8;
-    let mut t = [0u8; SEEN];
-    let mut i = 0usize;
-    while i < end {
+    let mut t = [0; SEEN];
+    // By number: i is the place that the facts are asked for, and the one that is written.
+    for i in 0..end {
         t[i] = want_at(facts, i);
-        i += 1;
     }
     t
 }

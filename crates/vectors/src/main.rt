@@ -4,122 +4,101 @@
 
 mod answers;
 mod calls;
-mod rows;
-mod runs;
-mod texts;
+mod reading;
+mod running;
 
-use crate::calls::{call, call_begin_text, call_read, call_take_piece};
-use crate::rows::call_row;
-use crate::texts::{TEXT_BYTES, copy_text, take_copy, take_text};
-use cut_texts::from_lines::start_anew;
-use script::commands::{Command, known, parsed};
-use script::held::PLACES;
-use script::input::{Input, TURNS, next_line};
-use script::lines::{Line, MOST, say};
-use script::setting::set_or_show;
+use crate::calls::call;
+use script::arrays::Array;
+use script::changes::say_place;
+use script::commands::{Command, Words};
+use script::held::Held;
+use script::input::{Buffered, MOST, next_line, next_text};
 use std::io;
 use std::io::Read;
+use tables::Counts;
 
-// The bytes of the input that are read at a time.
-const READ_BYTES: usize = 4096;
+// A word and the counts; edition and quota only where there is something to tell.
+fn say_counts(rt: &impl Print, word: &str, c: Counts) -> io::Result<()> {
+    print!(rt; "{word} {} {} {}", c.vars, c.ops, c.maps)?;
+    if c.edition != 1 || c.quota != 0 {
+        print!(rt; " {} {}", c.edition, c.quota)?;
+    }
+    println!(rt)
+}
 
-// A command of the form.
-fn obey(rt: &impl Print, held: &mut [u32], text: &mut [u8], command: Command) -> io::Result<()> {
-    let letter = command.letter;
-    match letter {
-        b'b' => copy_text(held, text),
-        b'u' => take_copy(held, text, command.value(0)),
-        b'R' | b'F' | b'V' => call_read(rt, held, text, command)?,
-        b'S' => call_begin_text(rt, held)?,
-        b'I' => call_take_piece(rt, held, text, command.value(0))?,
-        b'W' => call_row(rt, held)?,
-        b'z' => start_anew(held),
-        b'n' | b'l' | b's' | b'e' | b'p' | b'q' => set_or_show(rt, held, command)?,
+// A place that is there is printed.
+fn show(rt: &impl Print, held: &mut Held, array: Array, i: usize) -> io::Result<()> {
+    match held.place(array, i) {
+        Some(place) => say_place(rt, array, i, place.value()),
+        None => Ok(()),
+    }
+}
+
+// A command of the form. An array that isn't there is passed over.
+fn obey(
+    rt: &impl Print,
+    from: &mut impl Read,
+    held: &mut Held,
+    command: Command<'_>,
+) -> io::Result<()> {
+    match command {
+        Command::Reset => *held = Held::new(),
+        Command::Text(n) => {
+            next_text(from, &mut held.text, n)?;
+            held.taken = 0;
+        }
+        Command::CopyText => held.copy_text(),
+        Command::TakeCopy(n) => held.take_copy(n as usize),
+        Command::Counts(c) => held.counts = c,
+        Command::Lend(Some(array), n) => held.lend(array, n),
+        Command::Set(Some(array), from, values) => held.set(array, from, values),
+        Command::Fill(Some(array), x) => held.fill(array, x),
+        Command::Show(Some(array), i) => show(rt, held, array, i)?,
+        Command::Lend(None, _)
+        | Command::Set(None, ..)
+        | Command::Fill(None, _)
+        | Command::Show(None, _) => {}
+        Command::ShowCounts => say_counts(rt, "counts", held.counts)?,
         _ => call(rt, held, command)?,
     }
     Ok(())
 }
 
-// A line that is no comment. Off the form it is bad, and nothing else happens.
-fn obey_line(
-    rt: &impl Print,
-    from: &mut impl Read,
-    held: &mut [u32],
-    text: &mut [u8],
-    buf: &mut [u8],
-    input: Input,
-    line: Line,
-) -> io::Result<Input> {
-    let command = parsed(line);
-    let letter = command.letter;
-    if !command.fine {
-        say(rt, b"bad")?;
-        return Ok(input);
-    }
-    if !known(letter, command.count) {
-        say(rt, b"bad")?;
-        return Ok(input);
-    }
-    if letter == b't' {
-        return take_text(from, held, text, buf, input, command.value(0));
-    }
-    obey(rt, held, text, command)?;
-    Ok(input)
-}
-
-// A line: where the reading stands after it and after what belongs to it.
+// A line: a comment is printed as it stands, and one that is off the form is bad.
 fn carry_out(
     rt: &impl Print,
     from: &mut impl Read,
-    held: &mut [u32],
-    text: &mut [u8],
-    buf: &mut [u8],
-    input: Input,
-    line: Line,
-) -> io::Result<Input> {
-    let n = line.len;
-    if n == 0 {
-        say(rt, b"bad")?;
-        return Ok(input);
+    held: &mut Held,
+    line: &[u8],
+) -> io::Result<()> {
+    if MOST < line.len() {
+        return println!(rt; "bad");
     }
-    if MOST < n {
-        say(rt, b"bad")?;
-        return Ok(input);
+    if line.starts_with(b"#") {
+        rt.write_all(line)?;
+        return println!(rt);
     }
-    if line.at(0) == b'#' {
-        line.say(rt)?;
-        return Ok(input);
+    let Some(words) = Words::of(line) else {
+        return println!(rt; "bad");
+    };
+    match Command::of(&words) {
+        Some(command) => obey(rt, from, held, command),
+        None => println!(rt; "bad"),
     }
-    obey_line(rt, from, held, text, buf, input, line)
 }
 
-// The script, line by line. A last line without its line end isn't carried out.
-fn carry_out_all(
-    rt: &impl Print,
-    from: &mut impl Read,
-    held: &mut [u32],
-    text: &mut [u8],
-    buf: &mut [u8],
-) -> io::Result<()> {
-    let mut input = Input { at: 0, len: 0 };
-    let mut turns = TURNS;
-    while 0 < turns {
-        turns -= 1;
-        let got = next_line(from, buf, input)?;
-        if !got.whole {
-            return Ok(());
-        }
-        let after = got.input;
-        let line = got.line;
-        input = carry_out(rt, from, held, text, buf, after, line)?;
+// The script, line by line. Nothing says that an input ends.
+fn carry_out_all(rt: &impl Print, from: &mut impl Read) -> io::Result<()> {
+    let mut held = Held::new();
+    for _ in 0..u64::MAX {
+        let Some(line) = next_line(from)? else {
+            break;
+        };
+        carry_out(rt, from, &mut held, line.as_slice())?;
     }
     Ok(())
 }
 
 fn main(rt: HostRuntime) -> io::Result<()> {
-    let mut held = [0u32; PLACES];
-    let mut text = [0u8; TEXT_BYTES];
-    let mut buf = [0u8; READ_BYTES];
-    start_anew(&mut held);
-    carry_out_all(&rt, &mut rt.stdin(), &mut held, &mut text, &mut buf)
+    carry_out_all(&rt, &mut Buffered::new(rt.stdin()))
 }

@@ -1,5 +1,7 @@
 -- What the entries' answers mean: no second outcome meets a promise, the rounds never pass the abstract states, following the best steps reaches a goal at
 -- exactly the distance, no sequence costs less than the bound, and the bound is none exactly if some map says none. Assumes nothing.
+use Rattle.scan.specs.Found.{Found, clean}
+use Rattle.std.specs.Prelude.{Option, None, Some, Result, Ok, Err}
 use mathlib.Core.Path.{◌≡◌, refl, sym, ap, ◌∙◌, subst}
 use mathlib.Core.Logic.{◌⊎◌, ◌↔◌, inl, inr, ⊎_elim}
 use mathlib.Core.List.{List}
@@ -19,18 +21,8 @@ use Rattle.meaning.specs.Quota.{PassesWithin}
 use Rattle.meaning.proofs.Theorems.{rounds_unique, rounds_at_most_states, distance_unique, sum_none_exactly_if_some, sum_number_exactly_if_all}
 use Rattle.meaning.proofs.Theorems.{bound_at_most_cost, none_so_no_sequence, one_none_so_no_sequence, sequence_so_every_number}
 use Rattle.meaning.proofs.Theorems as meanings
-use Rattle.scan.specs.declared.Found.{Found}
-use Rattle.scan.specs.declared.Found.TheVariants.{Clean, Fault}
 use Rattle.tables.specs.Layout.{Tables}
 use Rattle.tables.specs.Task.{sas_of, task_of, state_of}
-use Rattle.views.specs.declared.DistancesAnswer.{DistancesAnswer}
-use Rattle.views.specs.declared.DistancesAnswer.TheVariants as distances
-use Rattle.views.specs.declared.DistanceAnswer.{DistanceAnswer}
-use Rattle.views.specs.declared.DistanceAnswer.TheVariants as distance
-use Rattle.views.specs.declared.BestAnswer.{BestAnswer}
-use Rattle.views.specs.declared.BestAnswer.TheVariants as bests
-use Rattle.views.specs.declared.BoundAnswer.{BoundAnswer}
-use Rattle.views.specs.declared.BoundAnswer.TheVariants as bounds
 use Rattle.sweep.specs.Said.{HALT, said_at, advised_at}
 use Rattle.sweep.proofs.Picking.{advised_none, advised_inj}
 use Rattle.views.specs.Entries.{distances_fault, distance_fault, ByFault, DistancesOf, BestStepsOf, RoundsOf, IsAway, IsBest, IsBound, DistancesGiven}
@@ -42,12 +34,12 @@ use Rattle.views.proofs.Answered.{by_told, input_asked, asked_input, distance_an
 
 -- two outcomes that are judged by one fault are the same: refused they are told by the fault, and accepted they are settled
 by_fault_only : {A : Type 0} (g : Found) (R : A → Refusal → Type 0) (P : A → Type 0) → ((x y : A) (f : Refusal) → R x f → R y f → x ≡ y)
-    → ((x y : A) → g ≡ Clean → P x → P y → x ≡ y) → (x y : A) → ByFault g (R x) (P x) → ByFault g (R y) (P y) → x ≡ y
-by_fault_only Clean R P told settled x y p q = settled x y refl p q
-by_fault_only (Fault f) R P told settled x y p q = told x y f p q
+    → ((x y : A) → g ≡ clean → P x → P y → x ≡ y) → (x y : A) → ByFault g (R x) (P x) → ByFault g (R y) (P y) → x ≡ y
+by_fault_only (Ok tt) R P told settled x y p q = settled x y refl p q
+by_fault_only (Err f) R P told settled x y p q = told x y f p q
 
 -- and so are two answers that each say what is so, where one thing alone is
-said_only : {A X : Type 0} (g : Found) (said : X → A) (refused : Refusal → A) (Is : X → Type 0) → (g ≡ Clean → (v w : X) → Is v → Is w → v ≡ w)
+said_only : {A X : Type 0} (g : Found) (said : X → A) (refused : Refusal → A) (Is : X → Type 0) → (g ≡ clean → (v w : X) → Is v → Is w → v ≡ w)
     → (x y : A) → ByFault g (λ f. x ≡ refused f) ((v : X) × (x ≡ said v) × Is v) → ByFault g (λ f. y ≡ refused f) ((v : X) × (y ≡ said v) × Is v) → x ≡ y
 said_only {X = X} g said refused Is only =
     by_fault_only g (λ x f. x ≡ refused f) (λ x. (v : X) × (x ≡ said v) × Is v) (λ x y f p q. p ∙ sym q)
@@ -55,7 +47,7 @@ said_only {X = X} g said refused Is only =
 
 -- what an answer of `distances` and the tables after it are, together: that of distances, and that of best steps
 pub record Outcome : Type 0 where
-  pub answer : DistancesAnswer
+  pub answer : Result ℕ Refusal
   pub table : List ℕ
   pub best : List ℕ
 
@@ -66,28 +58,28 @@ outcome p q r = λ i. record { answer = p i; table = q i; best = r i }
 pub distances_unique : (t : Tables) (m : ℕ) (out best : List ℕ) (x y : Outcome) → DistancesGiven t m out best x.answer x.table x.best
     → DistancesGiven t m out best y.answer y.table y.best → x ≡ y
 distances_unique t m out best =
-    by_fault_only (distances_fault t m out best) (λ x f. (x.answer ≡ distances.Refused f) × (x.table ≡ out) × (x.best ≡ best))
-    (λ x. (r : ℕ) × (x.answer ≡ distances.Rounds r) × RoundsOf (task_of t) m r × DistancesOf (task_of t) m out x.table × BestStepsOf (task_of t) m best x.best)
+    by_fault_only (distances_fault t m out best) (λ x f. (x.answer ≡ Err f) × (x.table ≡ out) × (x.best ≡ best))
+    (λ x. (r : ℕ) × (x.answer ≡ Ok r) × RoundsOf (task_of t) m r × DistancesOf (task_of t) m out x.table × BestStepsOf (task_of t) m best x.best)
     (λ x y f p q. outcome (p.0 ∙ sym q.0) (p.1 ∙ sym q.1) (p.2 ∙ sym q.2))
     (λ x y e p q.
     let c = distances_clean t m out best e in
-    outcome (p.1 ∙ ap distances.Rounds (rounds_unique (task_of t) c.0 m c.1 p.0 q.0 p.2 q.2) ∙ sym q.1)
+    outcome (p.1 ∙ ap Ok (rounds_unique (task_of t) c.0 m c.1 p.0 q.0 p.2 q.2) ∙ sym q.1)
     (distances_only (task_of t) c.0 m c.1 out x.table y.table p.3 q.3)
     (best_only (task_of t) c.0 m c.1 best x.best y.best p.4 q.4))
 
-pub distance_at_unique : (t : Tables) (m : ℕ) (s : List ℕ) (x y : DistanceAnswer) → DistanceGiven t m s x → DistanceGiven t m s y → x ≡ y
+pub distance_at_unique : (t : Tables) (m : ℕ) (s : List ℕ) (x y : Result (Option ℕ) Refusal) → DistanceGiven t m s x → DistanceGiven t m s y → x ≡ y
 distance_at_unique t m s =
-    said_only (distance_fault t m s) distance_said distance.Refused (IsAway (task_of t) (state_of s) m)
+    said_only (distance_fault t m s) distance_said Err (IsAway (task_of t) (state_of s) m)
     (λ e v w. let c = distance_clean t m s e in away_only (task_of t) c.0 m c.1 (state_of s) v w c.2)
 
-pub best_at_unique : (t : Tables) (m : ℕ) (s : List ℕ) (x y : BestAnswer) → BestGiven t m s x → BestGiven t m s y → x ≡ y
+pub best_at_unique : (t : Tables) (m : ℕ) (s : List ℕ) (x y : Result (Option ℕ) Refusal) → BestGiven t m s x → BestGiven t m s y → x ≡ y
 best_at_unique t m s =
-    said_only (distance_fault t m s) best_said bests.Refused (IsBest (task_of t) (state_of s) m)
+    said_only (distance_fault t m s) best_said Err (IsBest (task_of t) (state_of s) m)
     (λ e v w. let c = distance_clean t m s e in best_is_only (task_of t) c.0 m c.1 (state_of s) v w c.2)
 
-pub bound_unique : (t : Tables) (s : List ℕ) (x y : BoundAnswer) → BoundGiven t s x → BoundGiven t s y → x ≡ y
+pub bound_unique : (t : Tables) (s : List ℕ) (x y : Result (Option ℕ) Refusal) → BoundGiven t s x → BoundGiven t s y → x ≡ y
 bound_unique t s =
-    said_only (input_fault t s) bound_said bounds.Refused (IsBound (task_of t) (state_of s))
+    said_only (input_fault t s) bound_said Err (IsBound (task_of t) (state_of s))
     (λ e. let c = bound_clean t s e in bound_only (task_of t) c.0 (state_of s) c.1)
 
 -- what is answered in one way alone is answered exactly so
@@ -109,9 +101,9 @@ followed T ok m lm B best a d l D =
     let f = meanings.following_reaches T ok m lm B best a d l D in
     (f.0, f.1, f.2, f.3, f.4, meanings.foremost_is_short T ok m lm a f.0 l f.4)
 
-module _ (t : Tables) (m : ℕ) (out best out' best' : List ℕ) (r : ℕ) (given : DistancesGiven t m out best (distances.Rounds r) out' best') where
+module _ (t : Tables) (m : ℕ) (out best out' best' : List ℕ) (r : ℕ) (given : DistancesGiven t m out best (Ok r) out' best') where
   -- where rounds are answered, nothing was at fault and the tables hold the distances and the best steps
-  pub rounds_given : (distances_fault t m out best ≡ Clean) × RoundsOf (task_of t) m r × DistancesOf (task_of t) m out out' × BestStepsOf (task_of t) m best best'
+  pub rounds_given : (distances_fault t m out best ≡ clean) × RoundsOf (task_of t) m r × DistancesOf (task_of t) m out out' × BestStepsOf (task_of t) m best best'
   rounds_given =
       let p = by_told (distances_fault t m out best) _ _ (λ f q. let e = q.0 in let z : ◌≡◌ {A = ℕ} 0 1 = cc in omega arith) given in
       let q = p.1 in
@@ -128,20 +120,20 @@ module _ (t : Tables) (m : ℕ) (out best out' best' : List ℕ) (r : ℕ) (give
   rounds_within_states = rounds_at_most_states (task_of t) there.0 m there.1 r rounds_given.1
 
   -- a state's distance is what the map's table says of its image
-  pub distance_in_table : (s : List ℕ) → distance_fault t m s ≡ Clean → DistanceGiven t m s (distance_said (said_at out' (α (sas_of t) (view (task_of t) m) (state_of s))))
+  pub distance_in_table : (s : List ℕ) → distance_fault t m s ≡ clean → DistanceGiven t m s (distance_said (said_at out' (α (sas_of t) (view (task_of t) m) (state_of s))))
   distance_in_table s e =
       let c = distance_clean t m s e in
       let a = α (sas_of t) (view (task_of t) m) (state_of s) in
       by_clean (distance_fault t m s) _ _ e
       (said_at out' a, refl, rounds_given.2.distances a (omega (arith, image_inside (task_of t) c.0 m c.1 (state_of s) c.2)))
 
-  pub distance_as_table : (s : List ℕ) → distance_fault t m s ≡ Clean
-      → (x : DistanceAnswer) → DistanceGiven t m s x ↔ (x ≡ distance_said (said_at out' (α (sas_of t) (view (task_of t) m) (state_of s))))
+  pub distance_as_table : (s : List ℕ) → distance_fault t m s ≡ clean
+      → (x : Result (Option ℕ) Refusal) → DistanceGiven t m s x ↔ (x ≡ distance_said (said_at out' (α (sas_of t) (view (task_of t) m) (state_of s))))
   distance_as_table s e = exactly (DistanceGiven t m s) _ (λ x. distance_at_unique t m s x _) (distance_in_table s e)
 
   -- and its best step what the table of best steps advises there
-  pub best_as_table : (s : List ℕ) → distance_fault t m s ≡ Clean
-      → (x : BestAnswer) → BestGiven t m s x ↔ (x ≡ best_said (advised_at best' (α (sas_of t) (view (task_of t) m) (state_of s))))
+  pub best_as_table : (s : List ℕ) → distance_fault t m s ≡ clean
+      → (x : Result (Option ℕ) Refusal) → BestGiven t m s x ↔ (x ≡ best_said (advised_at best' (α (sas_of t) (view (task_of t) m) (state_of s))))
   best_as_table s e =
       let c = distance_clean t m s e in
       let a = α (sas_of t) (view (task_of t) m) (state_of s) in
@@ -188,7 +180,7 @@ module _ (t : Tables) (m : ℕ) (B : ℕ → Advice)
       a d l D
 
   -- .. and so from a state's image, at what `distance_at` answers
-  pub following_answers_at : (s : List ℕ) (d : ℕ) → DistanceGiven t m s (distance.Of d)
+  pub following_answers_at : (s : List ℕ) (d : ℕ) → DistanceGiven t m s (Ok (Some d))
       → FollowedTo (task_of t) m B (α (sas_of t) (view (task_of t) m) (state_of s)) d
   following_answers_at s d given =
       let h = (distance_answered t s m (fin d)).0 given in
@@ -199,51 +191,51 @@ module _ (t : Tables) (m : ℕ) (B : ℕ → Advice)
 -- DEMAND 3, over the answers of `bound` and `distance_at`
 module _ (t : Tables) (s : List ℕ) where
   -- every sequence of any length that passes from the state costs at least the bound
-  pub bound_admissible : (b : ℕ) → BoundGiven t s (bounds.Of b) → (os : List ℕ) → Passes (sas_of t) os (state_of s) → b ≤ paid (sas_of t).cost os
+  pub bound_admissible : (b : ℕ) → BoundGiven t s (Ok (Some b)) → (os : List ℕ) → Passes (sas_of t) os (state_of s) → b ≤ paid (sas_of t).cost os
   bound_admissible b given os p =
       let h = (bound_answered t s (fin b)).0 given in
       let c = bound_clean t s h.0 in
       subst (λ (v : Cost). v ⊑ paid (sas_of t).cost os) h.1 (bound_at_most_cost (task_of t) c.0 os (state_of s) c.1 p)
 
   -- so does every one that also keeps the quota, which is what may be run: the bound ignores the quota
-  pub bound_admissible_within : (b : ℕ) → BoundGiven t s (bounds.Of b) → (os : List ℕ) → PassesWithin (task_of t) os (state_of s) → b ≤ paid (sas_of t).cost os
+  pub bound_admissible_within : (b : ℕ) → BoundGiven t s (Ok (Some b)) → (os : List ℕ) → PassesWithin (task_of t) os (state_of s) → b ≤ paid (sas_of t).cost os
   bound_admissible_within b given os p = bound_admissible b given os p.0
 
   -- where the answer is none, there is no such sequence
-  pub none_admissible : BoundGiven t s bounds.Nowhere → (os : List ℕ) → Passes (sas_of t) os (state_of s) → ⊥
+  pub none_admissible : BoundGiven t s (Ok None) → (os : List ℕ) → Passes (sas_of t) os (state_of s) → ⊥
   none_admissible given =
       let h = (bound_answered t s none).0 given in
       let c = bound_clean t s h.0 in
       none_so_no_sequence (task_of t) c.0 (state_of s) c.1 h.1
 
-  pub none_admissible_within : BoundGiven t s bounds.Nowhere → (os : List ℕ) → PassesWithin (task_of t) os (state_of s) → ⊥
+  pub none_admissible_within : BoundGiven t s (Ok None) → (os : List ℕ) → PassesWithin (task_of t) os (state_of s) → ⊥
   none_admissible_within given os p = none_admissible given os p.0
 
   -- nor is there where one map's answer is none
-  pub map_none_admissible : (m : ℕ) → DistanceGiven t m s distance.Nowhere → (os : List ℕ) → Passes (sas_of t) os (state_of s) → ⊥
+  pub map_none_admissible : (m : ℕ) → DistanceGiven t m s (Ok None) → (os : List ℕ) → Passes (sas_of t) os (state_of s) → ⊥
   map_none_admissible m given =
       let h = (distance_answered t s m none).0 given in
       let c = distance_clean t m s h.0 in
       one_none_so_no_sequence (task_of t) c.0 (state_of s) c.2 m c.1 h.1
 
   -- if some sequence reaches the goal, every map answers a number, at most what the map is paid for the sequence ..
-  pub reached_so_numbers : (os : List ℕ) → Passes (sas_of t) os (state_of s) → (m : ℕ) → distance_fault t m s ≡ Clean
-      → (x : DistanceAnswer) → DistanceGiven t m s x → (d : ℕ) × (x ≡ distance.Of d) × (d ≤ paid ((task_of t).share m) os)
+  pub reached_so_numbers : (os : List ℕ) → Passes (sas_of t) os (state_of s) → (m : ℕ) → distance_fault t m s ≡ clean
+      → (x : Result (Option ℕ) Refusal) → DistanceGiven t m s x → (d : ℕ) × (x ≡ Ok (Some d)) × (d ≤ paid ((task_of t).share m) os)
   reached_so_numbers os p m e x given =
       let c = distance_clean t m s e in
       let d = sequence_so_every_number (task_of t) c.0 os (state_of s) c.2 p m c.1 in
-      (d.0, distance_at_unique t m s x (distance.Of d.0) given ((distance_answered t s m (fin d.0)).1 (e, d.1)), d.2)
+      (d.0, distance_at_unique t m s x (Ok (Some d.0)) given ((distance_answered t s m (fin d.0)).1 (e, d.1)), d.2)
 
   -- .. and so does the bound
-  pub reached_so_bound : (os : List ℕ) → Passes (sas_of t) os (state_of s) → input_fault t s ≡ Clean
-      → (x : BoundAnswer) → BoundGiven t s x → (b : ℕ) × (x ≡ bounds.Of b) × (b ≤ paid (sas_of t).cost os)
+  pub reached_so_bound : (os : List ℕ) → Passes (sas_of t) os (state_of s) → input_fault t s ≡ clean
+      → (x : Result (Option ℕ) Refusal) → BoundGiven t s x → (b : ℕ) × (x ≡ Ok (Some b)) × (b ≤ paid (sas_of t).cost os)
   reached_so_bound os p e x given =
       let c = bound_clean t s e in
       let b = ⊑_fin (bound (task_of t) (state_of s)) (paid (sas_of t).cost os) (bound_at_most_cost (task_of t) c.0 os (state_of s) c.1 p) in
-      (b.0, bound_unique t s x (bounds.Of b.0) given ((bound_answered t s (fin b.0)).1 (e, b.1)), b.2)
+      (b.0, bound_unique t s x (Ok (Some b.0)) given ((bound_answered t s (fin b.0)).1 (e, b.1)), b.2)
 
   -- the bound is none exactly if some map says none
-  pub bound_none_exactly : BoundGiven t s bounds.Nowhere ↔ ((m : ℕ) × DistanceGiven t m s distance.Nowhere)
+  pub bound_none_exactly : BoundGiven t s (Ok None) ↔ ((m : ℕ) × DistanceGiven t m s (Ok None))
   bound_none_exactly = (
     (λ given.
         let h = (bound_answered t s none).0 given in
@@ -256,8 +248,8 @@ module _ (t : Tables) (s : List ℕ) where
   )
 
   -- it is a number exactly if every map says one, and then their sum
-  pub bound_number_exactly : (b : ℕ) → input_fault t s ≡ Clean
-      → BoundGiven t s (bounds.Of b) ↔ ((c : ℕ → ℕ) × ((m : ℕ) → m < t.counts.maps → DistanceGiven t m s (distance.Of (c m))) × (b ≡ sum c t.counts.maps))
+  pub bound_number_exactly : (b : ℕ) → input_fault t s ≡ clean
+      → BoundGiven t s (Ok (Some b)) ↔ ((c : ℕ → ℕ) × ((m : ℕ) → m < t.counts.maps → DistanceGiven t m s (Ok (Some (c m)))) × (b ≡ sum c t.counts.maps))
   bound_number_exactly b e = (
     (λ given.
         let h = (bound_answered t s (fin b)).0 given in

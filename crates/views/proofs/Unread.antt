@@ -1,5 +1,7 @@
 -- A task's own places alone are read: tables that are read alike, and states that agree at the variables, have the same distances, best
 -- steps, rounds and bound, and an answer and tables that meet an entry's promise over the ones meet it over the others. Assumes nothing.
+use Rattle.scan.specs.Found.{Found, clean}
+use Rattle.std.specs.Prelude.{Option, Result, Err, Ok}
 use mathlib.Core.Path.{◌≡◌, refl, ap, ◌∙◌, subst}
 use mathlib.Core.List.{List}
 use Prim.Native.Nat.{ℕ, ◌<◌}
@@ -17,19 +19,11 @@ use Rattle.meaning.specs.Bound.{summed}
 use Rattle.meaning.proofs.Unread.{SameAt, SameTask, α_alike, states_alike, least_alike, best_alike, rounds_alike, view_alike}
 use Rattle.tables.specs.Layout.{Tables}
 use Rattle.tables.specs.Task.{sas_of, task_of, state_of}
-use Rattle.scan.specs.declared.Found.{Found}
-use Rattle.scan.specs.declared.Found.TheVariants.{Clean, Fault}
 use Rattle.scan.specs.Scan.{unless, ◌then◌, tables_fault, state_fault, input_fault}
 use Rattle.scan.specs.Own.{OwnState}
 use Rattle.scan.proofs.Walks.{clean_first}
 use Rattle.scan.proofs.Unread.{ReadAlike, then_same, state_same, input_same}
 use Rattle.sweep.specs.Said.{said_at, advised_at}
-use Rattle.views.specs.declared.DistancesAnswer.{DistancesAnswer}
-use Rattle.views.specs.declared.DistanceAnswer.{DistanceAnswer}
-use Rattle.views.specs.declared.DistanceAnswer.TheVariants as distance
-use Rattle.views.specs.declared.BestAnswer.{BestAnswer}
-use Rattle.views.specs.declared.BestAnswer.TheVariants as bests
-use Rattle.views.specs.declared.BoundAnswer.{BoundAnswer}
 use Rattle.views.specs.Entries.{DistancesOf, BestStepsOf, IsAway, IsBest, IsBound, no_such_map, asked_fault, state_table, distances_fault, distance_fault, ByFault}
 use Rattle.views.specs.Entries.{distance_said, best_said, DistancesGiven, DistanceGiven, BestGiven, BoundGiven}
 use Rattle.views.proofs.Judging.{clean_asked, distances_clean, distance_clean, bound_clean}
@@ -74,18 +68,18 @@ module _ {T U : Task} (E : SameTask T U) where
 
 -- where there is none, the tables are clean
 module _ (t : Tables) where
-  asked_tables : (m : ℕ) → asked_fault t m ≡ Clean → tables_fault t ≡ Clean
+  asked_tables : (m : ℕ) → asked_fault t m ≡ clean → tables_fault t ≡ clean
   unfolding asked_fault
   asked_tables m e = clean_first (tables_fault t) (no_such_map t m) e
 
-  distances_tables : (m : ℕ) (out best : List ℕ) → distances_fault t m out best ≡ Clean → tables_fault t ≡ Clean
+  distances_tables : (m : ℕ) (out best : List ℕ) → distances_fault t m out best ≡ clean → tables_fault t ≡ clean
   distances_tables m out best e = asked_tables m (clean_asked t m out best e)
 
-  distance_tables : (m : ℕ) (s : List ℕ) → distance_fault t m s ≡ Clean → tables_fault t ≡ Clean
+  distance_tables : (m : ℕ) (s : List ℕ) → distance_fault t m s ≡ clean → tables_fault t ≡ clean
   unfolding distance_fault
   distance_tables m s e = asked_tables m (clean_first (asked_fault t m) (state_fault t.counts t.facts s) e)
 
-  input_tables : (s : List ℕ) → input_fault t s ≡ Clean → tables_fault t ≡ Clean
+  input_tables : (s : List ℕ) → input_fault t s ≡ clean → tables_fault t ≡ clean
   unfolding input_fault
   input_tables s e = clean_first (tables_fault t) (state_fault t.counts t.facts s) e
 
@@ -104,17 +98,17 @@ module _ {t u : Tables} (E : ReadAlike t u) where
   distance_same m s z O = then_same _ _ _ _ (asked_same m) (λ e. state_same E s z O (asked_tables t m e))
 
 -- a promise by its fault: refused alike, and where there is none, accepted alike
-by_fault_alike : (g g' : Found) (refused : Refusal → Type 0) (a a' : Type 0) → g ≡ g' → (g ≡ Clean → a → a') → ByFault g refused a → ByFault g' refused a'
+by_fault_alike : (g g' : Found) (refused : Refusal → Type 0) (a a' : Type 0) → g ≡ g' → (g ≡ clean → a → a') → ByFault g refused a → ByFault g' refused a'
 by_fault_alike g g' refused a a' e h p = subst (λ (x : Found). ByFault x refused a') e (at g h p)
   where
-    at : (x : Found) → (x ≡ Clean → a → a') → ByFault x refused a → ByFault x refused a'
-    at Clean h p = h refl p
-    at (Fault f) h p = p
+    at : (x : Found) → (x ≡ clean → a → a') → ByFault x refused a → ByFault x refused a'
+    at (Ok tt) h p = h refl p
+    at (Err f) h p = p
 
 -- ---- THE ENTRIES
 
 module _ {t u : Tables} (E : ReadAlike t u) where
-  pub distances_given_alike : (m : ℕ) (out best out' best' : List ℕ) (x : DistancesAnswer) → DistancesGiven t m out best x out' best'
+  pub distances_given_alike : (m : ℕ) (out best out' best' : List ℕ) (x : Result ℕ Refusal) → DistancesGiven t m out best x out' best'
       → DistancesGiven u m out best x out' best'
   distances_given_alike m out best out' best' x =
       by_fault_alike (distances_fault t m out best) (distances_fault u m out best) _ _ _ (distances_same E m out best)
@@ -134,17 +128,17 @@ module _ {t u : Tables} (E : ReadAlike t u) where
         by_fault_alike (distance_fault t m s) (distance_fault u m z) _ _ _ (distance_same E m s z O)
         (λ e p. let c = distance_clean t m s e in (p.0, p.1, alike (E.task (distance_tables t m s e)) c.1 c.2 p.0 p.2))
 
-    pub distance_given_alike : (m : ℕ) (x : DistanceAnswer) → DistanceGiven t m s x → DistanceGiven u m z x
+    pub distance_given_alike : (m : ℕ) (x : Result (Option ℕ) Refusal) → DistanceGiven t m s x → DistanceGiven u m z x
     distance_given_alike m =
-        said_alike m distance_said distance.Refused (IsAway (task_of t) (state_of s) m) (IsAway (task_of u) (state_of z) m)
+        said_alike m distance_said Err (IsAway (task_of t) (state_of s) m) (IsAway (task_of u) (state_of z) m)
         (λ T lm h v. away_alike T (state_of s) (state_of z) O.values h m v lm)
 
-    pub best_given_alike : (m : ℕ) (x : BestAnswer) → BestGiven t m s x → BestGiven u m z x
+    pub best_given_alike : (m : ℕ) (x : Result (Option ℕ) Refusal) → BestGiven t m s x → BestGiven u m z x
     best_given_alike m =
-        said_alike m best_said bests.Refused (IsBest (task_of t) (state_of s) m) (IsBest (task_of u) (state_of z) m)
+        said_alike m best_said Err (IsBest (task_of t) (state_of s) m) (IsBest (task_of u) (state_of z) m)
         (λ T lm h x. best_step_alike T (state_of s) (state_of z) O.values h m x lm)
 
-    pub bound_given_alike : (x : BoundAnswer) → BoundGiven t s x → BoundGiven u z x
+    pub bound_given_alike : (x : Result (Option ℕ) Refusal) → BoundGiven t s x → BoundGiven u z x
     bound_given_alike x =
         by_fault_alike (input_fault t s) (input_fault u z) _ _ _ (input_same E s z O)
         (λ e p. (p.0, p.1, bound_alike (E.task (input_tables t s e)) (state_of s) (state_of z) O.values (bound_clean t s e).1 p.0 p.2))

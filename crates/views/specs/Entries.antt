@@ -1,6 +1,7 @@
 -- What the entries promise: the distances and best steps of a map, the distance of a state, its best step, and its summed bound; and where they say no, in the
 -- paper's order.
-use Rattle.std.specs.Prelude.{◌≡◌, List, ℕ, ◌≤◌, ◌<◌, leb, ltb, length, get_or}
+use Rattle.scan.specs.Found.{Found}
+use Rattle.std.specs.Prelude.{◌≡◌, List, ℕ, ◌≤◌, ◌<◌, leb, ltb, length, get_or, Option, None, Some, Result, Ok, Err}
 use Rattle.graph.specs.Cost.{Cost, none, fin}
 use Rattle.graph.specs.Best.{Advice, halt, take}
 use Rattle.refusals.specs.declared.Refusal.{Refusal}
@@ -11,19 +12,9 @@ use Rattle.meaning.specs.Views.{α, abstract_states, IsDistanceAt, IsRounds}
 use Rattle.meaning.specs.BestSteps.{IsBestStepAt}
 use Rattle.meaning.specs.Split.{Task, view}
 use Rattle.meaning.specs.Bound.{summed}
-use Rattle.scan.specs.declared.Found.{Found}
-use Rattle.scan.specs.declared.Found.TheVariants.{Clean, Fault}
 use Rattle.tables.specs.Layout.{Tables}
 use Rattle.tables.specs.Task.{task_of, state_of}
 use Rattle.scan.specs.Scan.{unless, ◌then◌, tables_fault, state_fault, input_fault}
-use Rattle.views.specs.declared.DistancesAnswer.{DistancesAnswer}
-use Rattle.views.specs.declared.DistancesAnswer.TheVariants as distances
-use Rattle.views.specs.declared.DistanceAnswer.{DistanceAnswer}
-use Rattle.views.specs.declared.DistanceAnswer.TheVariants as distance
-use Rattle.views.specs.declared.BestAnswer.{BestAnswer}
-use Rattle.views.specs.declared.BestAnswer.TheVariants as best
-use Rattle.views.specs.declared.BoundAnswer.{BoundAnswer}
-use Rattle.views.specs.declared.BoundAnswer.TheVariants as bound
 use Rattle.sweep.specs.Said.{said_at, advised_at}
 
 -- DISTANCES AND BEST STEPS. The tables: out' holds the distances of map m at all its abstract states, and the places beyond the map are as they were
@@ -76,38 +67,37 @@ distance_fault t m s = asked_fault t m then state_fault t.counts t.facts s
 
 -- THE PROMISES. The first fault is answered as refused says, and where there is none, accepted holds
 abbrev pub ByFault : Found → (Refusal → Type 0) → Type 0 → Type 0
-ByFault Clean refused accepted = accepted
-ByFault (Fault f) refused accepted = refused f
+ByFault (Ok tt) refused accepted = accepted
+ByFault (Err f) refused accepted = refused f
 
 -- a refusal leaves both lent tables as they were
-abbrev pub DistancesGiven : Tables → ℕ → List ℕ → List ℕ → DistancesAnswer → List ℕ → List ℕ → Type 0
+abbrev pub DistancesGiven : Tables → ℕ → List ℕ → List ℕ → Result ℕ Refusal → List ℕ → List ℕ → Type 0
 DistancesGiven t m out best answer out' best' =
-    ByFault (distances_fault t m out best) (λ f. (answer ≡ distances.Refused f) × (out' ≡ out) × (best' ≡ best))
-    ((r : ℕ) × (answer ≡ distances.Rounds r) × RoundsOf (task_of t) m r × DistancesOf (task_of t) m out out' × BestStepsOf (task_of t) m best best')
+    ByFault (distances_fault t m out best) (λ f. (answer ≡ Err f) × (out' ≡ out) × (best' ≡ best))
+    ((r : ℕ) × (answer ≡ Ok r) × RoundsOf (task_of t) m r × DistancesOf (task_of t) m out out' × BestStepsOf (task_of t) m best best')
 
--- a distance, a best step or a sum as an answer: none is a case of its own
-abbrev pub distance_said : Cost → DistanceAnswer
-distance_said none = distance.Nowhere
-distance_said (fin d) = distance.Of d
+-- a distance, a best step or a sum as an answer: none is a case of its own, `None`
+abbrev pub distance_said : Cost → Result (Option ℕ) Refusal
+distance_said none = Ok None
+distance_said (fin d) = Ok (Some d)
 
-abbrev pub best_said : Advice → BestAnswer
-best_said halt = best.Halt
-best_said (take o) = best.Take o
+abbrev pub best_said : Advice → Result (Option ℕ) Refusal
+best_said halt = Ok None
+best_said (take o) = Ok (Some o)
 
-abbrev pub bound_said : Cost → BoundAnswer
-bound_said none = bound.Nowhere
-bound_said (fin b) = bound.Of b
+abbrev pub bound_said : Cost → Result (Option ℕ) Refusal
+bound_said v = distance_said v
 
-abbrev pub DistanceGiven : Tables → ℕ → List ℕ → DistanceAnswer → Type 0
+abbrev pub DistanceGiven : Tables → ℕ → List ℕ → Result (Option ℕ) Refusal → Type 0
 DistanceGiven t m s answer =
-    ByFault (distance_fault t m s) (λ f. answer ≡ distance.Refused f)
+    ByFault (distance_fault t m s) (λ f. answer ≡ Err f)
     ((v : Cost) × (answer ≡ distance_said v) × IsAway (task_of t) (state_of s) m v)
 
-abbrev pub BestGiven : Tables → ℕ → List ℕ → BestAnswer → Type 0
+abbrev pub BestGiven : Tables → ℕ → List ℕ → Result (Option ℕ) Refusal → Type 0
 BestGiven t m s answer =
-    ByFault (distance_fault t m s) (λ f. answer ≡ best.Refused f)
+    ByFault (distance_fault t m s) (λ f. answer ≡ Err f)
     ((x : Advice) × (answer ≡ best_said x) × IsBest (task_of t) (state_of s) m x)
 
-abbrev pub BoundGiven : Tables → List ℕ → BoundAnswer → Type 0
+abbrev pub BoundGiven : Tables → List ℕ → Result (Option ℕ) Refusal → Type 0
 BoundGiven t s answer =
-    ByFault (input_fault t s) (λ f. answer ≡ bound.Refused f) ((v : Cost) × (answer ≡ bound_said v) × IsBound (task_of t) (state_of s) v)
+    ByFault (input_fault t s) (λ f. answer ≡ Err f) ((v : Cost) × (answer ≡ bound_said v) × IsBound (task_of t) (state_of s) v)

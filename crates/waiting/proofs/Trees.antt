@@ -5,8 +5,10 @@ use mathlib.Core.Logic.{◌⊎◌, inl, inr, ⊎_elim}
 use mathlib.Core.List.{List}
 use Prim.Native.Nat.{ℕ, zero, suc, ◌+◌, ◌*◌, ◌-◌, ◌/◌, ◌≤◌, ◌<◌, min}
 use native.Mathlib.Decide.{ℕ_discrete, dec_le, dec_lt}
+use native.Mathlib.Numerals.{add-one}
 use native.Mathlib.Omega.{arith}
-use lib.ListN.{length, get_or, set, length-set}
+use lib.ListN.{length, get_or, set, length-set, take, drop, replicate, get_or-replicate}
+use Rattle.std.proofs.lemmas.List.{length-take, length-drop, get_or-take, get_or-drop}
 use lib.Seq.{get_or-set_same, get_or-set_other}
 use Rattle.waiting.specs.Trees.{NOKEY, lowest, leaf, HoldsLeast, Tree, Leafed}
 
@@ -44,6 +46,25 @@ lowest_le t at (suc k) j lo hi = pick (λ h. lowest_le t at k j lo h) (ℕ_discr
     pick : (j < at + k → lowest t at k ≤ get_or t j 0) → Dec (j ≡ at + k) → lowest t at (suc k) ≤ get_or t j 0
     pick f (yes e) = let g : get_or t (at + k) 0 ≡ get_or t j 0 = ap (λ (x : ℕ). get_or t x 0) (sym e) in omega arith
     pick f (no d) = let z : lowest t at k ≤ get_or t j 0 = f (omega arith) in omega arith
+
+-- ---- the k keys from place at on, as they are lent
+
+pub range_len : (t : List ℕ) (at k : ℕ) → at + k ≤ length t → length (take (at + k - at) (drop at t)) ≡ k
+range_len t at k h = omega (arith, length-take (at + k - at) (drop at t), length-drop at t)
+
+range_at : (t : List ℕ) (at k i : ℕ) → i < k → get_or (take (at + k - at) (drop at t)) i 0 ≡ get_or t (at + i) 0
+range_at t at k i h = get_or-take (at + k - at) (drop at t) i 0 (omega arith) ∙ get_or-drop at t i 0
+
+-- the least of one key more
+pub lowest_more : (t : List ℕ) (at i k : ℕ) → at + k ≤ length t → i < length (take (at + k - at) (drop at t)) → {x y : ℕ} → x ≡ lowest t at i
+    → y ≡ min x (get_or (take (at + k - at) (drop at t)) i 0) → y ≡ lowest t at (i + 1)
+unfolding lowest
+lowest_more t at i k h l {x} {y} e f = rw add-one (omega (arith, range_len t at k h, range_at t at k i (omega (arith, range_len t at k h))))
+
+-- the least of all
+pub lowest_all : (t : List ℕ) (at i k : ℕ) → at + k ≤ length t → i ≤ length (take (at + k - at) (drop at t)) → length (take (at + k - at) (drop at t)) ≤ i
+    → {x : ℕ} → x ≡ lowest t at i → x ≡ lowest t at k
+lowest_all t at i k h l m {x} e = let f : i ≡ k = omega (arith, range_len t at k h) in subst (λ (j : ℕ). x ≡ lowest t at j) f e
 
 -- the place of a key x among the k from place at on
 At : List ℕ → ℕ → ℕ → ℕ → Type 0
@@ -174,3 +195,17 @@ root_leaf t ok l = top (lowest_at t 0 16 l)
 
     top : At t 0 16 (lowest t 0 16) → (a : ℕ) × (a < 4096) × (leaf t a ≡ lowest t 0 16)
     top (q, lo, hi, e) = middle q (omega arith) (down q (lowest t 0 16) (omega arith) l e)
+
+-- ---- where nobody waits
+
+-- where all keys are none, so is the least
+pub lowest_none : (t : List ℕ) (at k : ℕ) → ((i : ℕ) → i < at + k → get_or t i 0 ≡ NOKEY) → lowest t at k ≡ NOKEY
+unfolding lowest
+lowest_none t at zero h = refl
+lowest_none t at (suc k) h = omega (arith, lowest_none t at k (λ i l. h i (omega arith)), h (at + k) (omega arith))
+
+pub key_none : (i : ℕ) → i < 4368 → get_or (replicate 4368 NOKEY) i 0 ≡ NOKEY
+key_none i l = get_or-replicate 4368 i NOKEY 0 l
+
+pub tree_none : Tree (replicate 4368 NOKEY)
+tree_none i l = key_none i (omega arith) ∙ sym (lowest_none (replicate 4368 NOKEY) (16 + 16 * i) 16 (λ j m. key_none j (omega arith)))

@@ -1,35 +1,37 @@
 // What is done with a label that is offered to a state.
-ghost use Rattle.std.specs.Prelude.{◌≡◌, ◌≤◌, ◌<◌, min, length, get_or};
-ghost use Rattle.waiting.specs.Trees.{Tree};
+ghost use Rattle.std.specs.Prelude.{◌≡◌, ◌≤◌, ◌<◌, length, get_or};
 ghost use Rattle.waiting.specs.Offers.{NOLABEL, Shaped, Offered};
 
-use crate::tree::put;
+use crate::tree::Waiting;
 
-// The label that stands for none: above every cost × 4096 + steps that there may be.
+// The label that stands for none: above every cost × 4096 + steps that there may be. A number, so that any label that is offered is below it.
 pub const NO_LABEL: u64 = 17592186044416;
 
-// The lesser of two operators.
-fn lesser_op(x: u8, y: u8) -> u8
-    ensures { result ≡ min x y }
-{
-    if y < x { y } else { x }
+// What is known of each state so far: its label, whether it waits, and the operator that gave it the label.
+#[derive(Drop)]
+pub struct Found<const STATES: usize> {
+    pub labels: [u64; STATES],
+    pub waiting: Waiting,
+    pub best: [u8; STATES],
+    ghost rooms: { (length labels ≡ STATES) × (length best ≡ STATES) },
 }
 
-// Takes the label if it is lower, and the operator if the label is as good.
-pub fn offer(labels: &mut [u64], t: &mut [u64], best: &mut [u8], a: usize, o: u8, new: u64)
-    requires a_in_bounds { (a < length labels.old) × (a < length best.old) × (length t.old ≡ 4368) × (a < 4096) }
-    requires tree { Tree t.old × (get_or labels.old a 0 ≤ NOLABEL) × Shaped labels.old t.old a }
-    ensures { Offered a o new labels.old t.old best.old labels.new t.new best.new }
-{
-    let old = labels[a];
-    if new < old {
-        labels[a] = new;
-        best[a] = o;
-        put(t, a, new * 4096 + a as u64);
-        return;
-    }
-    if new == old {
-        let first = lesser_op(best[a], o);
-        best[a] = first;
+impl<const STATES: usize> Found<STATES> {
+    // Takes the label if it is lower, and the operator if the label is as good.
+    pub fn offer(&mut self, a: usize, o: u8, new: u64)
+        requires a_in_bounds { (a < STATES) × (a < 4096) }
+        requires shaped { (get_or self.old.labels a 0 ≤ NOLABEL) × Shaped self.old.labels self.old.waiting.keys a }
+        ensures { Offered a o new self.old.labels self.old.waiting.keys self.old.best self.new.labels self.new.waiting.keys self.new.best }
+    {
+        let old = self.labels[a];
+        if new < old {
+            self.labels[a] = new;
+            self.best[a] = o;
+            self.waiting.put(a, new * 4096 + a as u64);
+            return;
+        }
+        if new == old {
+            self.best[a] = self.best[a].min(o);
+        }
     }
 }

@@ -5,10 +5,10 @@ use mathlib.Core.Path.{◌≡◌, refl, sym, ◌∙◌, subst}
 use mathlib.Core.List.{List, ◌++◌}
 use Prim.Native.Nat.{ℕ, ◌-◌, ◌<◌}
 use native.Mathlib.Omega.{arith}
+use Rattle.scan.specs.Found.{clean}
 use Rattle.meaning.specs.Sas.{IsState, Runs, end, paid}
 use Rattle.meaning.specs.Split.{Task, sum, Valid}
 use Rattle.meaning.proofs.Columns.{sum_same}
-use Rattle.scan.specs.declared.Found.TheVariants.{Clean}
 use Rattle.scan.specs.Scan.{tables_fault, input_fault}
 use Rattle.scan.proofs.Validity.{clean_valid, state_clean}
 use Rattle.tables.specs.Layout.{Tables}
@@ -34,29 +34,29 @@ module _ (T : Task) (valid : Valid T) (os : List ℕ) (earlier later : Run) (ste
 
 -- ---- THE THEOREM
 
-module _ (t : Tables) (r : Run) (clean : tables_fault t ≡ Clean) (sized : Sized r) (given : GivenByStartAndLog (task_of t) r) where
+module _ (t : Tables) (r : Run) (judged : tables_fault t ≡ clean) (sized : Sized r) (given : GivenByStartAndLog (task_of t) r) where
   valid : Valid (task_of t)
-  valid = clean_valid t clean
+  valid = clean_valid t judged
 
   -- the steps that it tells
   abbrev done : List ℕ
-  done = (given_told t clean r sized given).0
+  done = (given_told t judged r sized given).0
 
   told : (xs : List Offer) → Told t r.start (done ++ added (task_of t) (state_of r.start) done xs) (ran t r xs)
-  told xs = ran_told t r.start clean given.0 xs done r (given_told t clean r sized given).1
+  told xs = ran_told t r.start judged given.0 xs done r (given_told t judged r sized given).1
 
   now_state : (xs : List Offer) → IsState (sas_of t) (state_of (ran t r xs).now)
-  now_state xs = told_state t r.start clean given.0 (done ++ added (task_of t) (state_of r.start) done xs) (ran t r xs) (told xs)
+  now_state xs = told_state t r.start judged given.0 (done ++ added (task_of t) (state_of r.start) done xs) (ran t r xs) (told xs)
 
   -- at every moment the run's own list shows its state now
   pub kept_now_shown : (xs : List Offer) → Shows t.counts.vars (ran t r xs).now (state_of (ran t r xs).now)
   kept_now_shown xs = (omega (arith, (told xs).sized.now, valid.vars.1), λ v l. refl)
 
   -- what shows the state now is not refused
-  now_clean : (xs : List Offer) (a : List ℕ) → Shows t.counts.vars a (state_of (ran t r xs).now) → input_fault t a ≡ Clean
+  now_clean : (xs : List Offer) (a : List ℕ) → Shows t.counts.vars a (state_of (ran t r xs).now) → input_fault t a ≡ clean
   now_clean xs a (long, same) =
       let state = now_state xs in
-      clean_input t a clean ((state_clean t a).1 (long, λ v l. subst (λ (x : ℕ). x < (sas_of t).dom v) (sym (same v l)) (state v l)))
+      clean_input t a judged ((state_clean t a).1 (long, λ v l. subst (λ (x : ℕ). x < (sas_of t).dom v) (sym (same v l)) (state v l)))
 
   -- BETWEEN TWO MOMENTS: after the offers xs, and after the offers ys that follow them
   module _ (xs ys : List Offer) where
@@ -70,7 +70,7 @@ module _ (t : Tables) (r : Run) (clean : tables_fault t ≡ Clean) (sized : Size
     steps = added (task_of t) (state_of r.start) (done ++ added (task_of t) (state_of r.start) done xs) ys
 
     between : Between (task_of t) steps earlier later
-    between = told_between t r.start clean given.0 done r (given_told t clean r sized given).1 xs ys
+    between = told_between t r.start judged given.0 done r (given_told t judged r sized given).1 xs ys
 
     module _ (a b : List ℕ) (p : Shows t.counts.vars a (state_of earlier.now)) (q : Shows t.counts.vars b (state_of later.now)) where
       back : (v : ℕ) → v < t.counts.vars → state_of earlier.now v ≡ state_of a v

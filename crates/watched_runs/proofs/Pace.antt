@@ -4,20 +4,20 @@ use mathlib.Core.List.{List}
 use Prim.Native.Nat.{ℕ, ◌+◌, ◌<◌}
 use native.Mathlib.Nat.{le_refl}
 use native.Mathlib.Omega.{arith}
+use Rattle.scan.specs.Found.{clean}
 use Rattle.graph.specs.Cost.{Cost, none, fin, ◌⊑◌}
 use Rattle.graph.proofs.Costs.{⊑_none}
+use Rattle.std.specs.Prelude.{Option, Result}
+use Rattle.refusals.specs.declared.Refusal.{Refusal}
 use Rattle.meaning.specs.Sas.{IsState, Runs, end, paid}
 use Rattle.meaning.specs.Split.{sum, Valid}
 use Rattle.meaning.specs.Bound.{away, summed, bound}
 use Rattle.meaning.proofs.Sums.{summed_falls}
 use Rattle.meaning.proofs.Falling.{away_same}
 use Rattle.meaning.proofs.Theorems.{sequence_lowers_by_shares}
-use Rattle.scan.specs.declared.Found.TheVariants.{Clean}
 use Rattle.scan.specs.Scan.{input_fault}
 use Rattle.tables.specs.Layout.{Tables}
 use Rattle.tables.specs.Task.{sas_of, task_of, state_of}
-use Rattle.views.specs.declared.DistanceAnswer.{DistanceAnswer}
-use Rattle.views.specs.declared.BoundAnswer.{BoundAnswer}
 use Rattle.views.specs.Entries.{distance_said, bound_said, DistanceGiven, BoundGiven}
 use Rattle.views.proofs.Judging.{bound_clean}
 use Rattle.views.proofs.Answered.{input_asked, distance_answered, bound_answered}
@@ -60,21 +60,21 @@ told_keeps_pace said f e p q pace = (pace.0, pace.1, p ∙ ap f pace.2, q ∙ ap
 
 -- ---- where nothing is at fault, the answer is the task's own distance or bound
 
-module _ (t : Tables) (s : List ℕ) (clean : input_fault t s ≡ Clean) where
-  distance_is_away : (m : ℕ) → m < t.counts.maps → (x : DistanceAnswer) → DistanceGiven t m s x
+module _ (t : Tables) (s : List ℕ) (clean : input_fault t s ≡ clean) where
+  distance_is_away : (m : ℕ) → m < t.counts.maps → (x : Result (Option ℕ) Refusal) → DistanceGiven t m s x
       → x ≡ distance_said (away (task_of t) (state_of s) m)
   distance_is_away m l x given =
       let own = away (task_of t) (state_of s) m in
       distance_at_unique t m s x (distance_said own) given ((distance_answered t s m own).1 (input_asked t s m clean l, refl))
 
-  bound_is_sum : (x : BoundAnswer) → BoundGiven t s x → x ≡ bound_said (bound (task_of t) (state_of s))
+  bound_is_sum : (x : Result (Option ℕ) Refusal) → BoundGiven t s x → x ≡ bound_said (bound (task_of t) (state_of s))
   bound_is_sum x given =
       let own = bound (task_of t) (state_of s) in
       bound_unique t s x (bound_said own) given ((bound_answered t s own).1 (clean, refl))
 
 -- ---- the steps os run from the state s to the state z
 
-module _ (t : Tables) (s z os : List ℕ) (from : input_fault t s ≡ Clean) (into : input_fault t z ≡ Clean) (legal : Runs (sas_of t) os (state_of s))
+module _ (t : Tables) (s z os : List ℕ) (from : input_fault t s ≡ clean) (into : input_fault t z ≡ clean) (legal : Runs (sas_of t) os (state_of s))
     (lands : (v : ℕ) → v < t.counts.vars → state_of z v ≡ end (sas_of t) os (state_of s) v) where
   valid : Valid (task_of t)
   valid = (bound_clean t s from).0
@@ -94,7 +94,7 @@ module _ (t : Tables) (s z os : List ℕ) (from : input_fault t s ≡ Clean) (in
   bound_paced : FallsAtMost (sum (λ m. paid ((task_of t).share m) os) t.counts.maps) (bound (task_of t) (state_of s)) (bound (task_of t) (state_of z))
   bound_paced = sums_fall (λ m. paid ((task_of t).share m) os) (away (task_of t) (state_of s)) (away (task_of t) (state_of z)) t.counts.maps away_paced
 
-  pub distances_keep_pace : (m k : ℕ) → m < t.counts.maps → k ≡ paid ((task_of t).share m) os → (x y : DistanceAnswer)
+  pub distances_keep_pace : (m k : ℕ) → m < t.counts.maps → k ≡ paid ((task_of t).share m) os → (x y : Result (Option ℕ) Refusal)
       → DistanceGiven t m s x → DistanceGiven t m z y → KeepsPace distance_said k x y
   distances_keep_pace m k l e x y p q = (
     away (task_of t) (state_of s) m,
@@ -104,7 +104,7 @@ module _ (t : Tables) (s z os : List ℕ) (from : input_fault t s ≡ Clean) (in
     rw e (away_paced m l),
   )
 
-  pub bounds_keep_pace : (k : ℕ) → k ≡ sum (λ m. paid ((task_of t).share m) os) t.counts.maps → (x y : BoundAnswer)
+  pub bounds_keep_pace : (k : ℕ) → k ≡ sum (λ m. paid ((task_of t).share m) os) t.counts.maps → (x y : Result (Option ℕ) Refusal)
       → BoundGiven t s x → BoundGiven t z y → KeepsPace bound_said k x y
   bounds_keep_pace k e x y p q =
       (bound (task_of t) (state_of s), bound (task_of t) (state_of z), bound_is_sum t s from x p, bound_is_sum t z into y q, rw e bound_paced)

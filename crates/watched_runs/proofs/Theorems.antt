@@ -5,15 +5,13 @@ use mathlib.Core.Path.{◌≡◌, refl, sym, ◌∙◌, subst}
 use mathlib.Core.List.{List, [], ◌++◌}
 use Prim.Native.Nat.{ℕ, ◌<◌}
 use native.Mathlib.Omega.{arith}
+use Rattle.std.specs.Prelude.{Option, None, Result, Ok}
+use Rattle.refusals.specs.declared.Refusal.{Refusal}
 use Rattle.meaning.specs.Split.{sum}
 use Rattle.meaning.proofs.Columns.{sum_same}
 use Rattle.scan.proofs.Validity.{clean_valid, state_clean}
 use Rattle.tables.specs.Layout.{Tables}
 use Rattle.tables.specs.Task.{task_of, state_of}
-use Rattle.views.specs.declared.DistanceAnswer.{DistanceAnswer}
-use Rattle.views.specs.declared.DistanceAnswer.TheVariants as distance
-use Rattle.views.specs.declared.BoundAnswer.{BoundAnswer}
-use Rattle.views.specs.declared.BoundAnswer.TheVariants as bounds
 use Rattle.views.specs.Entries.{distance_said, bound_said, DistanceGiven, BoundGiven}
 use Rattle.views.proofs.Answered.{distance_said_lem, bound_said_lem}
 use Rattle.sequences.proofs.Passing.{input_clean}
@@ -31,16 +29,16 @@ use Rattle.watched_runs.proofs.Kept.{kept_now_shown, kept_never_jumps}
 
 -- where the earlier is none, the later is: of a map, and of the bound
 module _ (t : Tables) (earlier later : Run) (a b : List ℕ) (never : NeverJumps t earlier later a b) where
-  pub map_none_stays : (m : ℕ) → m < t.counts.maps → (x y : DistanceAnswer) → DistanceGiven t m a x → DistanceGiven t m b y → x ≡ distance.Nowhere
-      → y ≡ distance.Nowhere
+  pub map_none_stays : (m : ℕ) → m < t.counts.maps → (x y : Result (Option ℕ) Refusal) → DistanceGiven t m a x → DistanceGiven t m b y → x ≡ Ok None
+      → y ≡ Ok None
   map_none_stays m l x y f g = none_kept distance_said distance_said_lem _ (never.map m l x y f g)
 
-  pub none_stays : (x y : BoundAnswer) → BoundGiven t a x → BoundGiven t b y → x ≡ bounds.Nowhere → y ≡ bounds.Nowhere
+  pub none_stays : (x y : Result (Option ℕ) Refusal) → BoundGiven t a x → BoundGiven t b y → x ≡ Ok None → y ≡ Ok None
   none_stays x y f g = none_kept bound_said bound_said_lem _ (never.bound x y f g)
 
 -- ---- of any accepted start and any offers
 
-module _ (t : Tables) (s : List ℕ) (accepted : (begun t s).answer ≡ Accepted) where
+module _ (t : Tables) (s : List ℕ) (accepted : (begun t s).answer ≡ Ok Accepted) where
   began : Began t s
   began = accepted_began t s accepted
 
@@ -81,12 +79,12 @@ module _ (t : Tables) (s : List ℕ) (accepted : (begun t s).answer ≡ Accepted
     unfolding added
     nothing_yet m l = map_paid t s accepted [] m l
 
-    pub map_from_start : (m : ℕ) → m < t.counts.maps → (x y : DistanceAnswer) → DistanceGiven t m a x → DistanceGiven t m b y
+    pub map_from_start : (m : ℕ) → m < t.counts.maps → (x y : Result (Option ℕ) Refusal) → DistanceGiven t m a x → DistanceGiven t m b y
         → KeepsPace distance_said (column_of (run_after t s xs) m) x y
     map_from_start m l x y f g =
         subst (λ (k : ℕ). KeepsPace distance_said k x y) (omega (arith, nothing_yet m l)) ((never_jumps [] xs a b at_start q).map m l x y f g)
 
-    pub bound_from_start : (x y : BoundAnswer) → BoundGiven t a x → BoundGiven t b y
+    pub bound_from_start : (x y : Result (Option ℕ) Refusal) → BoundGiven t a x → BoundGiven t b y
         → KeepsPace bound_said (sum (column_of (run_after t s xs)) t.counts.maps) x y
     bound_from_start x y f g =
         subst (λ (k : ℕ). KeepsPace bound_said k x y)

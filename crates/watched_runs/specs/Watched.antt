@@ -1,13 +1,12 @@
 -- THE BOUND DOESN'T JUMP: what a planner may trust who watches a run. The moments are runs that `begin` and `offer` hand back; what is watched are the answers of
 -- `bound`, and of `distance_at` for a map alone, at their states now.
-use Rattle.std.specs.Prelude.{◌≡◌, List, ℕ, ◌+◌, ◌-◌, ◌≤◌, ◌<◌, length, get_or}
+use Rattle.std.specs.Prelude.{◌≡◌, List, ℕ, ◌+◌, ◌-◌, ◌≤◌, ◌<◌, Option, Result, length, get_or}
+use Rattle.refusals.specs.declared.Refusal.{Refusal}
 use Rattle.graph.specs.Cost.{Cost, none, fin}
 use Rattle.meaning.specs.Sas.{State}
 use Rattle.meaning.specs.Split.{sum}
 use Rattle.tables.specs.Layout.{Tables}
 use Rattle.tables.specs.Task.{state_of}
-use Rattle.views.specs.declared.DistanceAnswer.{DistanceAnswer}
-use Rattle.views.specs.declared.BoundAnswer.{BoundAnswer}
 use Rattle.views.specs.Entries.{distance_said, bound_said, DistanceGiven, BoundGiven}
 use Rattle.ledger.specs.declared.Run.{Run}
 use Rattle.ledger.specs.Ledger.{all_columns}
@@ -39,7 +38,7 @@ Shows vars a s = (vars ≤ length a) × ((v : ℕ) → v < vars → state_of a v
 -- in between, and the bound by at most what the maps were paid together
 pub record NeverJumps (t : Tables) (earlier later : Run) (a b : List ℕ) : Type 0 where
   pub column : (c : ℕ) → c < all_columns → column_of earlier c ≤ column_of later c
-  pub map : (m : ℕ) → m < t.counts.maps → (x y : DistanceAnswer) → DistanceGiven t m a x → DistanceGiven t m b y
+  pub map : (m : ℕ) → m < t.counts.maps → (x y : Result (Option ℕ) Refusal) → DistanceGiven t m a x → DistanceGiven t m b y
       → KeepsPace distance_said (column_of later m - column_of earlier m) x y
-  pub bound : (x y : BoundAnswer) → BoundGiven t a x → BoundGiven t b y
+  pub bound : (x y : Result (Option ℕ) Refusal) → BoundGiven t a x → BoundGiven t b y
       → KeepsPace bound_said (paid_between (column_of earlier) (column_of later) t.counts.maps) x y

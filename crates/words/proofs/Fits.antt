@@ -2,6 +2,7 @@
 -- Assumes nothing.
 use mathlib.Core.Path.{◌≡◌, refl, sym, subst}
 use mathlib.Core.List.{List}
+use Rattle.std.specs.Prelude.{Option, Result, Ok, Err}
 use Prim.Native.Nat.{ℕ, ◌*◌, ◌≤◌, ◌<◌}
 use native.Mathlib.Omega.{arith}
 use Rattle.graph.specs.Cost.{Cost, none, fin}
@@ -11,18 +12,16 @@ use Rattle.meaning.specs.Views.{α}
 use Rattle.meaning.specs.Split.{Task, view, Valid}
 use Rattle.meaning.proofs.Sums.{sum_most, summed_number}
 use Rattle.meaning.proofs.Theorems.{distance_at_most}
-use Rattle.scan.specs.declared.Found.{Found}
-use Rattle.scan.specs.declared.Found.TheVariants.{Clean, Fault}
+use Rattle.refusals.specs.declared.Refusal.{Refusal}
+use Rattle.scan.specs.Found.{Found}
 use Rattle.tables.specs.Layout.{Tables}
 use Rattle.tables.specs.Task.{task_of, state_of}
-use Rattle.views.specs.declared.BoundAnswer.{BoundAnswer}
-use Rattle.views.specs.declared.BoundAnswer.TheVariants as bounds
 use Rattle.views.specs.Entries.{ByFault, IsBound, bound_said, BoundGiven}
 use Rattle.scan.specs.Scan.{input_fault}
 use Rattle.views.proofs.Answers.{image_inside, bound_is, bound_only}
 use Rattle.views.proofs.Judging.{bound_clean}
 use Rattle.sequences.specs.declared.choosing.Choice.{Choice}
-use Rattle.sequences.specs.declared.choosing.Choice.TheVariants.{FirstPart, SecondPart, NoPart, Unread}
+use Rattle.sequences.specs.declared.choosing.Choice.TheVariants.{FirstPart, SecondPart, NoPart}
 use Rattle.meaning.specs.Limits.{most_steps}
 use Rattle.sequences.specs.Choosing.{chosen_of, steps_of}
 use Rattle.sequences.proofs.Choices.{Promised, chosen_promised}
@@ -42,25 +41,25 @@ said_fits : (v : Cost) (k : ℕ) → k ≤ 8 → ((b : ℕ) → v ≡ fin b → 
 said_fits none k l h = tt
 said_fits (fin b) k l h = omega (arith, h b refl)
 
-pub sum_fits : (t : Tables) (s : List ℕ) (a : BoundAnswer) → BoundGiven t s a → SumFits a
+pub sum_fits : (t : Tables) (s : List ℕ) (a : Result (Option ℕ) Refusal) → BoundGiven t s a → SumFits a
 sum_fits t s a = at (input_fault t s) refl
   where
     at : (g : Found) → input_fault t s ≡ g
-        → ByFault g (λ f. a ≡ bounds.Refused f) ((v : Cost) × (a ≡ bound_said v) × IsBound (task_of t) (state_of s) v) → SumFits a
-    at Clean e p =
+        → ByFault g (λ f. a ≡ Err f) ((v : Cost) × (a ≡ bound_said v) × IsBound (task_of t) (state_of s) v) → SumFits a
+    at (Ok tt) e p =
         let c = bound_clean t s e in
         let T = task_of t in
         let b = bound_only T c.0 (state_of s) c.1 p.0 (bound T (state_of s)) p.2 (bound_is T c.0 (state_of s) c.1) in
         rw (p.1, b) (said_fits (bound T (state_of s)) T.maps c.0.maps.1 (bound_most T c.0 (state_of s) c.1))
-    at (Fault f) e p = rw p tt
+    at (Err f) e p = rw p tt
 
 -- ---- the opening part
 
-promised_steps : (t : Tables) (s a b : List ℕ) (d : Choice) → Promised t s a b d → steps_of d ≤ most_steps
-promised_steps t s a b (FirstPart n p) h = omega (arith, h.1.within, h.1.moment.inside)
-promised_steps t s a b (SecondPart n p) h = omega (arith, h.1.within, h.1.moment.inside)
-promised_steps t s a b NoPart h = omega arith
-promised_steps t s a b (Unread r) h = omega arith
+promised_steps : (t : Tables) (s a b : List ℕ) (d : Result Choice Refusal) → Promised t s a b d → steps_of d ≤ most_steps
+promised_steps t s a b (Ok (FirstPart p)) h = omega (arith, h.1.within, h.1.moment.inside)
+promised_steps t s a b (Ok (SecondPart p)) h = omega (arith, h.1.within, h.1.moment.inside)
+promised_steps t s a b (Ok NoPart) h = omega arith
+promised_steps t s a b (Err r) h = omega arith
 
 pub chosen_steps_most : (t : Tables) (s a b : List ℕ) → steps_of (chosen_of t s a b) ≤ most_steps
 chosen_steps_most t s a b = promised_steps t s a b (chosen_of t s a b) (chosen_promised t s a b)

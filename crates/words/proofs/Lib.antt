@@ -1,2 +1,2 @@
-pub mod Fits
 pub mod Told
+pub mod Fits

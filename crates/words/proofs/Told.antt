@@ -3,6 +3,7 @@
 use mathlib.Core.Path.{◌≡◌, refl, sym, ap, ap₂, ◌∙◌}
 use mathlib.Core.Bool.{Bool, true, cond, ◌&&◌}
 use mathlib.Core.List.{[], ◌∷◌}
+use Rattle.std.specs.Prelude.{Option, Some, None, Result, Ok, Err}
 use Prim.Native.Nat.{ℕ, ◌/◌, ◌%◌, ◌<◌}
 use native.Mathlib.Omega.{arith}
 use lib.Dec.{ltb, eqb}
@@ -10,24 +11,12 @@ use lib.ListN.{get_or}
 use Rattle.refusals.specs.declared.Refusal.{Refusal}
 use Rattle.refusals.specs.declared.Refusal.TheVariants as refusal
 use Rattle.refusals.specs.Listed.{number_of, place_of}
-use Rattle.scan.specs.declared.Found.{Found}
-use Rattle.scan.specs.declared.Found.TheVariants.{Clean, Fault}
-use Rattle.grammar.specs.declared.Written.{Written}
-use Rattle.grammar.specs.declared.Written.TheVariants as written
-use Rattle.views.specs.declared.DistancesAnswer.{DistancesAnswer}
-use Rattle.views.specs.declared.DistancesAnswer.TheVariants as distances
-use Rattle.views.specs.declared.DistanceAnswer.{DistanceAnswer}
-use Rattle.views.specs.declared.DistanceAnswer.TheVariants as distance
-use Rattle.views.specs.declared.BestAnswer.{BestAnswer}
-use Rattle.views.specs.declared.BestAnswer.TheVariants as best
-use Rattle.views.specs.declared.BoundAnswer.{BoundAnswer}
-use Rattle.views.specs.declared.BoundAnswer.TheVariants as bound
-use Rattle.sequences.specs.declared.judging.Judged.{Judged}
-use Rattle.sequences.specs.declared.judging.Judged.TheVariants as judged
+use Rattle.scan.specs.Found.{Found}
+use Rattle.grammar.specs.Readings.{Written}
 use Rattle.sequences.specs.declared.choosing.Cheaper.{Cheaper}
 use Rattle.sequences.specs.declared.choosing.Cheaper.TheVariants as cheaper
 use Rattle.sequences.specs.declared.choosing.Choice.{Choice}
-use Rattle.sequences.specs.declared.choosing.Choice.TheVariants.{FirstPart, SecondPart, NoPart, Unread}
+use Rattle.sequences.specs.declared.choosing.Choice.TheVariants.{FirstPart, SecondPart, NoPart}
 use Rattle.sequences.specs.Choosing.{list_of, steps_of}
 use Rattle.ledger.specs.declared.Answer.{Answer}
 use Rattle.ledger.specs.declared.Answer.TheVariants as ledger
@@ -36,7 +25,13 @@ use Rattle.words.specs.Words.{
   done,
   first,
   second,
+  done_word,
+  number_word,
+  or_nowhere,
+  named_word,
+  booked_word,
   refused_word,
+  or_refused,
   found_word,
   written_word,
   distances_word,
@@ -117,137 +112,103 @@ refusal_told r q e f = sym (refusal_back r).0 ∙ ap₂ refusal_at e f ∙ (refu
 
 -- ---- an answer
 
--- a word read back: its kind and its number, and from these a refusal, or what other answer they say
-abbrev pub read_back : {A : Type 0} → (Refusal → A) → (ℕ → ℕ → A) → ℕ → A
-read_back refused other w = cond (refuses (w % 256)) (refused (refusal_at (w % 256) (w / 256))) (other (w % 256) (w / 256))
+-- a word read back: its kind and its number, and from these a refusal, or what else they say
+abbrev pub read_back : {A : Type 0} → (ℕ → ℕ → A) → ℕ → Result A Refusal
+read_back other w = cond (refuses (w % 256)) (Err (refusal_at (w % 256) (w / 256))) (Ok (other (w % 256) (w / 256)))
 
-module _ {A : Type 0} (refused : Refusal → A) (other : ℕ → ℕ → A) where
+module _ {A : Type 0} (other : ℕ → ℕ → A) where
   -- the word of a kind and a number
-  word_back : (k x : ℕ) → k < 256 → read_back refused other (word k x) ≡ cond (refuses k) (refused (refusal_at k x)) (other k x)
+  word_back : (k x : ℕ) → k < 256 → read_back other (word k x) ≡ cond (refuses k) (Err (refusal_at k x)) (Ok (other k x))
   word_back k x l =
       let e : word k x % 256 ≡ k = omega arith in
       let f : word k x / 256 ≡ x = omega arith in
-      ap₂ (λ m n. cond (refuses m) (refused (refusal_at m n)) (other m n)) e f
+      ap₂ {C = Result A Refusal} (λ m n. cond (refuses m) (Err (refusal_at m n)) (Ok (other m n))) e f
 
-  refused_back : (r : Refusal) → read_back refused other (refused_word r) ≡ refused r
+  refused_back : (r : Refusal) → read_back other (refused_word r) ≡ Err r
   refused_back r =
-      word_back (number_of r) (place_of r) (omega (arith, number_small r)) ∙ rw (refusal_back r).1 (ap refused (refusal_back r).0)
+      word_back (number_of r) (place_of r) (omega (arith, number_small r)) ∙ rw (refusal_back r).1 (ap (λ (q : Refusal). Err q) (refusal_back r).0)
 
--- what is read back is told apart
-told : {A : Type 0} (of : A → ℕ) (back : ℕ → A) → ((a : A) → back (of a) ≡ a) → (a b : A) → of a ≡ of b → a ≡ b
-told of back undone a b e = sym (undone a) ∙ ap back e ∙ undone b
+  -- what is told where nothing was refused is read back, if it is by itself
+  pub back : (told : A → ℕ) → ((x : A) → read_back other (told x) ≡ Ok x) → (a : Result A Refusal) → read_back other (or_refused told a) ≡ a
+  back told own (Ok x) = own x
+  back told own (Err r) = refused_back r
+
+  -- and what is read back is told apart
+  told_apart : (told : A → ℕ) → ((x : A) → read_back other (told x) ≡ Ok x) → (a b : Result A Refusal) → or_refused told a ≡ or_refused told b → a ≡ b
+  told_apart told own a b e = sym (back told own a) ∙ ap (read_back other) e ∙ back told own b
 
 -- clean tables
-abbrev pub clean : ℕ → ℕ → Found
-clean k x = Clean
-
-pub found_back : (a : Found) → read_back Fault clean (found_word a) ≡ a
-found_back Clean = refl
-found_back (Fault r) = refused_back Fault clean r
-
 pub found_told : (a b : Found) → found_word a ≡ found_word b → a ≡ b
-found_told = told found_word (read_back Fault clean) found_back
+found_told = told_apart (λ k x. tt) done_word (λ x. refl)
+
+-- a number
+abbrev pub number : ℕ → ℕ → ℕ
+number k x = x
+
+number_back : (n : ℕ) → read_back number (number_word n) ≡ Ok n
+number_back n = word_back number done n (omega arith)
 
 -- how many bytes a text has
-abbrev pub bytes : ℕ → ℕ → Written
-bytes k x = written.Length x
-
-pub written_back : (a : Written) → read_back written.Refused bytes (written_word a) ≡ a
-written_back (written.Length n) = word_back written.Refused bytes done n (omega arith)
-written_back (written.Refused r) = refused_back written.Refused bytes r
-
 pub written_told : (a b : Written) → written_word a ≡ written_word b → a ≡ b
-written_told = told written_word (read_back written.Refused bytes) written_back
+written_told = told_apart number number_word number_back
 
 -- the count of rounds
-abbrev pub rounds : ℕ → ℕ → DistancesAnswer
-rounds k x = distances.Rounds x
-
-pub distances_back : (a : DistancesAnswer) → read_back distances.Refused rounds (distances_word a) ≡ a
-distances_back (distances.Rounds n) = word_back distances.Refused rounds done n (omega arith)
-distances_back (distances.Refused r) = refused_back distances.Refused rounds r
-
-pub distances_told : (a b : DistancesAnswer) → distances_word a ≡ distances_word b → a ≡ b
-distances_told = told distances_word (read_back distances.Refused rounds) distances_back
-
--- a distance, or none
-abbrev pub away : ℕ → ℕ → DistanceAnswer
-away k x = cond (eqb k done) (distance.Of x) distance.Nowhere
-
-pub distance_back : (a : DistanceAnswer) → read_back distance.Refused away (distance_word a) ≡ a
-distance_back (distance.Of d) = word_back distance.Refused away done d (omega arith)
-distance_back distance.Nowhere = refl
-distance_back (distance.Refused r) = refused_back distance.Refused away r
-
-pub distance_told : (a b : DistanceAnswer) → distance_word a ≡ distance_word b → a ≡ b
-distance_told = told distance_word (read_back distance.Refused away) distance_back
-
--- an operator to take, or none
-abbrev pub step : ℕ → ℕ → BestAnswer
-step k x = cond (eqb k done) (best.Take x) best.Halt
-
-pub best_back : (a : BestAnswer) → read_back best.Refused step (best_word a) ≡ a
-best_back (best.Take o) = word_back best.Refused step done o (omega arith)
-best_back best.Halt = refl
-best_back (best.Refused r) = refused_back best.Refused step r
-
-pub best_told : (a b : BestAnswer) → best_word a ≡ best_word b → a ≡ b
-best_told = told best_word (read_back best.Refused step) best_back
-
--- a sum, or none
-abbrev pub sum : ℕ → ℕ → BoundAnswer
-sum k x = cond (eqb k done) (bound.Of x) bound.Nowhere
-
-pub bound_back : (a : BoundAnswer) → read_back bound.Refused sum (bound_word a) ≡ a
-bound_back (bound.Of b) = word_back bound.Refused sum done b (omega arith)
-bound_back bound.Nowhere = refl
-bound_back (bound.Refused r) = refused_back bound.Refused sum r
-
-pub bound_told : (a b : BoundAnswer) → bound_word a ≡ bound_word b → a ≡ b
-bound_told = told bound_word (read_back bound.Refused sum) bound_back
+pub distances_told : (a b : Result ℕ Refusal) → distances_word a ≡ distances_word b → a ≡ b
+distances_told = told_apart number number_word number_back
 
 -- the cost of a sequence that passed
-abbrev pub passed : ℕ → ℕ → Judged
-passed k x = judged.Passed x
+pub judged_told : (a b : Result ℕ Refusal) → judged_word a ≡ judged_word b → a ≡ b
+judged_told = told_apart number number_word number_back
 
-pub judged_back : (a : Judged) → read_back judged.Refused passed (judged_word a) ≡ a
-judged_back (judged.Passed p) = word_back judged.Refused passed done p (omega arith)
-judged_back (judged.Refused r) = refused_back judged.Refused passed r
+-- a number, or none
+abbrev pub number_if : ℕ → ℕ → Option ℕ
+number_if k x = cond (eqb k done) (Some x) None
 
-pub judged_told : (a b : Judged) → judged_word a ≡ judged_word b → a ≡ b
-judged_told = told judged_word (read_back judged.Refused passed) judged_back
+number_if_back : (n : Option ℕ) → read_back number_if (or_nowhere number_word n) ≡ Ok n
+number_if_back (Some n) = word_back number_if done n (omega arith)
+number_if_back None = refl
+
+-- a distance
+pub distance_told : (a b : Result (Option ℕ) Refusal) → distance_word a ≡ distance_word b → a ≡ b
+distance_told = told_apart number_if (or_nowhere number_word) number_if_back
+
+-- an operator to take
+pub best_told : (a b : Result (Option ℕ) Refusal) → best_word a ≡ best_word b → a ≡ b
+best_told = told_apart number_if (or_nowhere number_word) number_if_back
+
+-- a sum
+pub bound_told : (a b : Result (Option ℕ) Refusal) → bound_word a ≡ bound_word b → a ≡ b
+bound_told = told_apart number_if (or_nowhere number_word) number_if_back
 
 -- which list is the cheaper
 abbrev pub which : ℕ → ℕ → Cheaper
 which k x = cond (eqb k first) (cheaper.First x) (cond (eqb k second) (cheaper.Second x) cheaper.Neither)
 
-pub cheaper_back : (a : Cheaper) → read_back cheaper.Refused which (cheaper_word a) ≡ a
-cheaper_back (cheaper.First p) = word_back cheaper.Refused which first p (omega arith)
-cheaper_back (cheaper.Second p) = word_back cheaper.Refused which second p (omega arith)
-cheaper_back cheaper.Neither = refl
-cheaper_back (cheaper.Refused r) = refused_back cheaper.Refused which r
+which_back : (n : Cheaper) → read_back which (named_word n) ≡ Ok n
+which_back (cheaper.First p) = word_back which first p (omega arith)
+which_back (cheaper.Second p) = word_back which second p (omega arith)
+which_back cheaper.Neither = refl
 
-pub cheaper_told : (a b : Cheaper) → cheaper_word a ≡ cheaper_word b → a ≡ b
-cheaper_told = told cheaper_word (read_back cheaper.Refused which) cheaper_back
+pub cheaper_told : (a b : Result Cheaper Refusal) → cheaper_word a ≡ cheaper_word b → a ≡ b
+cheaper_told = told_apart which named_word which_back
 
 -- of which list the opening part is, and how many steps it has: all that the word is to tell, so neither and refused input are as the empty part of the first
-list_small : (d : Choice) → list_of d first second < 256
-list_small (FirstPart n p) = omega arith
-list_small (SecondPart n p) = omega arith
-list_small NoPart = omega arith
-list_small (Unread r) = omega arith
+list_small : (d : Result Choice Refusal) → list_of d first second < 256
+list_small (Ok (FirstPart p)) = omega arith
+list_small (Ok (SecondPart p)) = omega arith
+list_small (Ok NoPart) = omega arith
+list_small (Err r) = omega arith
 
-pub opening_told : (d e : Choice) → opening_word d ≡ opening_word e → (list_of d first second ≡ list_of e first second) × (steps_of d ≡ steps_of e)
+pub opening_told : (d e : Result Choice Refusal) → opening_word d ≡ opening_word e → (list_of d first second ≡ list_of e first second) × (steps_of d ≡ steps_of e)
 opening_told d e = word_told (list_of d first second) (list_of e first second) (steps_of d) (steps_of e) (list_small d) (list_small e)
 
 -- an offer or a start
 abbrev pub booked : ℕ → ℕ → Answer
 booked k x = cond (eqb k done) ledger.Accepted ledger.Repeated
 
-pub answer_back : (a : Answer) → read_back ledger.Refused booked (answer_word a) ≡ a
-answer_back ledger.Accepted = refl
-answer_back ledger.Repeated = refl
-answer_back (ledger.Refused r) = refused_back ledger.Refused booked r
+booked_back : (n : Answer) → read_back booked (booked_word n) ≡ Ok n
+booked_back ledger.Accepted = refl
+booked_back ledger.Repeated = refl
 
-pub answer_told : (a b : Answer) → answer_word a ≡ answer_word b → a ≡ b
-answer_told = told answer_word (read_back ledger.Refused booked) answer_back
+pub answer_told : (a b : Result Answer Refusal) → answer_word a ≡ answer_word b → a ≡ b
+answer_told = told_apart booked booked_word booked_back

@@ -1,23 +1,9 @@
 -- What goes back to C: one word an answer, a kind below 256 and a number above it. A refusal's kind is its number on the paper's list, and the number its place.
-use Rattle.std.specs.Prelude.{ℕ, ◌+◌, ◌*◌, ◌<◌}
+use Rattle.std.specs.Prelude.{ℕ, ◌+◌, ◌*◌, ◌<◌, Option, Some, None, Result, Ok, Err, IfOk, IfSome}
 use Rattle.refusals.specs.declared.Refusal.{Refusal}
 use Rattle.refusals.specs.Listed.{number_of, place_of}
-use Rattle.scan.specs.declared.Found.{Found}
-use Rattle.scan.specs.declared.Found.TheVariants.{Clean, Fault}
-use Rattle.grammar.specs.declared.Reading.{Reading}
-use Rattle.grammar.specs.declared.Reading.TheVariants as reading
-use Rattle.grammar.specs.declared.Written.{Written}
-use Rattle.grammar.specs.declared.Written.TheVariants as written
-use Rattle.views.specs.declared.DistancesAnswer.{DistancesAnswer}
-use Rattle.views.specs.declared.DistancesAnswer.TheVariants as distances
-use Rattle.views.specs.declared.DistanceAnswer.{DistanceAnswer}
-use Rattle.views.specs.declared.DistanceAnswer.TheVariants as distance
-use Rattle.views.specs.declared.BestAnswer.{BestAnswer}
-use Rattle.views.specs.declared.BestAnswer.TheVariants as best
-use Rattle.views.specs.declared.BoundAnswer.{BoundAnswer}
-use Rattle.views.specs.declared.BoundAnswer.TheVariants as bound
-use Rattle.sequences.specs.declared.judging.Judged.{Judged}
-use Rattle.sequences.specs.declared.judging.Judged.TheVariants as judged
+use Rattle.scan.specs.Found.{Found}
+use Rattle.grammar.specs.Readings.{Reading, Written}
 use Rattle.sequences.specs.declared.choosing.Cheaper.{Cheaper}
 use Rattle.sequences.specs.declared.choosing.Cheaper.TheVariants as cheaper
 use Rattle.sequences.specs.declared.choosing.Choice.{Choice}
@@ -48,72 +34,83 @@ second = 131
 abbrev pub neither : ℕ
 neither = 132
 
+-- ---- IN PARTS: done, with nothing to tell; a number; what may be none; which list is the cheaper, with its cost; an offer or a start that wasn't refused
+abbrev pub done_word : {A : Type 0} → A → ℕ
+done_word x = word done 0
+
+abbrev pub number_word : ℕ → ℕ
+number_word n = word done n
+
+abbrev pub or_nowhere : {A : Type 0} → (A → ℕ) → Option A → ℕ
+or_nowhere told (Some x) = told x
+or_nowhere told None = word nowhere 0
+
+abbrev pub named_word : Cheaper → ℕ
+named_word (cheaper.First p) = word first p
+named_word (cheaper.Second p) = word second p
+named_word cheaper.Neither = word neither 0
+
+abbrev pub booked_word : Answer → ℕ
+booked_word ledger.Accepted = word done 0
+booked_word ledger.Repeated = word repeated 0
+
+-- a number that is told fits above its kind in a word of 64 bits
+abbrev pub FitsAbove : ℕ → Type 0
+FitsAbove n = n < 72057594037927936
+
 -- a refusal: its number and its place
 abbrev pub refused_word : Refusal → ℕ
 refused_word r = word (number_of r) (place_of r)
 
--- clean tables
+-- what is told where nothing was refused, or the refusal
+abbrev pub or_refused : {A : Type 0} → (A → ℕ) → Result A Refusal → ℕ
+or_refused told (Ok x) = told x
+or_refused told (Err r) = refused_word r
+
+-- ---- THE ANSWERS. Clean tables
 abbrev pub found_word : Found → ℕ
-found_word Clean = word done 0
-found_word (Fault r) = refused_word r
+found_word = or_refused done_word
 
 -- a reading; the counts go back beside it
 abbrev pub reading_word : Reading → ℕ
-reading_word (reading.Accepted c) = word done 0
-reading_word (reading.Refused r) = refused_word r
+reading_word = or_refused done_word
 
 -- how many bytes a text has
 abbrev pub written_word : Written → ℕ
-written_word (written.Length n) = word done n
-written_word (written.Refused r) = refused_word r
+written_word = or_refused number_word
 
 -- the count of rounds
-abbrev pub distances_word : DistancesAnswer → ℕ
-distances_word (distances.Rounds n) = word done n
-distances_word (distances.Refused r) = refused_word r
+abbrev pub distances_word : Result ℕ Refusal → ℕ
+distances_word = or_refused number_word
 
 -- a distance, or none
-abbrev pub distance_word : DistanceAnswer → ℕ
-distance_word (distance.Of d) = word done d
-distance_word distance.Nowhere = word nowhere 0
-distance_word (distance.Refused r) = refused_word r
+abbrev pub distance_word : Result (Option ℕ) Refusal → ℕ
+distance_word = or_refused (or_nowhere number_word)
 
 -- an operator to take, or none
-abbrev pub best_word : BestAnswer → ℕ
-best_word (best.Take o) = word done o
-best_word best.Halt = word nowhere 0
-best_word (best.Refused r) = refused_word r
+abbrev pub best_word : Result (Option ℕ) Refusal → ℕ
+best_word = or_refused (or_nowhere number_word)
 
 -- a sum, or none
-abbrev pub bound_word : BoundAnswer → ℕ
-bound_word (bound.Of b) = word done b
-bound_word bound.Nowhere = word nowhere 0
-bound_word (bound.Refused r) = refused_word r
+abbrev pub bound_word : Result (Option ℕ) Refusal → ℕ
+bound_word = or_refused (or_nowhere number_word)
 
--- a sum that is told fits above its kind in a word of 64 bits; every sum that the desk gives does
-abbrev pub SumFits : BoundAnswer → Type 0
-SumFits (bound.Of b) = b < 72057594037927936
-SumFits bound.Nowhere = Unit {0}
-SumFits (bound.Refused r) = Unit {0}
+-- every sum that the desk gives fits
+abbrev pub SumFits : Result (Option ℕ) Refusal → Type 0
+SumFits a = IfOk a (λ sum. IfSome sum FitsAbove)
 
 -- the cost of a sequence that passed
-abbrev pub judged_word : Judged → ℕ
-judged_word (judged.Passed p) = word done p
-judged_word (judged.Refused r) = refused_word r
+abbrev pub judged_word : Result ℕ Refusal → ℕ
+judged_word = or_refused number_word
 
 -- which list is the cheaper, with its cost
-abbrev pub cheaper_word : Cheaper → ℕ
-cheaper_word (cheaper.First p) = word first p
-cheaper_word (cheaper.Second p) = word second p
-cheaper_word cheaper.Neither = word neither 0
-cheaper_word (cheaper.Refused r) = refused_word r
+abbrev pub cheaper_word : Result Cheaper Refusal → ℕ
+cheaper_word = or_refused named_word
 
 -- of which list the opening part is, and how many steps it has
-abbrev pub opening_word : Choice → ℕ
+abbrev pub opening_word : Result Choice Refusal → ℕ
 opening_word d = word (list_of d first second) (steps_of d)
 
 -- an offer or a start
-abbrev pub answer_word : Answer → ℕ
-answer_word ledger.Accepted = word done 0
-answer_word ledger.Repeated = word repeated 0
-answer_word (ledger.Refused r) = refused_word r
+abbrev pub answer_word : Result Answer Refusal → ℕ
+answer_word = or_refused booked_word

@@ -1,20 +1,17 @@
 // One word an answer, for C: a kind below 256 and a number above it. A refusal's kind is its number on the paper's list, and the number its place.
 #![tactic(auto)]
 
-ghost use Rattle.std.specs.Prelude.{◌≡◌, ◌≤◌};
-ghost use Rattle.sequences.specs.Choosing.{steps_of};
+ghost use Rattle.std.specs.Prelude.{ℕ, ◌≡◌, ◌≤◌, ◌<◌, IfOk, IfSome, ⊤};
 ghost use Rattle.meaning.specs.Limits.{most_steps};
-ghost use Rattle.words.specs.Words.{word, refused_word, found_word, written_word, distances_word, distance_word, best_word, bound_word, SumFits, judged_word, cheaper_word, opening_word, answer_word};
+ghost use Rattle.sequences.specs.Choosing.{steps_of};
+ghost use Rattle.words.specs.Words.{word, done_word, number_word, or_nowhere, named_word, booked_word, FitsAbove, refused_word, or_refused, opening_word};
 
-use grammar::Written;
 use ledger::Answer;
 use refusals::{Refusal, number, place};
-use scan::Found;
 use sequences::choosing::{Cheaper, Choice};
-use sequences::judging::Judged;
-use views::{BestAnswer, BoundAnswer, DistanceAnswer, DistancesAnswer};
 
-// The kinds of the answers that are no refusals. With `DONE` goes a number where there is one to tell.
+// The kinds of the answers that are no refusals. With `DONE` goes a number where there is one to tell. Numbers and no enum: C reads them (include/desk.h), and a
+// refusal's kind is its own number.
 pub const DONE: u32 = 0;
 
 pub const NOWHERE: u32 = 128;
@@ -31,122 +28,130 @@ pub const NEITHER: u32 = 132;
 pub fn word(kind: u32, x: u32) -> u64
     ensures { result ≡ word kind x }
 {
-    kind as u64 + 256 * (x as u64)
+    u64::from(kind) + 256 * u64::from(x)
 }
 
-// A refusal.
-pub fn refused_word(r: Refusal) -> u64
-    ensures { result ≡ refused_word r }
-{
-    word(number(r), place(r))
+// What C is told by one word, if it fits.
+pub trait Tell {
+    ghost told: { Self → ℕ };
+
+    ghost fits: { Self → Type 0 };
+
+    fn word(self) -> u64
+        requires { fits self }
+        ensures { result ≡ told self };
 }
 
-// What the scan of tables found.
-pub fn found_word(found: Found) -> u64
-    ensures { result ≡ found_word found }
-{
-    match found {
-        Found::Clean => word(DONE, 0),
-        Found::Fault(r) => refused_word(r),
+// Done, and no number to tell.
+impl Tell for () {
+    ghost told = { done_word };
+
+    ghost fits = { λ _. ⊤ };
+
+    fn word(self) -> u64 {
+        word(DONE, 0)
     }
 }
 
-// How many bytes a text has.
-pub fn written_word(a: Written) -> u64
-    ensures { result ≡ written_word a }
-{
-    match a {
-        Written::Length(n) => word(DONE, n),
-        Written::Refused(r) => refused_word(r),
+// A number: a count of bytes or rounds, a cost, a distance, an operator.
+impl Tell for u32 {
+    ghost told = { number_word };
+
+    ghost fits = { λ _. ⊤ };
+
+    fn word(self) -> u64 {
+        word(DONE, self)
     }
 }
 
-// The count of rounds.
-pub fn distances_word(a: DistancesAnswer) -> u64
-    ensures { result ≡ distances_word a }
-{
-    match a {
-        DistancesAnswer::Rounds(n) => word(DONE, n),
-        DistancesAnswer::Refused(r) => refused_word(r),
+// A sum is above 32 bits, and has its own way into a word.
+impl Tell for u64 {
+    ghost told = { number_word };
+
+    ghost fits = { FitsAbove };
+
+    fn word(self) -> u64 {
+        256 * self
     }
 }
 
-// A distance, or none.
-pub fn distance_word(a: DistanceAnswer) -> u64
-    ensures { result ≡ distance_word a }
-{
-    match a {
-        DistanceAnswer::Of(d) => word(DONE, d),
-        DistanceAnswer::Nowhere => word(NOWHERE, 0),
-        DistanceAnswer::Refused(r) => refused_word(r),
-    }
-}
+// What may be none.
+impl<T: Tell> Tell for Option<T> {
+    ghost told = { or_nowhere T.told };
 
-// An operator to take, or none.
-pub fn best_word(a: BestAnswer) -> u64
-    ensures { result ≡ best_word a }
-{
-    match a {
-        BestAnswer::Take(o) => word(DONE, o),
-        BestAnswer::Halt => word(NOWHERE, 0),
-        BestAnswer::Refused(r) => refused_word(r),
-    }
-}
+    ghost fits = { λ x. IfSome x T.fits };
 
-// A sum, or none. A sum is above 32 bits, and has its own way into a word.
-pub fn bound_word(a: BoundAnswer) -> u64
-    requires { SumFits a }
-    ensures { result ≡ bound_word a }
-{
-    match a {
-        BoundAnswer::Of(b) => 256 * b,
-        BoundAnswer::Nowhere => word(NOWHERE, 0),
-        BoundAnswer::Refused(r) => refused_word(r),
-    }
-}
-
-// The cost of a sequence that passed.
-pub fn judged_word(a: Judged) -> u64
-    ensures { result ≡ judged_word a }
-{
-    match a {
-        Judged::Passed(p) => word(DONE, p),
-        Judged::Refused(r) => refused_word(r),
+    fn word(self) -> u64 {
+        match self {
+            Some(x) => x.word(),
+            None => word(NOWHERE, 0),
+        }
     }
 }
 
 // Which list is the cheaper, with its cost.
-pub fn cheaper_word(a: Cheaper) -> u64
-    ensures { result ≡ cheaper_word a }
-{
-    match a {
-        Cheaper::First(p) => word(FIRST, p),
-        Cheaper::Second(p) => word(SECOND, p),
-        Cheaper::Neither => word(NEITHER, 0),
-        Cheaper::Refused(r) => refused_word(r),
-    }
-}
+impl Tell for Cheaper {
+    ghost told = { named_word };
 
-// Of which list the opening part is, and how many steps it has; for neither, or refused input, the empty part of the first.
-pub fn opening_word(d: Choice) -> u64
-    requires { steps_of d ≤ most_steps }
-    ensures { result ≡ opening_word d }
-{
-    match d {
-        Choice::FirstPart(n, _) => word(FIRST, n as u32),
-        Choice::SecondPart(n, _) => word(SECOND, n as u32),
-        Choice::NoPart => word(FIRST, 0),
-        Choice::Unread(_) => word(FIRST, 0),
+    ghost fits = { λ _. ⊤ };
+
+    fn word(self) -> u64 {
+        match self {
+            Cheaper::First(p) => word(FIRST, p),
+            Cheaper::Second(p) => word(SECOND, p),
+            Cheaper::Neither => word(NEITHER, 0),
+        }
     }
 }
 
 // What an offer, or a start, is answered.
-pub fn answer_word(a: Answer) -> u64
-    ensures { result ≡ answer_word a }
+impl Tell for Answer {
+    ghost told = { booked_word };
+
+    ghost fits = { λ _. ⊤ };
+
+    fn word(self) -> u64 {
+        match self {
+            Answer::Accepted => word(DONE, 0),
+            Answer::Repeated => word(REPEATED, 0),
+        }
+    }
+}
+
+// A refusal.
+impl Tell for Refusal {
+    ghost told = { refused_word };
+
+    ghost fits = { λ _. ⊤ };
+
+    fn word(self) -> u64 {
+        word(number(self), place(self))
+    }
+}
+
+// An answer that may be refused.
+impl<T: Tell> Tell for Result<T, Refusal> {
+    ghost told = { or_refused T.told };
+
+    ghost fits = { λ x. IfOk x T.fits };
+
+    fn word(self) -> u64 {
+        match self {
+            Ok(x) => x.word(),
+            Err(r) => r.word(),
+        }
+    }
+}
+
+// Of which list the opening part is, and how many steps it has; for neither, or refused input, the empty part of the first: no refusal is told, so this is no `Tell`.
+#[tactic(auto, unfolding(meaning::specs::Limits::most_steps))]
+pub fn opening_word(d: Result<Choice, Refusal>) -> u64
+    requires { steps_of d ≤ most_steps }
+    ensures { result ≡ opening_word d }
 {
-    match a {
-        Answer::Accepted => word(DONE, 0),
-        Answer::Repeated => word(REPEATED, 0),
-        Answer::Refused(r) => refused_word(r),
+    match d {
+        Ok(Choice::FirstPart(part)) => word(FIRST, part.steps as u32),
+        Ok(Choice::SecondPart(part)) => word(SECOND, part.steps as u32),
+        Ok(Choice::NoPart) | Err(_) => word(FIRST, 0),
     }
 }

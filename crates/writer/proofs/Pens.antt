@@ -4,13 +4,12 @@ use Prim.Native.Nat.{ℕ, ◌+◌, ◌≤◌, ◌<◌}
 use native.Mathlib.Omega.{arith}
 use mathlib.Core.Path.{◌≡◌, refl, sym, ap, ap₂, ◌∙◌}
 use mathlib.Core.List.{List, [], ◌∷◌, ◌++◌, append_assoc, append-nil}
-use lib.Dec.{ltb}
-use lib.ListN.{length, set, length-append, length-set}
+use lib.ListN.{length, set, length-append}
 use lib.Seq.{set_at}
 use borrow.Author.Tests.{lt-ltb, le-ltb}
-use Rattle.meaning.proofs.Facts.{by_cases}
 use Rattle.grammar.specs.Writing.{over}
-use Rattle.writer.specs.Inside.Pen.{Pen, pen, stroke, inked, Writes}
+use Rattle.writer.specs.declared.pen as declared
+use Rattle.writer.specs.Inside.Pen.{Pen, pen, held, stroke, inked, Writes, Puts}
 
 -- ---- a byte
 
@@ -29,46 +28,47 @@ unfolding inked
 inked_append p [] y = refl
 inked_append p (b ∷ x) y = inked_append (stroke p b) x y
 
-pub nothing : (p : Pen) → Writes p [] p
+pub nothing : (p : declared.Pen.Pen) → Puts p [] p
 unfolding inked
-nothing p = record { leaves = refl }
+nothing p = record { writes = record { leaves = refl }; same_buffer = refl }
 
-pub after : {p q r : Pen} {x y : List ℕ} → Writes p x q → Writes q y r → Writes p (x ++ y) r
-after {p = p} {x = x} {y = y} e f = record { leaves = f.leaves ∙ ap (λ (s : Pen). inked s y) e.leaves ∙ sym (inked_append p x y) }
+pub after : {p q r : declared.Pen.Pen} {x y : List ℕ} → Puts p x q → Puts q y r → Puts p (x ++ y) r
+after {p = p} {x = x} {y = y} e f =
+    record {
+      writes = record { leaves = f.writes.leaves ∙ ap (λ (s : Pen). inked s y) e.writes.leaves ∙ sym (inked_append (held p) x y) };
+      same_buffer = f.same_buffer ∙ e.same_buffer;
+    }
 
 -- the same text, said otherwise
-pub so : {p q : Pen} {x y : List ℕ} → Writes p x q → x ≡ y → Writes p y q
-so {p = p} e f = record { leaves = e.leaves ∙ ap (inked p) f }
+pub so : {p q : declared.Pen.Pen} {x y : List ℕ} → Puts p x q → x ≡ y → Puts p y q
+so {p = p} e f = record { writes = record { leaves = e.writes.leaves ∙ ap (inked (held p)) f }; same_buffer = e.same_buffer }
 
--- ---- however much is written, the buffer stays as long as it was
+-- ---- a loop: from p on the whole text is under way, and at q what is left of it leaves what the whole leaves
 
-stroke_long : (p : Pen) (x : ℕ) → length (stroke p x).bytes ≡ length p.bytes
-unfolding stroke
-stroke_long p x =
-    by_cases (ltb p.at (length p.bytes)) (λ h. rw h (length-set p.bytes p.at x)) (λ h. rw h refl)
-
-inked_long : (p : Pen) (x : List ℕ) → length (inked p x).bytes ≡ length p.bytes
-unfolding inked
-inked_long p [] = refl
-inked_long p (b ∷ x) = inked_long (stroke p b) x ∙ stroke_long p b
-
-pub kept_long : {p q : Pen} {x : List ℕ} → Writes p x q → length q.bytes ≡ length p.bytes
-kept_long {p = p} {x = x} e = ap (λ (q : Pen). length q.bytes) e.leaves ∙ inked_long p x
-
--- ---- a loop: writing what is left leaves what the whole leaves
+pub record Under (p : declared.Pen.Pen) (whole left : List ℕ) (q : declared.Pen.Pen) : Type 0 where
+  pub leaves : inked (held q) left ≡ inked (held p) whole
+  pub same_buffer : q.out.ghost_name ≡ p.out.ghost_name
 
 -- at its begin all is left
-pub whole : (p : Pen) (x : List ℕ) → Writes p x (inked p x)
-whole p x = record { leaves = refl }
+pub begins : (p : declared.Pen.Pen) {x l : List ℕ} → l ≡ x → Under p x l p
+begins p e = record { leaves = ap (inked (held p)) e; same_buffer = refl }
 
 -- a turn writes x of it
-pub turn : {p q w : Pen} {x l m : List ℕ} → Writes p x q → l ≡ x ++ m → Writes p l w → Writes q m w
-turn {p = p} {x = x} {m = m} e f i =
-    record { leaves = i.leaves ∙ ap (inked p) f ∙ inked_append p x m ∙ ap (λ (s : Pen). inked s m) (sym e.leaves) }
+pub goes_on : {p q r : declared.Pen.Pen} {w x l m : List ℕ} → Under p w l q → l ≡ x ++ m → Puts q x r → Under p w m r
+goes_on {q = q} {x = x} {m = m} u f e =
+    record {
+      leaves = ap (λ (s : Pen). inked s m) e.writes.leaves ∙ sym (inked_append (held q) x m) ∙ ap (inked (held q)) (sym f) ∙ u.leaves;
+      same_buffer = e.same_buffer ∙ u.same_buffer;
+    }
 
--- and at the end x, which may be nothing
-pub done : {p q r : Pen} {x l y : List ℕ} → Writes p x r → l ≡ x → Writes p l (inked q y) → Writes q y r
-done {p = p} e f i = record { leaves = e.leaves ∙ sym (i.leaves ∙ ap (inked p) f) }
+-- and at the end nothing is left
+pub ends : {p q : declared.Pen.Pen} {w l : List ℕ} → Under p w l q → l ≡ [] → Puts p w q
+unfolding inked
+ends {q = q} u f =
+    record {
+      writes = record { leaves = ap (inked (held q)) (sym f) ∙ u.leaves };
+      same_buffer = u.same_buffer;
+    }
 
 -- ---- a page with room
 

@@ -12,42 +12,42 @@ mod lines;
 mod pen;
 mod rows;
 
-use grammar::Written;
-use lines::{put_count, put_goal, put_maps, put_ops, put_quota, put_split, put_values};
 use meaning::limits::BYTES_MOST;
+use pen::Pen;
 use refusals::Refusal;
-use scan::{Found, tables_fault};
-use tables::Counts;
+use scan::tables_fault;
+use tables::LentTables;
 use tables::readers::{DOM_ROW, INIT_ROW};
 
-// The whole text, from the buffer's first place on.
-fn put_task(out: &mut [u8], c: Counts, facts: &[u8], costs: &[u32], shares: &[u32]) -> usize
-    requires { (c.vars ≤ most_vars) × (c.ops ≤ most_ops) × (c.maps ≤ most_maps) }
-    ensures { Puts out 0 (spelled (task_of (lent c facts costs shares))) result }
-{
-    let mut next = put_count(out, 0, b"edition=", c.edition);
-    next = put_count(out, next, b"vars=", c.vars);
-    next = put_values(out, next, b"dom=", facts, DOM_ROW, c.vars);
-    next = put_values(out, next, b"init=", facts, INIT_ROW, c.vars);
-    next = put_goal(out, next, facts, c.vars);
-    next = put_quota(out, next, c);
-    next = put_count(out, next, b"ops=", c.ops);
-    next = put_ops(out, next, c, facts, costs);
-    next = put_count(out, next, b"maps=", c.maps);
-    next = put_maps(out, next, c, facts);
-    put_split(out, next, c, shares)
+impl Pen<'_> {
+    // The whole text.
+    fn put_task(&mut self, t: LentTables)
+        requires { (t.counts.vars ≤ most_vars) × (t.counts.ops ≤ most_ops) × (t.counts.maps ≤ most_maps) }
+        ensures { Puts self.old (spelled (task_of (lent t))) self.new }
+    {
+        self.put_count(b"edition=", t.counts.edition);
+        self.put_count(b"vars=", t.counts.vars);
+        self.put_values(b"dom=", t.facts, DOM_ROW, t.counts.vars);
+        self.put_values(b"init=", t.facts, INIT_ROW, t.counts.vars);
+        self.put_goal(t.facts, t.counts.vars);
+        self.put_quota(t.counts);
+        self.put_count(b"ops=", t.counts.ops);
+        self.put_ops(t);
+        self.put_count(b"maps=", t.counts.maps);
+        self.put_maps(t);
+        self.put_split(t);
+    }
 }
 
 // Writes the text of a task's tables into the lent buffer: its length, or why not. What is left behind is what the spelling says.
-pub fn write(c: Counts, facts: &[u8], costs: &[u32], shares: &[u32], out: &mut [u8]) -> Written
-    ensures { page result out.new ≡ write_text (lent c facts costs shares) out.old }
+pub fn write(t: LentTables, out: &mut [u8]) -> Result<u32, Refusal>
+    ensures { page result out.new ≡ write_text (lent t) out.old }
 {
     if out.len() < BYTES_MOST {
-        return Written::Refused(Refusal::TableTooShort);
+        return Err(Refusal::TableTooShort);
     }
-    let found = tables_fault(c, facts, costs, shares);
-    if let Found::Fault(r) = found {
-        return Written::Refused(r);
-    }
-    Written::Length(put_task(out, c, facts, costs, shares) as u32)
+    tables_fault(t)?;
+    let mut pen = Pen::new(out);
+    pen.put_task(t);
+    Ok(pen.place() as u32)
 }

@@ -1,11 +1,11 @@
-// The pen: bytes put into the buffer one after another, each function handing back the place after what it wrote. Past the buffer's end nothing is written, so
-// that putting asks nothing of its caller; that every text has room is shown once, for the whole of it.
-ghost use Rattle.std.specs.Prelude.{[], ◌∷◌, ◌≡◌, ◌+◌, ◌%◌};
+// The pen: bytes put into the buffer that it is lent, one after another. Past the buffer's end nothing is written, so that putting asks nothing of its caller; that
+// every text has room is shown once, for the whole of it.
+ghost use Rattle.std.specs.Prelude.{[], ◌∷◌, ◌≡◌, ◌+◌, ◌%◌, ◌≤◌};
 ghost use Rattle.grammar.specs.Spelling.{digits, gap};
-ghost use Rattle.writer.specs.Inside.Pen.{Puts};
+ghost use Rattle.writer.specs.Inside.Pen.{pen, held, Puts};
 ghost use Rattle.tables.specs.Task.{was};
 
-// The marks between numbers, and the byte 0.
+// The marks between numbers.
 pub const LINE_END: u8 = b'\n';
 
 pub const COMMA: u8 = b',';
@@ -18,70 +18,92 @@ pub const COLON: u8 = b':';
 
 pub const SEMICOLON: u8 = b';';
 
-const ZERO: u32 = b'0' as u32;
-
-// A byte.
-pub fn put(out: &mut [u8], at: usize, b: u8) -> usize
-    ensures { Puts out at (b ∷ []) result }
-{
-    if at < out.len() {
-        out[at] = b;
-        at + 1
-    } else {
-        at
-    }
+// The buffer, and the place of the next byte.
+#[derive(Drop)]
+pub struct Pen<'a> {
+    out: &'a mut [u8],
+    at: usize,
 }
 
-// The bytes of a word.
-pub fn put_word(out: &mut [u8], at: usize, word: &[u8]) -> usize
-    ensures { Puts out at (was word) result }
-{
-    let mut next = at;
-    let mut i = 0;
-    while i < word.len() {
-        next = put(out, next, word[i]);
-        i += 1;
+impl<'a> Pen<'a> {
+    // At the buffer's first place.
+    pub fn new(out: &'a mut [u8]) -> Pen<'a>
+        ensures held { held result ≡ pen 0 out.old }
+        ensures same_buffer { result.out.ghost_name ≡ out.entry.ghost_name }
+    {
+        Pen { out, at: 0 }
     }
-    next
-}
 
-// The last digit of a number.
-fn last_digit(v: u32) -> u8
-    ensures { result ≡ 48 + v % 10 }
-{
-    (ZERO + v % 10) as u8
-}
-
-// A number in decimal: the digits before its last two, and those.
-fn put_digits(out: &mut [u8], at: usize, v: u32) -> usize
-    ensures { Puts out at (digits v) result }
-{
-    if v < 10 {
-        return put(out, at, last_digit(v));
+    // The place after what was put down.
+    pub fn place(&self) -> usize
+        ensures { result ≡ self.now.at }
+    {
+        self.at
     }
-    if v < 100 {
-        let next = put(out, at, last_digit(v / 10));
-        return put(out, next, last_digit(v));
-    }
-    let mut next = put_digits(out, at, v / 100);
-    next = put(out, next, last_digit(v / 10));
-    put(out, next, last_digit(v))
-}
 
-// A number in decimal. One of a single digit, as most are, is put down where it is asked for.
-pub fn put_number(out: &mut [u8], at: usize, v: u32) -> usize
-    ensures { Puts out at (digits v) result }
-{
-    if v < 10 {
-        put(out, at, last_digit(v))
-    } else {
-        put_digits(out, at, v)
+    // A byte.
+    pub fn put(&mut self, b: u8)
+        ensures { Puts self.old (b ∷ []) self.new }
+    {
+        // By an index and no `get_mut`: what is written through an `Option` of a place in a field's slice, a proof doesn't learn. The place is read once, as the
+        // compiler, which sees a byte written meanwhile, would read it again.
+        let at = self.at;
+        if at < self.out.len() {
+            self.out[at] = b;
+            self.at = at + 1;
+        }
     }
-}
 
-// The mark between two things of a row, if some are left.
-pub fn put_gap(out: &mut [u8], at: usize, mark: u8, rest: u32) -> usize
-    ensures { Puts out at (gap mark rest) result }
-{
-    if rest == 0 { at } else { put(out, at, mark) }
+    // The bytes of a word.
+    pub fn put_word(&mut self, word: &[u8])
+        ensures { Puts self.old (was word) self.new }
+    {
+        for b in word {
+            self.put(*b);
+        }
+    }
+
+    // The last digit of a number.
+    fn put_digit(&mut self, v: u32)
+        ensures { Puts self.old ((48 + v % 10) ∷ []) self.new }
+    {
+        self.put(b'0' + (v % 10) as u8);
+    }
+
+    // A number of two digits or more: what is before its last two, and those. By hand and no `itoa`, with which the text of a short task takes a tenth
+    // longer (measured). Apart from the short way below, which else would be a call.
+    #[inline(never)]
+    #[cycle(number)]
+    fn put_digits(&mut self, v: u32)
+        requires { 10 ≤ v }
+        ensures { Puts self.old (digits v) self.new }
+    {
+        if 100 <= v {
+            self.put_number(v / 100);
+        }
+        self.put_digit(v / 10);
+        self.put_digit(v);
+    }
+
+    // A number in decimal. One of a single digit, as most are, is put down where it is asked for.
+    #[inline(always)]
+    #[cycle(number)]
+    pub fn put_number(&mut self, v: u32)
+        ensures { Puts self.old (digits v) self.new }
+    {
+        if v < 10 {
+            self.put_digit(v);
+        } else {
+            self.put_digits(v);
+        }
+    }
+
+    // The mark between two things of a row, if some are left.
+    pub fn put_gap(&mut self, mark: u8, rest: u32)
+        ensures { Puts self.old (gap mark rest) self.new }
+    {
+        if rest != 0 {
+            self.put(mark);
+        }
+    }
 }

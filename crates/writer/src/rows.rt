@@ -1,81 +1,81 @@
 // Rows of numbers and lists of facts, as the tables hold them.
+ghost use Rattle.std.specs.Prelude.{ℕ};
 ghost use Rattle.tables.specs.Layout.{row_at, share_at};
 ghost use Rattle.tables.specs.Task.{was};
 ghost use Rattle.grammar.specs.Spelling.{numbers, fact, some_facts};
-ghost use Rattle.writer.specs.Inside.Pen.{Puts, comma_if, said_of};
+ghost use Rattle.writer.specs.Inside.Pen.{Puts, Gives, comma_if, said_of};
 
-use crate::pen::{COLON, COMMA, DASH, put, put_gap, put_number};
+use crate::pen::{COLON, COMMA, DASH, Pen};
 use meaning::OpNo;
 use tables::classes::word_of;
 use tables::readers::{row_at, share_at};
 
-// The first n numbers of a row of the facts.
-pub fn put_row(out: &mut [u8], at: usize, facts: &[u8], row: u32, n: u32) -> usize
-    ensures { Puts out at (numbers (row_at (was facts) row) n) result }
-{
-    let mut next = at;
-    let mut i = 0;
-    while i < n {
-        next = put_number(out, next, word_of(facts, row, i));
-        i += 1;
-        next = put_gap(out, next, COMMA, n - i);
+impl Pen<'_> {
+    // The first n numbers that are given.
+    fn put_numbers<F: Fn(u32) -> u32>(&mut self, n: u32, number_at: F)
+        requires { F.IsAlwaysCallable number_at }
+        ensures { (f : ℕ → ℕ) → Gives (F.post number_at) n f → Puts self.old (numbers f n) self.new }
+    {
+        for i in 0..n {
+            self.put_number(number_at(i));
+            self.put_gap(COMMA, n - i - 1);
+        }
     }
-    next
-}
 
-// What a map charges for the first n operators.
-pub fn put_shares(out: &mut [u8], at: usize, shares: &[u32], m: u32, n: u32) -> usize
-    ensures { Puts out at (numbers (share_at (was shares) m) n) result }
-{
-    let mut next = at;
-    let mut o = 0;
-    while o < n {
-        next = put_number(out, next, share_at(shares, m, OpNo(o)));
-        o += 1;
-        next = put_gap(out, next, COMMA, n - o);
+    // The first n numbers of a row of the facts.
+    pub fn put_row(&mut self, facts: &[u8], row: u32, n: u32)
+        ensures { Puts self.old (numbers (row_at (was facts) row) n) self.new }
+    {
+        self.put_numbers(n, |i| word_of(facts, row, i));
     }
-    next
-}
 
-// A fact: a variable and its value.
-pub fn put_fact(out: &mut [u8], at: usize, v: u32, x: u32) -> usize
-    ensures { Puts out at (fact v x) result }
-{
-    let mut next = put_number(out, at, v);
-    next = put(out, next, COLON);
-    put_number(out, next, x)
-}
-
-// The comma before a fact, where some were written.
-fn put_comma(out: &mut [u8], at: usize, some: bool) -> usize
-    ensures { Puts out at (comma_if some) result }
-{
-    if some { put(out, at, COMMA) } else { at }
-}
-
-// What a row says of a variable, if anything; after a comma where some facts were written.
-pub fn put_said(out: &mut [u8], at: usize, some: bool, said: u8, v: u32) -> usize
-    ensures { Puts out at (said_of some said v) result }
-{
-    if said == 0 {
-        return at;
+    // What a map charges for the first n operators.
+    pub fn put_shares(&mut self, shares: &[u32], m: u32, n: u32)
+        ensures { Puts self.old (numbers (share_at (was shares) m) n) self.new }
+    {
+        self.put_numbers(n, |o| share_at(shares, m, OpNo(o)));
     }
-    let next = put_comma(out, at, some);
-    put_fact(out, next, v, (said - 1) as u32)
-}
 
-// The facts of a row about the first n variables: a dash if there is none.
-pub fn put_facts(out: &mut [u8], at: usize, facts: &[u8], row: u32, n: u32) -> usize
-    ensures { Puts out at (some_facts (row_at (was facts) row) n 0) result }
-{
-    let mut next = at;
-    let mut some = false;
-    let mut v = 0;
-    while v < n {
-        let said = row_at(facts, row, v);
-        next = put_said(out, next, some, said, v);
-        some = some || said != 0;
-        v += 1;
+    // A fact: a variable and its value.
+    pub fn put_fact(&mut self, v: u32, x: u32)
+        ensures { Puts self.old (fact v x) self.new }
+    {
+        self.put_number(v);
+        self.put(COLON);
+        self.put_number(x);
     }
-    if some { next } else { put(out, next, DASH) }
+
+    // The comma before a fact, where some were written.
+    fn put_comma(&mut self, some: bool)
+        ensures { Puts self.old (comma_if some) self.new }
+    {
+        if some {
+            self.put(COMMA);
+        }
+    }
+
+    // What a row says of a variable, if anything; after a comma where some facts were written. A byte and no `Option`, since the tables that are lent hold it so.
+    fn put_said(&mut self, some: bool, said: u8, v: u32)
+        ensures { Puts self.old (said_of some said v) self.new }
+    {
+        if let Some(x) = said.checked_sub(1) {
+            self.put_comma(some);
+            self.put_fact(v, x as u32);
+        }
+    }
+
+    // The facts of a row about the first n variables: a dash if there is none.
+    pub fn put_facts(&mut self, facts: &[u8], row: u32, n: u32)
+        ensures { Puts self.old (some_facts (row_at (was facts) row) n 0) self.new }
+    {
+        let mut some = false;
+        for v in 0..n {
+            let said = row_at(facts, row, v);
+            self.put_said(some, said, v);
+            some |= said != 0;
+        }
+        if !some {
+            self.put(DASH);
+        }
+    }
 }

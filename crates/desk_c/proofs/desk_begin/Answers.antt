@@ -4,12 +4,11 @@ use Rattle.tables.specs.Layout.{Tables}
 use Rattle.ledger.specs.Ledger.{begun}
 use Rattle.lent_runs.specs.Left.{begin_handed}
 use Rattle.lent_runs.proofs.Handed.{left_long, left_short, long_enough}
-use Rattle.desk_c.proofs.Handed.{row_tables_lem}
 use Rattle.desk_c.proofs.desk_begin.Goals as goal
 
 pub returns-then-run_short : goal.returns-then-run_short
 unfolding begin_handed
-returns-then-run_short c = left_short _ _ _ _ (sym c.run_short.ensures ∙ c.if-run_short.true) c.refused_word.ensures
+returns-then-run_short c = left_short _ _ _ _ (sym c.run_short.ensures ∙ c.if-run_short.true) c.word.ensures
 
 pub hand_back-requires : goal.hand_back-requires
 hand_back-requires c = long_enough _ _ (sym c.run_short.ensures ∙ c.if-run_short.false)
@@ -17,6 +16,5 @@ hand_back-requires c = long_enough _ _ (sym c.run_short.ensures ∙ c.if-run_sho
 pub returns : goal.returns
 unfolding begin_handed
 returns c =
-    let same = row_tables_lem _ _ _ _ c.counts_in-c.ensures c.facts_beside-f.ensures in
     left_long _ _ _ _ _ (sym c.run_short.ensures ∙ c.if-run_short.false)
-    (c.begin-o.ensures ∙ ap (λ (t : Tables). begun t c.args.start.now) same) c.hand_back.ensures
+    (c.begin-o.ensures ∙ ap (λ (t : Tables). begun t c.args.start.now) c.lent_task-task.ensures) c.hand_back.ensures

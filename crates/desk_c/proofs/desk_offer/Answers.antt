@@ -4,12 +4,11 @@ use Rattle.tables.specs.Layout.{Tables}
 use Rattle.ledger.specs.Ledger.{offered}
 use Rattle.lent_runs.specs.Left.{offer_handed}
 use Rattle.lent_runs.proofs.Handed.{left_long, left_short, long_enough, offered_in}
-use Rattle.desk_c.proofs.Handed.{row_tables_lem}
 use Rattle.desk_c.proofs.desk_offer.Goals as goal
 
 pub returns-then-run_short : goal.returns-then-run_short
 unfolding offer_handed
-returns-then-run_short c = left_short _ _ _ _ (sym c.run_short.ensures ∙ c.if-run_short.true) c.refused_word.ensures
+returns-then-run_short c = left_short _ _ _ _ (sym c.run_short.ensures ∙ c.if-run_short.true) c.word.ensures
 
 pub run_in-run-requires : goal.run_in-run-requires
 run_in-run-requires c = long_enough _ _ (sym c.run_short.ensures ∙ c.if-run_short.false)
@@ -20,7 +19,6 @@ hand_back-requires c = long_enough _ _ (sym c.run_short.ensures ∙ c.if-run_sho
 pub returns : goal.returns
 unfolding offer_handed
 returns c =
-    let same = row_tables_lem _ _ _ _ c.counts_in-c.ensures c.facts_beside-f.ensures in
     left_long _ _ _ _ _ (sym c.run_short.ensures ∙ c.if-run_short.false)
-    (offered_in _ _ _ _ _ _ (c.offer-o.ensures ∙ ap (λ (t : Tables). offered t c.run_in-run.result c.args.number c.args.op) same) c.run_in-run.ensures)
+    (offered_in _ _ _ _ _ _ (c.offer-o.ensures ∙ ap (λ (t : Tables). offered t c.run_in-run.result c.args.number c.args.op) c.lent_task-task.ensures) c.run_in-run.ensures)
     c.hand_back.ensures

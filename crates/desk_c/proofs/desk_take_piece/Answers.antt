@@ -2,10 +2,10 @@
 use Rattle.std.proofs.Common.{◌∙◌, sym}
 use Rattle.desk_c.proofs.Texts.{words_long, take_short, take_told, after_taken, after_refused}
 use Rattle.desk_c.proofs.desk_take_piece.Goals as goal
-use Rattle.desk_c.proofs.desk_take_piece.Goals.{in-Clean, in_default}
+use Rattle.desk_c.proofs.desk_take_piece.Goals.{in-Ok, in_default}
 
 pub returns-then-text_short : goal.returns-then-text_short
-returns-then-text_short c = take_short _ _ _ _ (sym c.text_short.ensures ∙ c.if-text_short.true) c.refused_word.ensures
+returns-then-text_short c = take_short _ _ _ _ (sym c.text_short.ensures ∙ c.if-text_short.true) c.word.ensures
 
 pub text_in-requires : goal.text_in-requires
 text_in-requires c = words_long _ (sym c.text_short.ensures ∙ c.if-text_short.false)
@@ -15,9 +15,9 @@ put_text-requires c = words_long _ (sym c.text_short.ensures ∙ c.if-text_short
 
 pub returns : goal.returns
 returns c =
-    take_told _ _ _ _ (sym c.text_short.ensures ∙ c.if-text_short.false) _ c.text_in.ensures _ _ _ c.take_piece-t.ensures
-    (elim c.match-found.branch [
-      | in-Clean w ↦ w.text-is ∙ w.put_text.ensures ∙ after_taken _ _ _ w.in-Clean.is
-      | in_default w ↦ w.text-is ∙ after_refused _ _ _ w.in_default.is
+    take_told _ _ _ _ (sym c.text_short.ensures ∙ c.if-text_short.false) _ c.text_in.ensures _ _ _ c.take_piece-taken.ensures
+    (elim c.match-taken.branch [
+      | in-Ok w ↦ w.text-is ∙ w.put_text.ensures ∙ after_taken _ _ _ w.in-Ok.is
+      | in_default w ↦ w.text-is ∙ after_refused _ _ _ w.in_default.not-Ok
     ])
-    c.found_word.ensures
+    c.word-2.ensures

@@ -17,14 +17,14 @@ bounds-out-a c =
     let a = c.args in
     let pre = c.requires in
     let below = image_below a.c a.facts.now a.shares.now a.map pre.0 pre.1 a.s.now pre.3 in
-    omega (arith, below, pre.0.few_states a.map pre.1, c.state_index-a.ensures, c.image_of.ensures)
+    omega (arith, below, pre.0.few_states a.map pre.1, c.from-a.ensures, c.image_of.ensures)
 
 pub bounds-best-a : goal.bounds-best-a
 bounds-best-a c =
     let a = c.args in
     let pre = c.requires in
     let below = image_below a.c a.facts.now a.shares.now a.map pre.0 pre.1 a.s.now pre.3 in
-    omega (arith, below, pre.0.few_states a.map pre.1, c.state_index-a.ensures, c.image_of.ensures)
+    omega (arith, below, pre.0.few_states a.map pre.1, c.from-a.ensures, c.image_of.ensures)
 
 pub returns : goal.returns
 returns c =
@@ -34,4 +34,4 @@ returns c =
     let tables = c.view_quick.ensures in
     at_image a.c a.facts.now a.shares.now a.map pre.0 pre.1 prices.result a.s.now _
     (λ o l. prices.ensures o (omega (arith, pre.0.ops))) tables.distances tables.best_steps pre.3
-    (c.state_index-a.ensures ∙ c.image_of.ensures) refl refl
+    (c.from-a.ensures ∙ c.image_of.ensures) refl refl

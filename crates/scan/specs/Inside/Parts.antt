@@ -1,18 +1,12 @@
 -- The parts of the scan, as the program walks them.
-use Rattle.std.specs.Prelude.{ℕ, Bool, cond, ◌&&◌, List, leb, ltb, eqb}
+use Rattle.scan.specs.Found.{Found}
+use Rattle.std.specs.Prelude.{ℕ, Bool, ◌&&◌, List, leb, ltb}
 use Rattle.refusals.specs.declared.Refusal.TheVariants.{OutOfRange}
 use Rattle.meaning.specs.Limits.{most_vars, most_values, most_ops, most_maps, most_edition, most_quota}
 use Rattle.meaning.specs.Split.{Task}
-use Rattle.scan.specs.declared.Found.{Found}
-use Rattle.tables.specs.Layout.{dom_at, init_at, goal_at, pre_at, eff_at}
+use Rattle.tables.specs.Layout.{dom_at, pre_at, eff_at}
 use Rattle.scan.specs.Scan.{unless, ◌then◌, each, within, facts_fault, operator_fault, map_fault, shares_fault, split_fault}
 use Rattle.tables.specs.Lines.{line_of_edition, line_of_vars, line_of_dom, line_of_init, line_of_goal, line_of_quota, line_of_ops, line_of_maps}
-
--- what the line of the values, of the initial state or of the goal asks of variable v: 1 to 8 values; an initial value, and a value in the goal, that are among them
-abbrev pub variable_holds : List ℕ → ℕ → ℕ → Bool
-variable_holds facts line v =
-    cond (eqb line line_of_dom) (within 1 most_values (dom_at facts v))
-    (cond (eqb line line_of_init) (ltb (init_at facts v) (dom_at facts v)) (leb (goal_at facts v) (dom_at facts v)))
 
 -- what operator o's line asks at variable v: what it asks of it, and what it does to it, is a value of v, or nothing
 abbrev pub facts_fit : List ℕ → ℕ → ℕ → Bool

@@ -1,13 +1,7 @@
--- What a walk over a list of operators starts from: the task without its split, fit for the steps.
-use Rattle.std.specs.Prelude.{ℕ, ◌≤◌, ◌<◌, List, []}
+-- What a walk over a list of operators starts from: a task that is fit for the steps.
+use Rattle.std.specs.Prelude.{ℕ, ◌≤◌, ◌<◌}
 use Rattle.meaning.specs.Limits.{most_vars, most_ops, most_cost, most_quota}
 use Rattle.meaning.specs.Split.{Task}
-use Rattle.tables.specs.declared.Counts.{Counts}
-use Rattle.tables.specs.Task.{task_of, tables}
-
--- the task without its split: judging reads no shares
-abbrev pub task : Counts → List ℕ → List ℕ → Task
-task c facts costs = task_of (tables c facts costs [])
 
 -- what accepted tables give the steps
 pub record Usable (T : Task) : Type 0 where

@@ -1,7 +1,8 @@
 -- One step among numbered states, from facts in the lent tables' layout: what the functions below the entries ask and give.
 -- The facts may be those of a task or of the task of its classes, whose values are classes.
-use Rattle.std.specs.Prelude.{◌≡◌, List, [], ℕ, ◌≤◌, ◌<◌}
+use Rattle.std.specs.Prelude.{◌≡◌, List, [], ℕ, ◌≤◌, ◌<◌, Option, None, Some}
 use Rattle.graph.specs.Graph.{Next, stop, to, Graph}
+use Rattle.meaning.specs.declared.StateNo.{StateNo}
 use Rattle.meaning.specs.Limits.{most_vars, most_ops, most_states}
 use Rattle.meaning.specs.Numbering.{size, number, digit}
 use Rattle.meaning.specs.Views.{to_if, space}
@@ -9,8 +10,6 @@ use Rattle.tables.specs.declared.Counts.{Counts}
 use Rattle.tables.specs.Layout.{dom_at, eff_at, eff_row}
 use Rattle.tables.specs.Task.{sas_of, tables, state_of}
 use Rattle.tables.specs.Steps.{may_run, value_after}
-use Rattle.sweep.specs.declared.walk.Step.{Step}
-use Rattle.sweep.specs.declared.walk.Step.TheVariants.{To, Stop}
 
 -- the numbered state space of the task that the facts spell, each operator at its price
 abbrev pub space_of : Counts → List ℕ → List ℕ → Graph
@@ -29,9 +28,9 @@ abbrev pub HasDigits : ℕ → List ℕ → ℕ → List ℕ → Type 0
 HasDigits vars facts a s = (v : ℕ) → v < vars → state_of s v ≡ digit (dom_at facts) a v
 
 -- what a step says
-abbrev pub next_of : Step → Next
-next_of (To b) = to b.0
-next_of Stop = stop
+abbrev pub next_of : Option StateNo → Next
+next_of (Some b) = to b.0
+next_of None = stop
 
 -- the number of the state that a row of effects makes of the values s
 abbrev pub number_after : ℕ → List ℕ → ℕ → List ℕ → ℕ

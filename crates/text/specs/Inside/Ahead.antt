@@ -3,8 +3,8 @@ use Rattle.std.specs.Prelude.{ℕ, ◌+◌, ◌-◌, ◌≤◌, ◌<◌, ◌≡�
 use Rattle.meaning.specs.Limits.{most_cost}
 use Rattle.tables.specs.Layout.{goal_place, pre_place, eff_place}
 use Rattle.grammar.specs.Fields.{is_digit, comma, colon}
-use Rattle.text.specs.declared.Ctrl.{Ctrl}
 use Rattle.text.specs.declared.Halt.TheVariants.{Going}
+use Rattle.text.specs.declared.Ctrl.{Ctrl}
 use Rattle.text.specs.Inside.Area.{dom_in}
 use Rattle.text.specs.Inside.Control.{
   St,

@@ -1,5 +1,6 @@
 -- What the end of the text says, and the whole text by the machine.
-use Rattle.std.specs.Prelude.{ℕ, ◌≤◌, ◌<◌, min, ◌≡◌, List, length, get_or, take, replicate, leb}
+use Rattle.scan.specs.Found.{Found, clean}
+use Rattle.std.specs.Prelude.{ℕ, ◌≤◌, ◌<◌, min, ◌≡◌, List, length, get_or, take, replicate, leb, Ok, Err}
 use Rattle.refusals.specs.declared.Refusal.TheVariants.{
   OffForm,
   OutOfRange,
@@ -14,9 +15,6 @@ use Rattle.meaning.specs.Split.{sum}
 use Rattle.tables.specs.Lines.{line_of_op}
 use Rattle.scan.specs.Scan.{unless, ◌then◌, each}
 use Rattle.tables.specs.Layout.{facts_room, costs_room, shares_room}
-use Rattle.scan.specs.declared.Found.{Found}
-use Rattle.scan.specs.declared.Found.TheVariants.{Clean, Fault}
-use Rattle.grammar.specs.declared.Reading.TheVariants.{Accepted, Refused}
 use Rattle.grammar.specs.Fields.{Outcome, leaves, filled, admitted}
 use Rattle.text.specs.declared.Halt.{Halt}
 use Rattle.text.specs.declared.Halt.TheVariants.{Going, Form, Range, Order, Missing, States, Idle}
@@ -26,13 +24,13 @@ use Rattle.text.specs.Inside.Steps.{feed, ended}
 
 -- what a reading that stopped in line l is refused with; nothing while it goes on
 abbrev pub refusal_of : Halt → ℕ → Found
-refusal_of Going l = Clean
-refusal_of Form l = Fault (OffForm l)
-refusal_of Range l = Fault (OutOfRange l)
-refusal_of Order l = Fault (NotRising l)
-refusal_of Missing l = Fault (ClassMissing l)
-refusal_of States l = Fault (TooManyStates l)
-refusal_of Idle l = Fault (IdleOperator l)
+refusal_of Going l = clean
+refusal_of Form l = Err (OffForm l)
+refusal_of Range l = Err (OutOfRange l)
+refusal_of Order l = Err (NotRising l)
+refusal_of Missing l = Err (ClassMissing l)
+refusal_of States l = Err (TooManyStates l)
+refusal_of Idle l = Err (IdleOperator l)
 
 -- after all else: an operator's shares total at most its cost; a control of a text has no more than these counts
 unfoldable pub over : St → Found
@@ -49,7 +47,7 @@ last_fault s = refusal_of s.ctrl.halt s.ctrl.line then over s
 unfoldable pub written : St → List ℕ → List ℕ → List ℕ → Outcome
 written s f c h =
     leaves
-    (Accepted s.ctrl.counts)
+    (Ok s.ctrl.counts)
     (filled facts_room (take facts_room s.area) f)
     (filled costs_room (threes costs_room costs_byte s.area) c)
     (filled shares_room (threes shares_room shares_byte s.area) h)
@@ -62,8 +60,8 @@ pub record FilledTo (xs lent out : List ℕ) (i : ℕ) : Type 0 where
 
 -- the end of the text: the lent tables are written on acceptance only
 abbrev pub left_behind : Found → St → List ℕ → List ℕ → List ℕ → Outcome
-left_behind Clean s f c h = written s f c h
-left_behind (Fault r) s f c h = leaves (Refused r) f c h
+left_behind (Ok tt) s f c h = written s f c h
+left_behind (Err r) s f c h = leaves (Err r) f c h
 
 unfoldable pub settled_as : St → List ℕ → List ℕ → List ℕ → Outcome
 settled_as s f c h = left_behind (last_fault s) s f c h

@@ -10,6 +10,8 @@ use Rattle.text.specs.declared.Ctrl.{Ctrl}
 use Rattle.text.specs.declared.Seen.{Seen}
 use Rattle.text.specs.declared.Halt.{Halt}
 use Rattle.text.specs.declared.Halt.TheVariants.{Going, Form, Range, Order, Missing, States}
+use Rattle.text.specs.declared.fields.Kind.{Kind}
+use Rattle.text.specs.declared.fields.Kind.TheVariants.{Line, Row, Var, Val, Cost, Class, Share, Mark}
 use Rattle.text.specs.Inside.Area.{put_byte, put_word, cost_byte, share_byte, dom_in}
 use Rattle.text.specs.Inside.Control.{
   going,
@@ -216,3 +218,14 @@ kinds =
 
 unfoldable pub kind : ℕ → ℕ
 kind f = get_or kinds f 0
+
+-- the same of the reader's own kinds
+abbrev pub kind_no : Kind → ℕ
+kind_no Line = kind_line
+kind_no Row = kind_row
+kind_no Var = kind_var
+kind_no Val = kind_val
+kind_no Cost = kind_cost
+kind_no Class = kind_class
+kind_no Share = kind_share
+kind_no Mark = kind_mark

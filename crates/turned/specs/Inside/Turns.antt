@@ -34,23 +34,21 @@ unfoldable pub offset : List ℕ → ℕ → ℕ → ℕ → ℕ
 offset facts o zero i = 0
 offset facts o (suc v) i = offset facts o v (i % size (ways_at facts o) v) + i / size (ways_at facts o) v * size (dom_at facts) v
 
--- the first len places from at on, again and again, each time with stride more
-pub record Spread (at len end stride : ℕ) (t t' : List ℕ) : Type 0 where
+-- the first len places, again and again, each time with stride more
+pub record Spread (len end stride : ℕ) (t t' : List ℕ) : Type 0 where
   pub size : length t' ≡ length t
-  pub rule : (j : ℕ) → j < end → get_or t' (at + j) 0 ≡ get_or t (at + j % len) 0 + j / len * stride
-  pub below : (x : ℕ) → x < at → get_or t' x 0 ≡ get_or t x 0
-  pub beyond : (x : ℕ) → at + end ≤ x → get_or t' x 0 ≡ get_or t x 0
+  pub rule : (j : ℕ) → j < end → get_or t' j 0 ≡ get_or t (j % len) 0 + j / len * stride
+  pub beyond : (x : ℕ) → end ≤ x → get_or t' x 0 ≡ get_or t x 0
 
--- the first len places from at on hold the offsets of the first v variables
-pub record Listed (facts : List ℕ) (o at v len : ℕ) (t t' : List ℕ) : Type 0 where
+-- the first len places hold the offsets of the first v variables
+pub record Listed (facts : List ℕ) (o v len : ℕ) (t t' : List ℕ) : Type 0 where
   pub size : length t' ≡ length t
   pub count : len ≡ numbering.size (ways_at facts o) v
-  pub list : (i : ℕ) → i < len → get_or t' (at + i) 0 ≡ offset facts o v i
-  pub below : (x : ℕ) → x < at → get_or t' x 0 ≡ get_or t x 0
-  pub beyond : (x : ℕ) → at + len ≤ x → get_or t' x 0 ≡ get_or t x 0
+  pub list : (i : ℕ) → i < len → get_or t' i 0 ≡ offset facts o v i
+  pub beyond : (x : ℕ) → len ≤ x → get_or t' x 0 ≡ get_or t x 0
 
 -- operator o is turned round: its places of turns and of back
-pub record TurnedAt (c : Counts) (facts : List ℕ) (n : ℕ) (turns back : List ℕ) (o : ℕ) : Type 0 where
+pub record TurnedAt (c : Counts) (facts : List ℕ) (n : ℕ) (turns : List Turned) (back : List ℕ) (o : ℕ) : Type 0 where
   pub drop : drop_at turns o ≡ number (dom_at facts) (drop_digit facts o) c.vars
   pub lift : lift_at turns o ≡ number (dom_at facts) (lift_digit facts o) c.vars
   pub count : count_at turns o ≡ size (ways_at facts o) c.vars

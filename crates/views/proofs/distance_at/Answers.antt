@@ -1,17 +1,15 @@
 -- `distance_at` meets its contract: the first fault is answered, and where there is none, what the map's table says of the state's image. Assumes nothing.
-use Rattle.std.proofs.Common.{sym, ◌∙◌}
+use Rattle.std.proofs.Common.{ap, ◌∙◌}
 use Rattle.tables.specs.Layout.{Tables}
-use Rattle.tables.specs.Task.{tables}
-use Rattle.views.proofs.Judging.{image_asked, given_distance}
+use Rattle.tables.specs.Task.{held}
+use Rattle.views.specs.Entries.{distance_said}
+use Rattle.views.proofs.Judging.{given_distance}
+use Rattle.views.proofs.Summing.{told_said, distance_answer}
 use Rattle.views.proofs.distance_at.Goals as goal
 
-pub at_image-p-requires : goal.at_image-p-requires
-at_image-p-requires c =
-    let t : Tables = tables c.args.c c.args.facts.now c.args.costs.now c.args.shares.now in
-    image_asked t c.args.map c.args.s.now (sym c.distance_fault-found.ensures ∙ c.in-Clean.is)
-
-pub returns-in-Clean : goal.returns-in-Clean
-returns-in-Clean c =
-    let t : Tables = tables c.args.c c.args.facts.now c.args.costs.now c.args.shares.now in
-    let p = c.at_image-p in
-    given_distance t c.args.map c.args.s.now p.result.cost (sym c.distance_fault-found.ensures ∙ c.in-Clean.is) p.ensures.cost c.as_distance.ensures
+pub returns : goal.returns
+returns c =
+    let t : Tables = held c.args.t in
+    let asked = c.in_ok-p.ensures in
+    given_distance t c.args.map c.args.s.now c.in_ok-p.p.cost asked.faultless asked.at.cost
+    (distance_answer c.told.result ∙ ap distance_said (told_said c.in_ok-p.p.cost c.told.ensures))

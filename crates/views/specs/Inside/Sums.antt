@@ -1,17 +1,13 @@
 -- A sum of distances under way: what the functions below `bound` ask and give.
-use Rattle.std.specs.Prelude.{Bool, true, false, ℕ, ◌*◌}
+use Rattle.std.specs.Prelude.{ℕ, ◌*◌, Option, None, Some}
 use Rattle.graph.specs.Cost.{Cost, none, fin}
 use Rattle.meaning.specs.Limits.{most_maps}
 use Rattle.sweep.specs.Said.{NONE}
-use Rattle.views.specs.declared.sums.Sum.{Sum}
-
-abbrev pub total_if : Bool → ℕ → Cost
-total_if true total = fin total
-total_if false total = none
 
 -- none once a map has said none
-abbrev pub sum_said : Sum → Cost
-sum_said s = total_if s.all s.total
+abbrev pub sum_said : Option ℕ → Cost
+sum_said None = none
+sum_said (Some total) = fin total
 
 -- the most that the numbers of all maps come to
 abbrev pub most_total : ℕ

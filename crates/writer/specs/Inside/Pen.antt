@@ -1,8 +1,7 @@
 -- A text written byte by byte into a buffer. Past the buffer's end nothing is written.
-use Rattle.std.specs.Prelude.{ℕ, zero, suc, ◌+◌, Bool, true, false, cond, ◌≡◌, List, [], ◌∷◌, ◌++◌, ltb, length, set}
+use Rattle.std.specs.Prelude.{ℕ, zero, suc, ◌+◌, ◌<◌, Bool, true, false, cond, ◌≡◌, List, [], ◌∷◌, ◌++◌, ltb, length, set}
 use Rattle.meaning.specs.Sas.{Facts}
-use Rattle.std.specs.Borrow.{MutBor}
-use denote.Triple.Both.{Both}
+use Rattle.writer.specs.declared.pen as declared
 use Rattle.grammar.specs.Fields.{comma}
 use Rattle.grammar.specs.Spelling.{fact, more_facts, some_facts}
 
@@ -27,9 +26,18 @@ inked p (b ∷ x) = inked (stroke p b) x
 pub record Writes (p : Pen) (text : List ℕ) (q : Pen) : Type 0 where
   pub leaves : q ≡ inked p text
 
--- a function that is lent the buffer writes the text there from place n on, and answers the place after it
-abbrev pub Puts : Both (MutBor (List ℕ)) (MutBor (List ℕ)) → ℕ → List ℕ → ℕ → Type 0
-Puts out n text r = Writes (pen n out.entry.now) text (pen r out.exit.now)
+-- what the code's pen holds: the place of the next byte, and what stands in the buffer that it is lent
+abbrev pub held : declared.Pen.Pen → Pen
+held p = pen p.at p.out.now
+
+-- the code's pen p puts the text down, and that leaves it as q, in the same buffer
+pub record Puts (p : declared.Pen.Pen) (text : List ℕ) (q : declared.Pen.Pen) : Type 0 where
+  pub writes : Writes (held p) text (held q)
+  pub same_buffer : q.out.ghost_name ≡ p.out.ghost_name
+
+-- what a closure answers at each of the first n places is the number that f has there
+abbrev pub Gives : (ℕ → ℕ → Type 0) → ℕ → (ℕ → ℕ) → Type 0
+Gives post n f = (i x : ℕ) → i < n → post i x → x ≡ f i
 
 -- a list of facts once some were written, or none: what is left of it from variable v on, with n variables to come
 unfoldable pub facts_left : Bool → Facts → ℕ → ℕ → List ℕ

@@ -1,9 +1,6 @@
 -- `parts::lay_steps` meets its contract: a row that is laid of all parts says where each operator leads and whether the goal is met. Assumes nothing.
-use Rattle.maps.proofs.Parting.{parts_blank, parted_laid}
+use Rattle.maps.proofs.Parting.{parted_laid}
 use Rattle.maps.proofs.parts.lay_steps.Goals as goal
-
-pub parts_of-requires : goal.parts_of-requires
-parts_of-requires c = (c.requires.0, c.requires.1, parts_blank)
 
 pub returns-clause-stepped : goal.returns-clause-stepped
 returns-clause-stepped c = parted_laid c.requires.0 c.parts_of.ensures c.lay.ensures.laid

@@ -1,5 +1,5 @@
 -- What `rows::lay` keeps true: the rows of the states of the variables passed so far are laid.
-use Rattle.std.proofs.Common.{◌≡◌, ◌≤◌, ◌-◌, length}
+use Rattle.std.proofs.Common.{◌≡◌}
 use Rattle.meaning.specs.Numbering.{size}
 use Rattle.tables.specs.Layout.{dom_at}
 use Rattle.maps.specs.Inside.Rows.{Laid}
@@ -7,7 +7,4 @@ use Rattle.maps.proofs.rows.lay.Given as goal
 
 abbrev pub invariant-loop-v : goal.invariant-loop-v
 invariant-loop-v l =
-    (l.v ≤ l.vars) × (l.len ≡ size (dom_at l.facts) l.v) × (length l.t ≡ length l.initial.t) × Laid (dom_at l.facts) l.parts l.v l.t
-
-abbrev pub decreases-loop-v : goal.decreases-loop-v
-decreases-loop-v l = l.vars - l.v
+    record { len : l.len ≡ size (dom_at l.facts) l.v; laid : Laid (dom_at l.facts) l.parts.places l.v l.t }

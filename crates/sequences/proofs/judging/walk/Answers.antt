@@ -1,49 +1,54 @@
 -- `judging::walk` meets its contract: what is left of the list gives the rest of the answer. Assumes nothing.
-use Rattle.std.proofs.Common.{[], ◌∙◌, arith, rules, slice_index_or}
-use Rattle.tables.specs.Task.{task_of, state_of, tables}
-use Rattle.sequences.proofs.Laws.{not_ran}
-use Rattle.sequences.proofs.Walks.{few, goal_said, taken_exists, turn, payable, storable, walked_on, walked_refused, walked_end}
+use Rattle.std.proofs.Common.{◌≡◌, ◌+◌, ◌∙◌, arith, rules}
+use Rattle.std.specs.Prelude.{Err}
+use Rattle.sequences.specs.Stepping.{refusal_of}
+use Rattle.tables.specs.Task.{held, task_of}
+use Rattle.sequences.proofs.Walks.{few, goal_said, turn, payable, storable, walked_on, walked_refused, walked_end}
 use Rattle.sequences.proofs.judging.walk.Goals as goal
 
-pub overflow_cast-i : goal.overflow_cast-i
-overflow_cast-i c = omega (arith, few c.requires.1)
+pub overflow_cast-k : goal.overflow_cast-k
+overflow_cast-k c = omega (arith, few c.requires.1)
+
+pub overflow_add-k : goal.overflow_add-k
+overflow_add-k c = omega (arith, few c.requires.1)
 
 pub returns-in_default : goal.returns-in_default
 returns-in_default c =
-    let t = tables c.args.c c.args.facts.now c.args.costs.now [] in
-    c.refusal.ensures ∙ walked_refused (task_of t) c.loop-i.invariant c.loop-i-test.true c.step-m.result c.step-m.ensures (not_ran c.step-m.result c.in_default.not-Ran)
+    let t = held c.args.t in
+    let h = walked_refused (task_of t) c.loop-i.invariant c.loop-i-test.true c.step-stepped.ensures c.in_default.is in
+    let e : c.map_err.result ≡ Err (refusal_of c.in_default.field-0 (c.loop-i.i + 1)) = search rules in
+    e ∙ h
 
-pub state_after-s-requires : goal.state_after-s-requires
-state_after-s-requires c =
-    let t = tables c.args.c c.args.facts.now c.args.costs.now [] in
-    (search rules, taken_exists t c.requires.0 c.loop-i.stored (state_of c.loop-i.s) (slice_index_or c.args.ops.now c.loop-i.i 0) c.step-m.ensures c.in-Ran.is)
+pub go-requires-clause-op : goal.go-requires-clause-op
+go-requires-clause-op c =
+    let t = held c.args.t in
+    (turn t c.requires.0 c.loop-i.invariant.size c.step-stepped.ensures c.in-Ok.is).op
 
-pub overflow_add-stored : goal.overflow_add-stored
-overflow_add-stored c =
-    let t = tables c.args.c c.args.facts.now c.args.costs.now [] in
-    record { fits = storable t c.requires.0 (turn t c.requires.0 c.loop-i.invariant.size c.step-m.ensures c.in-Ran.is c.state_after-s.ensures c.mark_of-stored.ensures) }
+pub go-requires-clause-stored : goal.go-requires-clause-stored
+go-requires-clause-stored c =
+    let t = held c.args.t in
+    storable t c.requires.0 (turn t c.requires.0 c.loop-i.invariant.size c.step-stepped.ensures c.in-Ok.is)
 
-pub overflow_add-paid : goal.overflow_add-paid
-overflow_add-paid c =
-    let t = tables c.args.c c.args.facts.now c.args.costs.now [] in
-    let took = turn t c.requires.0 c.loop-i.invariant.size c.step-m.ensures c.in-Ran.is c.state_after-s.ensures c.mark_of-stored.ensures in
-    record { fits = payable c.loop-i.invariant took c.loop-i-test.true c.requires.1 }
+pub go-requires-clause-paid : goal.go-requires-clause-paid
+go-requires-clause-paid c =
+    let t = held c.args.t in
+    payable c.loop-i.invariant (turn t c.requires.0 c.loop-i.invariant.size c.step-stepped.ensures c.in-Ok.is) c.loop-i-test.true c.requires.1
 
 pub loop-i-preserved : goal.loop-i-preserved
 loop-i-preserved c =
-    let t = tables c.args.c c.args.facts.now c.args.costs.now [] in
-    let took = turn t c.requires.0 c.loop-i.invariant.size c.step-m.ensures c.in-Ran.is c.state_after-s.ensures c.mark_of-stored.ensures in
-    walked_on (task_of t) c.loop-i.invariant c.loop-i-test.true took
-
-pub returns-then-meets_goal : goal.returns-then-meets_goal
-returns-then-meets_goal c =
-    let t = tables c.args.c c.args.facts.now c.args.costs.now [] in
-    walked_end (task_of t) c.loop-i.invariant (omega arith) (goal_said t c.loop-i.s c.meets_goal.ensures c.if-meets_goal.true)
+    let t = held c.args.t in
+    rw (c.go.ensures.stored, c.go.ensures.paid, c.go.ensures.state)
+    (walked_on (task_of t) c.loop-i.invariant c.loop-i-test.true (turn t c.requires.0 c.loop-i.invariant.size c.step-stepped.ensures c.in-Ok.is))
 
 pub overflow_cast-result : goal.overflow_cast-result
 overflow_cast-result c = omega (arith, few c.requires.1)
 
-pub returns : goal.returns
-returns c =
-    let t = tables c.args.c c.args.facts.now c.args.costs.now [] in
-    walked_end (task_of t) c.loop-i.invariant (omega arith) (goal_said t c.loop-i.s c.meets_goal.ensures c.if-meets_goal.false)
+pub returns-then-meets_goal : goal.returns-then-meets_goal
+returns-then-meets_goal c =
+    let t = held c.args.t in
+    walked_end (task_of t) c.loop-i.invariant (omega arith) (goal_said t c.loop-i.way.state c.meets_goal.ensures c.if-meets_goal.true)
+
+pub returns-else-meets_goal : goal.returns-else-meets_goal
+returns-else-meets_goal c =
+    let t = held c.args.t in
+    walked_end (task_of t) c.loop-i.invariant (omega arith) (goal_said t c.loop-i.way.state c.meets_goal.ensures c.if-meets_goal.false)

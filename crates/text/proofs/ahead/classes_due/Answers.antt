@@ -1,0 +1,12 @@
+-- Where a class is due the control is that of the loop.
+use Rattle.std.proofs.Common.{sym, refl}
+use Rattle.text.proofs.Onward.{stays, as_due, in_field, class_due}
+use Rattle.text.proofs.ahead.classes_due.Goals as goal
+
+pub returns-then-c-ne0 : goal.returns-then-c-ne0
+returns-then-c-ne0 c = stays _ c.requires.0 _ _ _ _ _ _ c.requires.2 c.stay.ensures.0 c.stay.ensures.1 c.stay.ensures.2
+
+pub returns : goal.returns
+returns c =
+    let field = c.requires.1 in
+    as_due (class_due _ c.requires.0 c.if-c-ne0.false field) (in_field _ _ _ _ _ (sym field)) (c.classes_ahead-n.ensures c.args.c refl refl)

@@ -1,8 +1,0 @@
--- `writer::lines::put_share` meets its contract: its parts one after another. Assumes nothing.
-use Rattle.grammar.specs.Spelling.{keyed}
-use Rattle.writer.proofs.Pens.{after}
-use Rattle.writer.proofs.lines.put_share.Goals as goal
-
-pub returns : goal.returns
-unfolding keyed
-returns c = after (after c.put_word-next.ensures c.put_charges-next.ensures) c.put.ensures
