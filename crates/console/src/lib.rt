@@ -29,16 +29,17 @@ pub fn read_full(from: &mut impl Read, buffer: &mut [u8]) -> io::Result<usize>
     Ok(done)
 }
 
-// A line: a name, '=', and the number or none.
-pub fn say(rt: &impl Print, name: &str, x: Option<impl Display + Drop>) -> io::Result<()> {
+// A line: a name, which may be any bytes and ends with its '=', and the number or none.
+pub fn say(rt: &impl Print, name: &[u8], x: Option<impl Display + Drop>) -> io::Result<()> {
+    rt.write_all(name)?;
     match x {
-        Some(x) => println!(rt; "{name}={x}"),
-        None => println!(rt; "{name}=none"),
+        Some(x) => println!(rt; "{x}"),
+        None => println!(rt; "none"),
     }
 }
 
 // A refusal's two lines.
 pub fn say_refused(rt: &impl Print, r: Refusal) -> io::Result<()> {
-    println!(rt; "refused={}", number(r))?;
-    println!(rt; "place={}", place(r))
+    say(rt, b"refused=", Some(number(r)))?;
+    say(rt, b"place=", Some(place(r)))
 }

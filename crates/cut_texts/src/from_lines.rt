@@ -12,7 +12,7 @@ pub fn begin_held(held: &mut Held) {
 
 // `I`: the next bytes of the text that is held are taken. Also where they are refused those after them come next.
 pub fn take_held(held: &mut Held, n: u32) -> Result<(), Refusal> {
-    let text = held.text.as_slice();
+    let text = held.text.lent();
     let rest = &text[held.taken.min(text.len())..];
     let piece = &rest[..rest.len().min(n as usize)];
     let taken = take_piece(held.so_far, held.area.lent_mut(), piece);

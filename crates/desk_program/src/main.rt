@@ -19,12 +19,12 @@ fn init_of(facts: &[u8]) -> [u8; STATE_ROOM] {
 fn say_task(rt: &impl Print, task: LentTables) -> io::Result<()> {
     let init = init_of(task.facts);
     match bound(task, &init) {
-        Ok(b) => say(rt, "bound", b)?,
+        Ok(b) => say(rt, b"bound=", b)?,
         Err(r) => return say_refused(rt, r),
     }
     for map in 0..task.counts.maps {
         match distance_at(task, map, &init) {
-            Ok(d) => say(rt, "map", d)?,
+            Ok(d) => say(rt, b"map=", d)?,
             Err(r) => say_refused(rt, r)?,
         }
     }

@@ -230,3 +230,17 @@ module _ (t : Tables) where
         → b ≡ is_run t r
     unfolding is_run
     run_stands b h s z d = rw (le-leb r.len most_steps h, s, z) d
+
+    -- a step of the log can't be taken, or the log leads to where the run stands or not
+    pub run_stuck : r.len ≤ most_steps → start_in t.counts t.facts r.start ≡ true
+        → zeros (drop r.len r.log) ≡ true
+        → given t r ≡ None
+        → false ≡ is_run t r
+    run_stuck h s z e = run_stands false h s z (rw e refl)
+
+    pub run_ends : {b : Bool} {x : Standing} → r.len ≤ most_steps → start_in t.counts t.facts r.start ≡ true
+        → zeros (drop r.len r.log) ≡ true
+        → given t r ≡ Some x
+        → b ≡ alike x (standing r)
+        → b ≡ is_run t r
+    run_ends {b = b} h s z e d = run_stands b h s z (rw e d)

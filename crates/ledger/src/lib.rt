@@ -4,7 +4,7 @@
 ghost use Rattle.std.specs.Prelude.{◌≡◌, ◌≤◌, ◌<◌};
 ghost use Rattle.meaning.specs.Limits.{most_steps};
 ghost use Rattle.tables.specs.Task.{lent, was};
-ghost use Rattle.ledger.specs.Ledger.{fresh, advanced, standing, zeros, is_run, old_step, next_step, offer_judged, run_answered, moved, offered, begun};
+ghost use Rattle.ledger.specs.Ledger.{fresh, advanced, standing, alike, zeros, is_run, old_step, next_step, offer_judged, run_answered, moved, offered, begun};
 ghost use Rattle.ledger.specs.Inside.Bounded.{Bounded};
 ghost use Rattle.ledger.specs.Inside.Judged.{its_tables};
 
@@ -94,20 +94,24 @@ impl Run {
         }
     }
 
-    // The run with the operator run once more.
-    fn advance(mut self, t: &Judged<'_>, op: OpNo) -> Run
-        requires { (op.0 < t.now.tables.counts.ops) × (self.len < most_steps) × Bounded self.len self.columns }
-        ensures { result ≡ advanced (its_tables (was t)) self op.0 }
+    // Runs the operator once more. In place: a run that is handed on by value is copied, log and all, and a call in C wants as much more stack.
+    fn advance(&mut self, t: &Judged<'_>, op: OpNo)
+        requires { (op.0 < t.now.tables.counts.ops) × (self.old.len < most_steps) × Bounded self.old.len self.old.columns }
+        ensures { self.new ≡ advanced (its_tables (was t)) self.old op.0 }
     {
         let mut at = self.standing();
         t.go_on(&mut at, op);
         self.log[self.len as usize] = op.0;
-        Run {
-            len: self.len + 1,
-            now: at.now,
-            columns: at.columns,
-            ..self
-        }
+        self.len += 1;
+        self.now = at.now;
+        self.columns = at.columns;
+    }
+
+    // The run stands where replaying its log led.
+    fn stands_at(&self, at: &Standing) -> bool
+        ensures { result ≡ alike (was at) (standing (was self)) }
+    {
+        at.now == self.now && at.columns == self.columns
     }
 
     // The run is what its start and log give.
@@ -118,8 +122,14 @@ impl Run {
         if STEPS_MOST < len || !t.has_start(&self.start) {
             return false;
         }
-        let (steps, unused) = self.log.split_at(len);
-        all_zero(unused) && t.replay(self.start, steps) == Some(self.standing())
+        let (_, unused) = self.log.split_at(len);
+        if !all_zero(unused) {
+            return false;
+        }
+        let Some(at) = t.replay(self.start, &self.log[..len]) else {
+            return false;
+        };
+        self.stands_at(&at)
     }
 
     // An old number: repeated with the logged operator, refused with another.
@@ -176,48 +186,43 @@ impl Run {
         self.judge(t, number, op)
     }
 
-    // The run after an offer, once the tables were judged. Only an accepted offer moves it.
-    fn offer_to(mut self, t: &Judged<'_>, number: u32, op: OpNo) -> Offered
-        ensures { result ≡ offered (its_tables (was t)) self number op.0 }
+    // What an offer is answered, once the tables were judged. Only an accepted one moves the run.
+    fn offer_to(&mut self, t: &Judged<'_>, number: u32, op: OpNo) -> Result<Answer, Refusal>
+        ensures { record { run = self.new; answer = result } ≡ offered (its_tables (was t)) self.old number op.0 }
     {
         let answer = self.answer(t, number, op);
         // Each answer has an arm of its own, as in `moved`: where two share one, the proof isn't told which was taken.
         match answer {
-            Ok(Answer::Accepted) => {
-                self = self.advance(t, op);
-                Offered { run: self, answer }
-            }
-            Ok(Answer::Repeated) => Offered { run: self, answer },
-            Err(_) => Offered { run: self, answer },
+            Ok(Answer::Accepted) => self.advance(t, op),
+            Ok(Answer::Repeated) => {}
+            Err(_) => {}
         }
+        answer
     }
 
     // An offer of a step: the run after it together with the answer.
-    pub fn offer(self, t: LentTables, number: u32, op: OpNo) -> Offered
+    pub fn offer(mut self, t: LentTables, number: u32, op: OpNo) -> Offered
         ensures { result ≡ offered (lent t) self number op.0 }
     {
-        match Judged::new(t) {
+        let answer = match Judged::new(t) {
             Ok(judged) => self.offer_to(&judged, number, op),
-            Err(f) => Offered {
-                run: self,
-                answer: Err(f),
-            },
-        }
+            Err(f) => Err(f),
+        };
+        Offered { run: self, answer }
     }
 
     // A fresh run from a lent state; or a run of zeros beside the refusal.
     pub fn begin(t: LentTables, start: &[u8]) -> Offered
         ensures { result ≡ begun (lent t) (was start) }
     {
-        match input_fault(t, start) {
-            Ok(()) => Offered {
-                run: Run::fresh(copy(t.counts.vars, start)),
-                answer: Ok(Answer::Accepted),
-            },
-            Err(f) => Offered {
-                run: Run::fresh([0; 8]),
-                answer: Err(f),
-            },
+        // One run for both answers: with one in each arm it was cleared and copied once more, and beginning took three times as long.
+        let (now, answer) = match input_fault(t, start) {
+            Ok(()) => (copy(t.counts.vars, start), Ok(Answer::Accepted)),
+            Err(f) => ([0; 8], Err(f)),
+        };
+        Offered {
+            run: Run::fresh(now),
+            answer,
         }
     }
 }

@@ -63,7 +63,9 @@ fn put_words(run: &Run, words: &mut [u32])
     words[COLUMNS_FROM..RUN_WORDS].copy_from_slice(&run.columns);
 }
 
-// Hands back the answer to a start or an offer, with the run in lent memory if it was accepted; else nothing there moves.
+// Hands back the answer to a start or an offer, with the run in lent memory if it was accepted; else nothing there moves. In place, so that the run is put there as
+// it is made: by a call it is kept and cleared apart first, even where the memory is too short, and a start takes twice as long.
+#[inline(always)]
 pub fn hand_back(o: Offered, bytes: &mut [u8], words: &mut [u32]) -> u64
     requires { (run_bytes ≤ length bytes.old) × (run_words ≤ length words.old) }
     ensures { run_left result bytes.new words.new ≡ handed o bytes.old words.old }

@@ -86,5 +86,5 @@ pub fn lay_steps(c: Counts, facts: &[u8], unit: u32, t: &mut [u16])
 {
     let mut parts = PartTable::none();
     parts_of(c, facts, unit, &mut parts);
-    lay(c, facts, &parts, t);
+    lay(c, facts, &parts.places, t);
 }

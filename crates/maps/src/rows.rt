@@ -18,7 +18,7 @@ pub const LANES: usize = 65;
 pub const GOAL_LANE: usize = 64;
 
 // The room for the parts of each value of each variable, and for a row of each state of the largest map.
-const PARTS_ROOM: usize = 4160;
+pub const PARTS_ROOM: usize = 4160;
 
 pub const ROWS_ROOM: usize = 266240;
 
@@ -78,21 +78,21 @@ fn lay_value(t: &mut [u16], len: usize, base: usize, part: &[u16])
 
 // Sets the rows of all values of variable v: to the first `len` rows, once for each of its k values, and the value's parts. The first rows come last, since
 // the others are made of them.
-fn lay_variable(t: &mut [u16], len: usize, k: usize, parts: &PartTable, v: usize)
-    requires le_len { (1 ≤ len) × (k ≤ most_values) × (v < most_vars) × (len * k ≤ most_states) × (len * k * lanes ≤ length t.old) }
+fn lay_variable(t: &mut [u16], len: usize, k: usize, parts: &[u16], v: usize)
+    requires le_len { (1 ≤ len) × (k ≤ most_values) × (v < most_vars) × (len * k ≤ most_states) × (len * k * lanes ≤ length t.old) × Parts parts.now }
     requires by_index { (i o : ℕ) → i < len → o < lanes → lane_at t.old i o + most_part ≤ most_laid }
-    ensures { VariableLaid len k (was parts).places v 0 t.old t.new }
+    ensures { VariableLaid len k (was parts) v 0 t.old t.new }
 {
     for x in (0..k).rev() {
         let at = (v * 8 + x) * LANES;
-        lay_value(t, len, x * len, &parts.places[at..at + LANES]);
+        lay_value(t, len, x * len, &parts[at..at + LANES]);
     }
 }
 
 // Lays the rows of all states of the facts' variables.
-pub fn lay(c: Counts, facts: &[u8], parts: &PartTable, t: &mut [u16])
-    requires { Walkable c facts.now × (size (dom_at facts.now) c.vars * lanes ≤ length t.old) }
-    ensures laid { Laid (dom_at (was facts)) (was parts).places c.vars t.new }
+pub fn lay(c: Counts, facts: &[u8], parts: &[u16], t: &mut [u16])
+    requires { Walkable c facts.now × Parts parts.now × (size (dom_at facts.now) c.vars * lanes ≤ length t.old) }
+    ensures laid { Laid (dom_at (was facts)) (was parts) c.vars t.new }
     ensures t_len { length t.new ≡ length t.old }
 {
     t[..LANES].fill(0);

@@ -4,7 +4,7 @@ use mathlib.Core.Path.{◌≡◌, sym, ap, ◌∙◌}
 use mathlib.Core.List.{List, ◌++◌}
 use mathlib.Core.Bool.{true, false}
 use lib.ListN.{length, take, drop, replicate, length-replicate}
-use lib.Seq.{length-take-le, take_at, drop_at}
+use lib.Seq.{length-take-le, length_front, take_at, drop_at}
 use Rattle.std.specs.Prelude.{Err}
 use Rattle.grammar.specs.Readings.{Reading}
 use Rattle.scan.specs.Found.{clean}
@@ -22,11 +22,12 @@ use Rattle.pieces.specs.Pieces.{area_lent, so_far, bytes_with, area_used, lent_s
 
 -- the first part v of an area, cleared, and the area u with it
 pub part_cleared : (w v u : List ℕ) → area_room ≤ length w → u ≡ v ++ drop area_room w → v ≡ replicate (length (take area_room w)) 0
-    → (take area_room u ≡ replicate area_room 0) × (drop area_room u ≡ drop area_room w)
+    → (take area_room u ≡ replicate area_room 0) × (drop area_room u ≡ drop area_room w) × (length u ≡ length w)
 part_cleared w v u h e z =
     let long : length v ≡ area_room = ap length z ∙ length-replicate (length (take area_room w)) 0 ∙ length-take-le area_room w h in (
       ap (take area_room) e ∙ take_at v (drop area_room w) area_room long ∙ z ∙ ap (λ (n : ℕ). replicate n 0) (length-take-le area_room w h),
       ap (drop area_room) e ∙ drop_at v (drop area_room w) area_room long,
+      ap length e ∙ length_front w v area_room (long ∙ sym (length-take-le area_room w h)),
     )
 
 -- a piece is read: u is the area before its bytes are, k and x what the machine has come to

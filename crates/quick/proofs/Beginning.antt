@@ -25,38 +25,45 @@ use Rattle.quick.specs.Inside.Runs.{scaled_of, Run, Nothing}
 use Rattle.quick.specs.Inside.Answers.{shown, Distances, BestSteps}
 use Rattle.quick.proofs.Finishing.{Ended, shown_distance, found_best}
 
--- in room for k states, no fewer than there are, nothing is known yet
-blank : (H : Graph) (k : ℕ) → Closed H → H.states ≤ most_states → H.states ≤ k
-    → Run (scaled H 4096) 0 0 Nothing (replicate k NOLABEL) (replicate 4368 NOKEY) (replicate k HALT)
-blank H k closed few room =
+-- where nothing is known of the states and nobody waits, a run begins
+blank : (H : Graph) {L β : List ℕ} → Closed H → H.states ≤ most_states → H.states ≤ length L → H.states ≤ length β
+    → ((a : ℕ) → a < H.states → (get_or L a 0 ≡ NOLABEL) × (get_or β a 0 ≡ HALT)) → Run (scaled H 4096) 0 0 Nothing L (replicate 4368 NOKEY) β
+blank H closed few size_L size_β none =
     record {
-      size_L = omega (arith, length-replicate k NOLABEL);
+      size_L = size_L;
       size_t = length-replicate 4368 NOKEY;
-      size_β = omega (arith, length-replicate k HALT);
-      high = λ a l. omega (arith, label a l);
-      reached = λ a l h. absurd (omega (arith, label a l));
+      size_β = size_β;
+      high = λ a l. omega (arith, (none a l).0);
+      reached = λ a l h. absurd (omega (arith, (none a l).0));
       goals = λ a l g. absurd (not-suc-le-zero l);
       tree = tree_none;
       waits = λ a l h. absurd (omega (arith, key_none (272 + a) (omega arith)));
       shaped = λ a l h. absurd (omega (arith, key_none (272 + a) (omega arith)));
       tight =
           λ o a b lo la e h n.
-          let there = label b (closed o a b lo la e) in
-          (omega (arith, label a la, there), λ q. absurd (omega (arith, label a la, there)));
-      bytes = λ a l. omega (arith, step a l);
-      steps = λ a l h. absurd (omega (arith, step a l));
-      none = λ a l e h. absurd (omega (arith, label a l));
+          let there = none b (closed o a b lo la e) in
+          (omega (arith, (none a la).0, there.0), λ q. absurd (omega (arith, (none a la).0, there.0)));
+      bytes = λ a l. omega (arith, (none a l).1);
+      steps = λ a l h. absurd (omega (arith, (none a l).1));
+      none = λ a l e h. absurd (omega (arith, (none a l).0));
     }
-  where
-    label : (a : ℕ) → a < H.states → get_or (replicate k NOLABEL) a 0 ≡ NOLABEL
-    label a l = get_or-replicate k a NOLABEL 0 (omega arith)
 
-    step : (a : ℕ) → a < H.states → get_or (replicate k HALT) a 0 ≡ HALT
-    step a l = get_or-replicate k a HALT 0 (omega arith)
+pub fresh : (H : Graph) {L t β : List ℕ} → Closed H → H.states ≤ most_states → H.states ≤ length L → H.states ≤ length β → t ≡ replicate 4368 NOKEY
+    → ((a : ℕ) → a < H.states → (get_or L a 0 ≡ NOLABEL) × (get_or β a 0 ≡ HALT)) → Run (scaled H 4096) 0 0 Nothing L t β
+fresh H {L} {t} {β} closed few size_L size_β e none = subst (λ (u : List ℕ). Run (scaled H 4096) 0 0 Nothing L u β) (sym e) (blank H closed few size_L size_β none)
 
-pub fresh : (H : Graph) (k : ℕ) {t : List ℕ} → Closed H → H.states ≤ most_states → H.states ≤ k → t ≡ replicate 4368 NOKEY
+-- in room for k states, no fewer than there are, nothing is known yet
+pub none_yet : (k n : ℕ) → n ≤ k
+    → (n ≤ length (replicate k NOLABEL)) × (n ≤ length (replicate k HALT)) × ((a : ℕ) → a < n → (get_or (replicate k NOLABEL) a 0 ≡ NOLABEL) × (get_or (replicate k HALT) a 0 ≡ HALT))
+none_yet k n h = (
+  omega (arith, length-replicate k NOLABEL),
+  omega (arith, length-replicate k HALT),
+  λ a l. (get_or-replicate k a NOLABEL 0 (omega arith), get_or-replicate k a HALT 0 (omega arith)),
+)
+
+pub fresh_room : (H : Graph) (k : ℕ) {t : List ℕ} → Closed H → H.states ≤ most_states → H.states ≤ k → t ≡ replicate 4368 NOKEY
     → Run (scaled H 4096) 0 0 Nothing (replicate k NOLABEL) t (replicate k HALT)
-fresh H k closed few room e = subst (λ (t : List ℕ). Run (scaled H 4096) 0 0 Nothing (replicate k NOLABEL) t (replicate k HALT)) (sym e) (blank H k closed few room)
+fresh_room H k closed few room e = let yet = none_yet k H.states room in fresh H closed few yet.0 yet.1 e yet.2
 
 -- the rows of n states and the operators' offsets among them fit in the room for k
 pub rooms_fit : (k n ops : ℕ) → n ≤ k → ops ≤ most_ops → (n * lanes ≤ k * lanes) × (ops * n ≤ most_ops * k)

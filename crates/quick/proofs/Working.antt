@@ -22,15 +22,16 @@ use Rattle.maps.specs.Inside.Walks.{states_of}
 use Rattle.turned.specs.declared.back.Turned.{Turned}
 use Rattle.turned.specs.Inside.Wants.{wanted}
 use Rattle.turned.specs.Inside.Backs.{drop_at, lift_at, count_at, back_at}
+use Rattle.waiting.specs.Trees.{Tree}
 use Rattle.waiting.specs.Offers.{NOLABEL, Shaped, Offered}
 use Rattle.quick.specs.Inside.Runs.{scaled_of, Run, Every, Nothing, From}
 use Rattle.quick.specs.Inside.Works.{Ready, Held, Into, Left, Relaxed}
 use Rattle.quick.proofs.Running.{offered_fell, offered_run, run_weaken, run_goal}
 
 -- an offer to one of the states may be made
-pub may_offer : {G : Graph} {k b₀ : ℕ} {P : ℕ → ℕ → Type 0} {L t β : List ℕ} → Run G k b₀ P L t β → G.states ≤ most_states → (a : ℕ) → a < G.states → (m : ℕ) → length L ≡ m
-    → ((a < m) × (a < most_states)) × ((get_or L a 0 ≤ NOLABEL) × Shaped L t a)
-may_offer R few a l m e = ((omega (arith, R.size_L), omega arith), (R.high a l, R.shaped a l))
+pub may_offer : {G : Graph} {k b₀ : ℕ} {P : ℕ → ℕ → Type 0} {L t β : List ℕ} → Run G k b₀ P L t β → G.states ≤ most_states → (a : ℕ) → a < G.states
+    → ((a < length L) × (a < length β) × (length t ≡ 4368) × (a < most_states)) × (Tree t × (get_or L a 0 ≤ NOLABEL) × Shaped L t a)
+may_offer R few a l = ((omega (arith, R.size_L), omega (arith, R.size_β), R.size_t, omega arith), (R.tree, R.high a l, R.shaped a l))
 
 -- ---- steps that are looked at one after the other
 

@@ -2,7 +2,8 @@
 // at a quota that is too small, and at one that is just reached.
 #![tactic(auto)]
 
-use records::{OpRecord, judge_records};
+use lent_rows::judge_first;
+use records::OpRecord;
 use refusals::{number, place};
 use std::io;
 use tables::Counts;
@@ -58,6 +59,12 @@ fn row_of_a() -> [OpRecord; 4] {
     ]
 }
 
+// A line: a name, '=' and a number.
+fn say(rt: &impl Print, name: &[u8], x: u32) -> io::Result<()> {
+    rt.write_all(name)?;
+    println!(rt; "{x}")
+}
+
 // What is answered for a list of operators from the initial state, by the counts of case A in an edition, with a quota; the count of operators isn't read.
 fn say_judged(
     rt: &impl Print,
@@ -73,11 +80,11 @@ fn say_judged(
         edition,
         quota,
     };
-    match judge_records(c, facts, &shares_of_a(), &row_of_a(), &[0; 3], ops) {
-        Ok(cost) => println!(rt; "passed={cost}"),
+    match judge_first(c, facts, &shares_of_a(), row_of_a(), 4, &[0; 3], ops) {
+        Ok(cost) => say(rt, b"passed=", cost),
         Err(r) => {
-            println!(rt; "refused={}", number(r))?;
-            println!(rt; "place={}", place(r))
+            say(rt, b"refused=", number(r))?;
+            say(rt, b"place=", place(r))
         }
     }
 }

@@ -1,4 +1,4 @@
-// The arrays of the script by their numbers and names, and one array that calls are lent the first places of.
+// The arrays of the script by their numbers and names, and one array of which the first places count: those that a call is lent, or those that are taken so far.
 use std::fmt;
 
 // The arrays, in the order of their numbers; there is no array 12 or 16, and none above 18. The area can be lent with a length, and nothing else: its bytes are
@@ -87,7 +87,7 @@ impl fmt::Display for Array {
     }
 }
 
-// An array of which a call is lent the first places, as many as were told, which are never more than there are.
+// An array of which a call is lent the first places, as many as were told, which are never more than there are. A line, its numbers and a text are kept so too.
 #[derive(Clone, Copy, PartialEq)]
 pub struct Lent<T, const N: usize> {
     pub places: [T; N],
@@ -113,6 +113,30 @@ impl<T, const N: usize> Lent<T, N> {
 
     pub fn lent_mut(&mut self) -> &mut [T] {
         &mut self.places[..self.len.min(N)]
+    }
+
+    // The same at every place, in place.
+    pub fn reset(&mut self, x: T, len: usize)
+    where
+        T: Copy,
+    {
+        for place in &mut self.places {
+            *place = x;
+        }
+        self.len = len;
+    }
+
+    // One place more. Where there is none, nothing changes, and the answer says so.
+    pub fn push(&mut self, x: T) -> bool
+    where
+        T: Copy,
+    {
+        let room = self.len < N;
+        if room {
+            self.places[self.len] = x;
+            self.len += 1;
+        }
+        room
     }
 
     // So many places are lent from here on. More than there are is passed over.

@@ -20,18 +20,17 @@ struct Tally {
     digest: u64,
 }
 
-// The array and a place of it. The one place of `len` goes without its number.
-fn print_place(rt: &impl Print, array: Array, i: usize) -> io::Result<()> {
+// A place of an array with its value, and what ends it; at once, since each call of the system takes its time. The one place of `len` goes without its number.
+fn print_place(rt: &impl Print, array: Array, i: usize, x: u32, end: &str) -> io::Result<()> {
     match array {
-        Array::Len => print!(rt; "{array}"),
-        _ => print!(rt; "{array} {i}"),
+        Array::Len => print!(rt; "{array} {x}{end}"),
+        _ => print!(rt; "{array} {i} {x}{end}"),
     }
 }
 
 // A place with its value.
 pub fn say_place(rt: &impl Print, array: Array, i: usize, x: u32) -> io::Result<()> {
-    print_place(rt, array, i)?;
-    println!(rt; " {x}")
+    print_place(rt, array, i, x, "\n")
 }
 
 impl Tally {
@@ -43,9 +42,10 @@ impl Tally {
             return Ok(());
         }
         if self.on_line == 0 {
-            print_place(rt, array, i)?;
+            print_place(rt, array, i, x, "")?;
+        } else {
+            print!(rt; " {x}")?;
         }
-        print!(rt; " {x}")?;
         self.on_line = self.on_line.saturating_add(1);
         if self.on_line == ON_A_LINE || self.seen == SHOWN {
             self.end_line(rt)?;

@@ -1,6 +1,5 @@
 // A line of the script taken apart: one letter, followed by up to 16 numbers, each after a single space; and the commands that such lines are.
-use crate::arrays::Array;
-use arrayvec::ArrayVec;
+use crate::arrays::{Array, Lent};
 use std::str;
 use tables::Counts;
 
@@ -11,10 +10,10 @@ const NUMBERS: usize = 16;
 const DIGITS: usize = 10;
 
 // The letter of a line and its numbers.
-#[derive(Drop)]
+#[derive(Clone, Copy)]
 pub struct Words {
     letter: u8,
-    numbers: ArrayVec<u32, NUMBERS>,
+    numbers: Lent<u32, NUMBERS>,
 }
 
 // The number that digits spell. Without the look at each byte a sign in front would be taken too.
@@ -32,9 +31,11 @@ impl Words {
         let [letter] = words.next()? else {
             return None;
         };
-        let mut numbers = ArrayVec::new();
+        let mut numbers = Lent::of(0, 0);
         for word in words {
-            numbers.try_push(number(word)?).ok()?;
+            if !numbers.push(number(word)?) {
+                return None;
+            }
         }
         Some(Words {
             letter: *letter,
@@ -128,7 +129,7 @@ impl<'a> Command<'a> {
     // The command of words whose letter is one of the script's and has as many numbers as it takes.
     pub fn of(words: &'a Words) -> Option<Command<'a>> {
         let letter = words.letter;
-        let numbers = words.numbers.as_slice();
+        let numbers = words.numbers.lent();
         Command::that_sets(letter, numbers).or(Command::that_calls(letter, numbers))
     }
 

@@ -1,6 +1,5 @@
 // What the program holds, as it is before the first line and as the commands that set it leave it.
 use crate::arrays::{Array, Lent};
-use arrayvec::ArrayVec;
 use ledger::{COLUMNS, Run};
 use meaning::limits::STEPS_MOST;
 use pieces::{SoFar, begin_text};
@@ -13,6 +12,9 @@ pub const TEXT_BYTES: usize = 16500;
 
 // The places of a list of operators: more than the longest sequence has steps.
 const LIST_PLACES: usize = 1100;
+
+// The records of the row: more than there may be operators.
+pub const ROW_RECORDS: usize = 80;
 
 // The places of a record: its cost, its preconditions and its effects. Its mark stands in an array of its own.
 const RECORD: usize = 17;
@@ -73,9 +75,9 @@ pub struct Held {
     pub first: Lent<u32, LIST_PLACES>,
     pub second: Lent<u32, LIST_PLACES>,
     pub run: Run,
-    pub row: Lent<OpRecord, 80>,
+    pub row: Lent<OpRecord, ROW_RECORDS>,
     pub buffer: Lent<u8, TEXT_BYTES>,
-    pub text: ArrayVec<u8, TEXT_BYTES>,
+    pub text: Lent<u8, TEXT_BYTES>,
     pub taken: usize,
     pub so_far: SoFar,
     pub area: Lent<u8, 8200>,
@@ -118,28 +120,51 @@ fn record_place(record: &mut OpRecord, i: usize) -> Option<Place<'_>> {
 }
 
 impl Held {
-    // All as it is before the first line. The area may hold anything, so it isn't 0: no reading leaves 255 in every place.
+    // All as it is before the first line.
     pub fn new() -> Held {
-        Held {
+        let mut held = Held {
             counts: NO_COUNTS,
             tables: Tables {
-                facts: Lent::of(0, 1624),
-                costs: Lent::of(0, 64),
-                shares: Lent::of(0, 512),
+                facts: Lent::of(0, 0),
+                costs: Lent::of(0, 0),
+                shares: Lent::of(0, 0),
             },
-            out: Lent::of(0, 4096),
-            best: Lent::of(0, 4096),
-            state: Lent::of(0, 8),
+            out: Lent::of(0, 0),
+            best: Lent::of(0, 0),
+            state: Lent::of(0, 0),
             first: Lent::of(0, 0),
             second: Lent::of(0, 0),
             run: NO_RUN,
             row: Lent::of(NO_RECORD, 0),
-            buffer: Lent::of(0, 16384),
-            text: ArrayVec::new(),
+            buffer: Lent::of(0, 0),
+            text: Lent::of(0, 0),
             taken: 0,
             so_far: begin_text(),
-            area: Lent::of(255, 8192),
-        }
+            area: Lent::of(0, 0),
+        };
+        held.reset();
+        held
+    }
+
+    // `z`: the same in place, since another `Held` would be made first and then copied. The area may hold anything, so it isn't 0: no reading leaves 255 in every
+    // place.
+    pub fn reset(&mut self) {
+        self.counts = NO_COUNTS;
+        self.tables.facts.reset(0, 1624);
+        self.tables.costs.reset(0, 64);
+        self.tables.shares.reset(0, 512);
+        self.out.reset(0, 4096);
+        self.best.reset(0, 4096);
+        self.state.reset(0, 8);
+        self.first.reset(0, 0);
+        self.second.reset(0, 0);
+        self.run = NO_RUN;
+        self.row.reset(NO_RECORD, 0);
+        self.buffer.reset(0, 16384);
+        self.text.reset(0, 0);
+        self.taken = 0;
+        self.so_far = begin_text();
+        self.area.reset(255, 8192);
     }
 
     // A place of an array, if it is there.
@@ -206,7 +231,7 @@ impl Held {
 
     // `b`: the text goes into the buffer, from its first place on; the places behind it stay.
     pub fn copy_text(&mut self) {
-        let text = self.text.as_slice();
+        let text = self.text.lent();
         if let Some(front) = self.buffer.places.get_mut(..text.len()) {
             front.copy_from_slice(text);
         }
@@ -214,10 +239,8 @@ impl Held {
 
     // `u`: the first bytes of the buffer are the text, or all of them. Pieces are taken from its beginning on.
     pub fn take_copy(&mut self, n: usize) {
-        self.text.clear();
-        for b in self.buffer.places.iter().take(n) {
-            let _ = self.text.try_push(*b);
-        }
+        self.text.places = self.buffer.places;
+        self.text.lend(n.min(TEXT_BYTES));
         self.taken = 0;
     }
 }

@@ -216,6 +216,13 @@ pub fn row_or(c: Ctrl, n: u32, f: u32, g: u32) -> Ctrl
     }
 }
 
+// The list that a field is of, by its number.
+pub fn list_of(f: u32) -> u32
+    ensures { result ≡ list_no f }
+{
+    f / 2
+}
+
 // The field is of the goal's facts, of an operator's preconditions, of its effects.
 pub fn in_goal(f: u32) -> bool
     ensures { result ≡ eqb (list_no f) goal_list }

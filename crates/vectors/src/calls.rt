@@ -4,12 +4,12 @@ use crate::reading::{call_end_text, call_read, call_read_cut};
 use crate::running::{call_begin, call_offer};
 use cut_texts::from_lines::{begin_held, take_held};
 use desk::{best_at, bound, cheaper, check, distance_at, distances, judge, opening, write};
-use records::judge_records;
+use lent_rows::judge_first;
 use refusals::Refusal;
 use script::arrays::Array;
 use script::changes::say_changes;
 use script::commands::Command;
-use script::held::Held;
+use script::held::{Held, ROW_RECORDS};
 use std::io;
 
 // `T`: writes the text of the tables into the buffer.
@@ -53,7 +53,15 @@ fn ask(rt: &impl Print, held: &Held, command: Command<'_>) -> io::Result<()> {
         Command::Judge => say_passed(rt, judge(t, state, first)),
         Command::JudgeRow => say_passed(
             rt,
-            judge_records(t.counts, t.facts, t.shares, held.row.lent(), state, first),
+            judge_first(
+                t.counts,
+                t.facts,
+                t.shares,
+                held.row.places,
+                held.row.lent().len().min(ROW_RECORDS),
+                state,
+                first,
+            ),
         ),
         Command::Cheaper => say(rt, cheaper(t, state, first, second), |answer| {
             say_cheaper(rt, answer)

@@ -12,18 +12,23 @@ use script::arrays::Array;
 use script::changes::say_place;
 use script::commands::{Command, Words};
 use script::held::Held;
-use script::input::{Buffered, MOST, next_line, next_text};
+use script::input::{Buffered, Line, MOST, TURNS, next_line, next_text};
 use std::io;
 use std::io::Read;
 use tables::Counts;
 
+// What a line is answered that is off the form.
+const BAD: &[u8] = b"bad\n";
+
 // A word and the counts; edition and quota only where there is something to tell.
 fn say_counts(rt: &impl Print, word: &str, c: Counts) -> io::Result<()> {
-    print!(rt; "{word} {} {} {}", c.vars, c.ops, c.maps)?;
-    if c.edition != 1 || c.quota != 0 {
-        print!(rt; " {} {}", c.edition, c.quota)?;
+    if c.edition == 1 && c.quota == 0 {
+        return println!(rt; "{word} {} {} {}", c.vars, c.ops, c.maps);
     }
-    println!(rt)
+    println!(rt;
+        "{word} {} {} {} {} {}",
+        c.vars, c.ops, c.maps, c.edition, c.quota
+    )
 }
 
 // A place that is there is printed.
@@ -42,7 +47,7 @@ fn obey(
     command: Command<'_>,
 ) -> io::Result<()> {
     match command {
-        Command::Reset => *held = Held::new(),
+        Command::Reset => held.reset(),
         Command::Text(n) => {
             next_text(from, &mut held.text, n)?;
             held.taken = 0;
@@ -69,32 +74,33 @@ fn carry_out(
     rt: &impl Print,
     from: &mut impl Read,
     held: &mut Held,
-    line: &[u8],
+    mut line: Line,
 ) -> io::Result<()> {
-    if MOST < line.len() {
-        return println!(rt; "bad");
+    if MOST < line.lent().len() {
+        return rt.write_all(BAD);
     }
-    if line.starts_with(b"#") {
-        rt.write_all(line)?;
-        return println!(rt);
+    if line.lent().starts_with(b"#") {
+        // with its end in one call of the system
+        line.push(b'\n');
+        return rt.write_all(line.lent());
     }
-    let Some(words) = Words::of(line) else {
-        return println!(rt; "bad");
+    let Some(words) = Words::of(line.lent()) else {
+        return rt.write_all(BAD);
     };
     match Command::of(&words) {
         Some(command) => obey(rt, from, held, command),
-        None => println!(rt; "bad"),
+        None => rt.write_all(BAD),
     }
 }
 
-// The script, line by line. Nothing says that an input ends.
+// The script, line by line.
 fn carry_out_all(rt: &impl Print, from: &mut impl Read) -> io::Result<()> {
     let mut held = Held::new();
-    for _ in 0..u64::MAX {
+    for _ in 0..TURNS {
         let Some(line) = next_line(from)? else {
             break;
         };
-        carry_out(rt, from, &mut held, line.as_slice())?;
+        carry_out(rt, from, &mut held, line)?;
     }
     Ok(())
 }

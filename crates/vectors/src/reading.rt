@@ -36,7 +36,7 @@ fn say_tables(rt: &impl Print, was: &Tables, now: &Tables) -> io::Result<()> {
 // `R`: the whole text. Something more is said only where the text in pieces gets another answer.
 pub fn call_read(rt: &impl Print, held: &mut Held) -> io::Result<()> {
     let was = held.tables;
-    let text = held.text.as_slice();
+    let text = held.text.lent();
     let answer = read_whole(text, &mut held.tables);
     let is_alike = is_alike_in_pieces(text, &was, answer, &held.tables);
     keep_reading(rt, held, answer)?;
@@ -57,7 +57,7 @@ pub fn call_end_text(rt: &impl Print, held: &mut Held) -> io::Result<()> {
 // `V`: the whole text, in pieces of these lengths.
 pub fn call_read_cut(rt: &impl Print, held: &mut Held, lengths: &[u32]) -> io::Result<()> {
     let was = held.tables;
-    let answer = read_cut(held.text.as_slice(), Cut::told(lengths), &mut held.tables);
+    let answer = read_cut(held.text.lent(), Cut::told(lengths), &mut held.tables);
     keep_reading(rt, held, answer)?;
     say_tables(rt, &was, &held.tables)
 }

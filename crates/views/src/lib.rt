@@ -38,7 +38,8 @@ fn distance_fault(t: LentTables, map: u32, s: &[u8]) -> Result<(), Refusal>
     state_fault(t, s)
 }
 
-// What a map's tables have at a state's image; or why not.
+// What a map's tables have at a state's image; or why not. In place: as a call, tables that are refused at once took half as long again.
+#[inline(always)]
 fn asked_image(t: LentTables, map: u32, s: &[u8]) -> Result<Pick, Refusal>
     ensures { MatchResult result (λ p. AskedImage (lent t) map (was s) p) (λ f. distance_fault (lent t) map (was s) ≡ Err f) }
 {

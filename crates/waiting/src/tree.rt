@@ -3,21 +3,21 @@ ghost use Rattle.std.specs.Prelude.{◌≡◌, ◌+◌, ◌*◌, ◌≤◌, ◌<
 ghost use Rattle.waiting.specs.Trees.{NOKEY, lowest, leaf, Tree, Leafed};
 
 // The key of a leaf that isn't waiting. A number, so that the least of 16 keys is a minimum whether or not their states wait (`lowest`).
-const NO_KEY: u64 = 72057594037927936;
+pub const NO_KEY: u64 = 72057594037927936;
 
 // The room for the tree.
-const TREE_ROOM: usize = 4368;
+pub const TREE_ROOM: usize = 4368;
 
 // The states that wait, in one array: the 16 children of the node at place i stand from place 16 + 16 × i on, and the leaves from place 272 on.
 #[derive(Drop)]
 pub struct Waiting {
-    keys: [u64; TREE_ROOM],
+    pub keys: [u64; TREE_ROOM],
     ghost room: { length keys ≡ 4368 },
     ghost tree: { Tree keys },
 }
 
 // The least of the 16 keys from place `at` on.
-fn low(keys: &[u64], at: usize) -> u64
+pub fn low(keys: &[u64], at: usize) -> u64
     requires { at + 16 ≤ length keys.now }
     ensures { result ≡ lowest keys.now at 16 }
 {
@@ -47,6 +47,26 @@ fn sink(keys: &mut [u64], node: usize, key: u64)
     keys[node] = keys[node].min(key);
 }
 
+// A state waits no more.
+pub fn take(keys: &mut [u64], a: usize)
+    requires { (length keys.old ≡ 4368) × (a < 4096) × Tree keys.old }
+    ensures { Leafed a NOKEY keys.old keys.new }
+{
+    keys[272 + a] = NO_KEY;
+    mend(keys, 16 + a / 16);
+    mend(keys, a / 256);
+}
+
+// A state waits with a key that is at most the one it had.
+pub fn put(keys: &mut [u64], a: usize, key: u64)
+    requires { (length keys.old ≡ 4368) × (a < 4096) × Tree keys.old × (key ≤ leaf keys.old a) }
+    ensures { Leafed a key keys.old keys.new }
+{
+    keys[272 + a] = key;
+    sink(keys, 16 + a / 16, key);
+    sink(keys, a / 256, key);
+}
+
 impl Waiting {
     // No state waits.
     pub fn none() -> Waiting
@@ -70,9 +90,7 @@ impl Waiting {
         requires { a < 4096 }
         ensures { Leafed a NOKEY self.old.keys self.new.keys }
     {
-        self.keys[272 + a] = NO_KEY;
-        mend(&mut self.keys, 16 + a / 16);
-        mend(&mut self.keys, a / 256);
+        take(&mut self.keys, a);
     }
 
     // A state waits with a key that is at most the one it had.
@@ -80,8 +98,6 @@ impl Waiting {
         requires { (a < 4096) × (key ≤ leaf self.old.keys a) }
         ensures { Leafed a key self.old.keys self.new.keys }
     {
-        self.keys[272 + a] = key;
-        sink(&mut self.keys, 16 + a / 16, key);
-        sink(&mut self.keys, a / 256, key);
+        put(&mut self.keys, a, key);
     }
 }

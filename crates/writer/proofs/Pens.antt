@@ -4,9 +4,11 @@ use Prim.Native.Nat.{ℕ, ◌+◌, ◌≤◌, ◌<◌}
 use native.Mathlib.Omega.{arith}
 use mathlib.Core.Path.{◌≡◌, refl, sym, ap, ap₂, ◌∙◌}
 use mathlib.Core.List.{List, [], ◌∷◌, ◌++◌, append_assoc, append-nil}
-use lib.ListN.{length, set, length-append}
+use lib.Dec.{ltb}
+use lib.ListN.{length, set, length-append, length-set}
 use lib.Seq.{set_at}
 use borrow.Author.Tests.{lt-ltb, le-ltb}
+use Rattle.meaning.proofs.Facts.{by_cases}
 use Rattle.grammar.specs.Writing.{over}
 use Rattle.writer.specs.declared.pen as declared
 use Rattle.writer.specs.Inside.Pen.{Pen, pen, held, stroke, inked, Writes, Puts}
@@ -42,6 +44,21 @@ after {p = p} {x = x} {y = y} e f =
 -- the same text, said otherwise
 pub so : {p q : declared.Pen.Pen} {x y : List ℕ} → Puts p x q → x ≡ y → Puts p y q
 so {p = p} e f = record { writes = record { leaves = e.writes.leaves ∙ ap (inked (held p)) f }; same_buffer = e.same_buffer }
+
+-- ---- however much is written, the buffer stays as long as it was
+
+stroke_long : (p : Pen) (x : ℕ) → length (stroke p x).bytes ≡ length p.bytes
+unfolding stroke
+stroke_long p x =
+    by_cases (ltb p.at (length p.bytes)) (λ h. rw h (length-set p.bytes p.at x)) (λ h. rw h refl)
+
+inked_long : (p : Pen) (x : List ℕ) → length (inked p x).bytes ≡ length p.bytes
+unfolding inked
+inked_long p [] = refl
+inked_long p (b ∷ x) = inked_long (stroke p b) x ∙ stroke_long p b
+
+pub kept_long : {p q : Pen} {x : List ℕ} → Writes p x q → length q.bytes ≡ length p.bytes
+kept_long {p = p} {x = x} e = ap (λ (q : Pen). length q.bytes) e.leaves ∙ inked_long p x
 
 -- ---- a loop: from p on the whole text is under way, and at q what is left of it leaves what the whole leaves
 

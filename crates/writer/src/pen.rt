@@ -78,7 +78,8 @@ impl<'a> Pen<'a> {
         requires { 10 ≤ v }
         ensures { Puts self.old (digits v) self.new }
     {
-        if 100 <= v {
+        let long = 100 <= v;
+        if long {
             self.put_number(v / 100);
         }
         self.put_digit(v / 10);
@@ -102,7 +103,8 @@ impl<'a> Pen<'a> {
     pub fn put_gap(&mut self, mark: u8, rest: u32)
         ensures { Puts self.old (gap mark rest) self.new }
     {
-        if rest != 0 {
+        let more = rest != 0;
+        if more {
             self.put(mark);
         }
     }

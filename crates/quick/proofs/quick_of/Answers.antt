@@ -4,7 +4,7 @@ use Rattle.std.proofs.lemmas.List.{length-replicate, length-take-le, get_or-take
 use Rattle.maps.specs.Inside.Walks.{space_of}
 use Rattle.maps.proofs.Walking.{walkable_closed}
 use Rattle.quick.proofs.Running.{run_upto}
-use Rattle.quick.proofs.Beginning.{fresh, run_ended, distances_shown, steps_copied, front_shown, front_copied}
+use Rattle.quick.proofs.Beginning.{fresh_room, run_ended, distances_shown, steps_copied, front_shown, front_copied}
 use Rattle.quick.proofs.quick_of.Goals as goal
 
 pub start-requires : goal.start-requires
@@ -17,7 +17,7 @@ start-requires g c =
         (
           (c.lay_fits.ensures.fits, omega (arith, c.requires.room.1, c.lay_fits.ensures.t_len, length-replicate {A = ℕ} g.row.ROWS 0)),
           λ prices.
-              fresh (space_of x.c x.facts.now prices) g.row.STATES (walkable_closed x.c x.facts.now prices pre.0) pre.0.few
+              fresh_room (space_of x.c x.facts.now prices) g.row.STATES (walkable_closed x.c x.facts.now prices pre.0) pre.0.few
               (omega (arith, pre.2, c.requires.room.0)) c.none.ensures,
         ),
       ),

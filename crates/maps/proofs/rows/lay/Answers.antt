@@ -20,16 +20,16 @@ module _ {c : Counts} {facts : List ℕ} (W : Walkable c facts) (v : ℕ) (h : v
   positive u l = W.values u (omega arith)
 
 pub slice_bounds-fill-end : goal.slice_bounds-fill-end
-slice_bounds-fill-end c = omega (arith, c.requires.1, size_pos (dom_at c.args.facts.now) c.args.c.vars c.requires.0.values)
+slice_bounds-fill-end c = omega (arith, c.requires.2, size_pos (dom_at c.args.facts.now) c.args.c.vars c.requires.0.values)
 
 pub slice_bounds-fill-end-2 : goal.slice_bounds-fill-end-2
 slice_bounds-fill-end-2 c =
-    let room : 65 ≤ length c.args.t.now = omega (arith, c.requires.1, size_pos (dom_at c.args.facts.now) c.args.c.vars c.requires.0.values) in
+    let room : 65 ≤ length c.args.t.now = omega (arith, c.requires.2, size_pos (dom_at c.args.facts.now) c.args.c.vars c.requires.0.values) in
     sym (length-take-le 65 c.args.t.now room)
 
 pub loop-v-init : goal.loop-v-init
 loop-v-init c =
-    let room : 65 ≤ length c.args.t.now = omega (arith, c.requires.1, size_pos (dom_at c.args.facts.now) c.args.c.vars c.requires.0.values) in
+    let room : 65 ≤ length c.args.t.now = omega (arith, c.requires.2, size_pos (dom_at c.args.facts.now) c.args.c.vars c.requires.0.values) in
     record { len = refl; laid = λ D d o l. row_cleared _ (length-take-le 65 c.args.t.now room) (c.fill.ensures.after (λ y e. e)) o l }
 
 pub lay_variable-requires-clause-le_len : goal.lay_variable-requires-clause-le_len
@@ -46,7 +46,8 @@ lay_variable-requires-clause-le_len c =
       omega (arith, dom, pre.0.small l.v test),
       few,
       omega (arith, all, within pre.0 l.v test, pre.0.few),
-      omega (arith, all, within pre.0 l.v test, pre.1, l.auto.t),
+      omega (arith, all, within pre.0 l.v test, pre.2, l.auto.t),
+      pre.1,
     )
 
 pub lay_variable-requires-clause-by_index : goal.lay_variable-requires-clause-by_index
@@ -54,7 +55,7 @@ lay_variable-requires-clause-by_index c = λ j o h g.
     let l = c.loop-v in
     let a = c.args in
     let test = c.loop-v-test.true in
-    laid_fits (dom_at a.facts.now) a.parts.now.places l.v l.t l.invariant.laid a.parts.now.parts (omega (arith, c.requires.0.vars, test))
+    laid_fits (dom_at a.facts.now) a.parts.now l.v l.t l.invariant.laid c.requires.1 (omega (arith, c.requires.0.vars, test))
     (positive c.requires.0 l.v test) j o (omega (arith, l.invariant.len)) g
 
 pub overflow_mul-len : goal.overflow_mul-len
@@ -77,5 +78,5 @@ loop-v-preserved c =
     let dom = c.from-k.ensures ∙ c.row_at.ensures in
     record {
       len = size_more K l.v l.len _ l.invariant.len dom;
-      laid = laid_more K a.parts.now.places l.v l.t l.invariant.laid l.invariant.len dom c.lay_variable.ensures;
+      laid = laid_more K a.parts.now l.v l.t l.invariant.laid l.invariant.len dom c.lay_variable.ensures;
     }

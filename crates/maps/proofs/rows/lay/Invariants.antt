@@ -7,4 +7,4 @@ use Rattle.maps.proofs.rows.lay.Given as goal
 
 abbrev pub invariant-loop-v : goal.invariant-loop-v
 invariant-loop-v l =
-    record { len : l.len ≡ size (dom_at l.facts) l.v; laid : Laid (dom_at l.facts) l.parts.places l.v l.t }
+    record { len : l.len ≡ size (dom_at l.facts) l.v; laid : Laid (dom_at l.facts) l.parts l.v l.t }

@@ -3,4 +3,4 @@ use Rattle.maps.specs.Inside.Rows.{VariableLaid}
 use Rattle.maps.proofs.rows.lay_variable.Given as goal
 
 abbrev pub invariant-loop-x : goal.invariant-loop-x
-invariant-loop-x l = VariableLaid l.len l.k l.parts.places l.v l.x l.initial.t l.t
+invariant-loop-x l = VariableLaid l.len l.k l.parts l.v l.x l.initial.t l.t

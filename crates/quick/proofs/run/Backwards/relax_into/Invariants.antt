@@ -4,6 +4,6 @@ use Rattle.quick.specs.Inside.Works.{graph_of, Relaxed}
 use Rattle.quick.proofs.run.Backwards.relax_into.Given as goal
 
 abbrev pub invariant-loop-o : goal.invariant-loop-o
-invariant-loop-o g l =
+invariant-loop-o l =
     Relaxed (graph_of l.self) l.b l.label (From l.o)
-    l.initial.found.labels l.initial.found.waiting.keys l.initial.found.best l.found.labels l.found.waiting.keys l.found.best
+    l.initial.labels l.initial.keys l.initial.best l.labels l.keys l.best

@@ -1,7 +1,0 @@
--- What `Backwards::start` keeps true: the goals among the states passed so far are set, whatever operators cost.
-use Rattle.std.proofs.Common.{List, ℕ}
-use Rattle.quick.specs.Inside.Runs.{scaled_of, Run, Nothing}
-use Rattle.quick.proofs.run.Backwards.start.Given as goal
-
-abbrev pub invariant-loop-a : goal.invariant-loop-a
-invariant-loop-a g l = (prices : List ℕ) → Run (scaled_of l.self.c l.self.facts.now prices) l.a 0 Nothing l.found.labels l.found.waiting.keys l.found.best
